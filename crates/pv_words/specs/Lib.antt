@@ -1,0 +1,9 @@
+pub mod Along
+pub mod Held
+pub mod Layout
+pub mod ListWords
+pub mod Memory
+pub mod Place
+pub mod Plan
+pub mod Room
+pub mod Sizes

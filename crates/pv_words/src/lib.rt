@@ -5,12 +5,18 @@ pub mod access;
 pub mod device;
 pub mod entry;
 pub mod grant;
+pub mod journal;
+pub mod list_words;
 pub mod place;
 pub mod setup;
+pub mod words;
 
 pub use access::Access;
 pub use device::{HostEvent, HostRefusal, NodeFault, NodeValue, Reason, Said, State, Touch};
 pub use entry::{End, Entry, Told};
 pub use grant::{GrantRefusal, Hold, Mode};
+pub use journal::{JOURNAL_LIMIT, Journal};
+pub use list_words::ListWords;
 pub use place::{DevId, DomId, Frame, GrantRef, Half, Place};
 pub use setup::{DeviceKind, DeviceSetup, Devices, DomainSize, Kind, Setup, Sizes};
+pub use words::{Machine, Words};

@@ -1,0 +1,22 @@
+-- A list of words as memory.
+use Rattle.std.specs.Prelude.{◌≡◌, ℕ, ◌+◌, ◌<◌, ◌^◌, List, sum, slice_index}
+use Rattle.pv_words.specs.declared.place.Place.{Place}
+use Rattle.pv_words.specs.declared.access.Access.{Access}
+use Rattle.pv_words.specs.declared.list_words.ListWords.{ListWords}
+use Rattle.pv_words.specs.Layout.{start_of, block_of, offset_of, frames_in, grants_in}
+use Rattle.pv_words.specs.Memory.{Answers}
+use Rattle.pv_words.specs.Place.{InRange}
+use Rattle.pv_words.specs.Plan.{Want, aim_of}
+
+-- where in the list a word stands
+abbrev pub index_of : List ℕ → Place → ℕ
+index_of blocks at = start_of blocks (block_of at) + offset_of at
+
+-- the word at a place
+abbrev pub word_at : ListWords → Place → ℕ
+word_at w at = slice_index w.words.items (index_of w.blocks at)
+
+-- an access found the word that stood there and changed that word alone, and the places are as they were
+pub record Makes (old : ListWords) (a : Access) (new : ListWords) : Type 0 where
+  pub blocks : new.blocks ≡ old.blocks
+  pub answers : Answers (frames_in old.blocks) (grants_in old.blocks) (word_at old) a (word_at new)

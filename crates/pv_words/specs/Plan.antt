@@ -1,0 +1,56 @@
+-- Plans: what an activity accesses next, whatever words it finds.
+use Rattle.std.specs.Prelude.{◌≡◌, ℕ}
+use Rattle.pv_words.specs.declared.place.Place.{Place}
+use Rattle.pv_words.specs.declared.access.Access.{Access}
+use Rattle.pv_words.specs.declared.access.Access.TheVariants as access
+
+-- an access without the word that it finds
+pub data Want : Type 0 where
+  Load : Place → Want
+  Store : Place → ℕ → Want
+  Swap : Place → ℕ → ℕ → Want
+  Clear : Place → ℕ → Want
+
+abbrev pub aim_of : Want → Place
+aim_of (Load at) = at
+aim_of (Store at v) = at
+aim_of (Swap at old new) = at
+aim_of (Clear at mask) = at
+
+abbrev pub wanted : Access → Want
+wanted (access.Load at v) = Load at
+wanted (access.Store at v) = Store at v
+wanted (access.Cas at old new seen) = Swap at old new
+wanted (access.Clear at mask seen) = Clear at mask
+
+-- the word that an access found; of a store, which finds none, 0
+abbrev pub seen_by : Access → ℕ
+seen_by (access.Load at v) = v
+seen_by (access.Store at v) = 0
+seen_by (access.Cas at old new seen) = seen
+seen_by (access.Clear at mask seen) = seen
+
+-- what an access is for
+pub data Note : Type 0 where
+  -- a word of a page that the device holds as a ring
+  Plain : Note
+
+-- an activity: over, with a result, or an access, what it is for, and what follows each word that it may find
+pub data Plan (A : Type 0) : Type 0 where
+  Finished : A → Plan A
+  Make : Want → Note → (ℕ → Plan A) → Plan A
+
+-- one access leads from plan to plan
+abbrev pub Goes : {A : Type 0} → Plan A → Access → Plan A → Type 0
+Goes (Finished x) a new = ⊥
+Goes (Make want note next) a new = (wanted a ≡ want) × (new ≡ next (seen_by a))
+
+-- the next access may be made through a port
+abbrev pub MayGo : {A : Type 0} → (Want → Type 0) → Plan A → Type 0
+MayGo may (Finished x) = Unit {0}
+MayGo may (Make want note next) = may want
+
+-- each access, whatever it finds, means what its note says, and the result is as Q says
+abbrev pub Fits : {A : Type 0} → (Want → Note → Type 0) → (A → Type 0) → Plan A → Type 0
+Fits Means Q (Finished x) = Q x
+Fits Means Q (Make want note next) = Means want note × ((v : ℕ) → Fits Means Q (next v))

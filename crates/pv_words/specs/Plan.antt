@@ -1,5 +1,5 @@
 -- Plans: what an activity accesses next, whatever words it finds.
-use Rattle.std.specs.Prelude.{◌≡◌, ℕ}
+use Rattle.std.specs.Prelude.{◌≡◌, ℕ, Option, Some, None}
 use Rattle.pv_words.specs.declared.place.Place.{Place}
 use Rattle.pv_words.specs.declared.access.Access.{Access}
 use Rattle.pv_words.specs.declared.access.Access.TheVariants as access
@@ -44,6 +44,28 @@ pub data Plan (A : Type 0) : Type 0 where
 abbrev pub Goes : {A : Type 0} → Plan A → Access → Plan A → Type 0
 Goes (Finished x) a new = ⊥
 Goes (Make want note next) a new = (wanted a ≡ want) × (new ≡ next (seen_by a))
+
+-- an access comes next
+abbrev pub IsUnfinished : {A : Type 0} → Plan A → Type 0
+IsUnfinished (Finished x) = ⊥
+IsUnfinished (Make want note next) = Unit {0}
+
+-- One step leads from plan to plan: it makes the next access, and is done, with the result, exactly where the plan is
+-- finished then.
+abbrev pub Turns : {A : Type 0} → Plan A → Option Access → Option A → Plan A → Type 0
+Turns old None done new = ⊥
+Turns old (Some a) None new = Goes old a new × IsUnfinished new
+Turns old (Some a) (Some x) new = Goes old a (Finished x)
+
+-- what a step made of a port
+abbrev pub Makes : {P : Type 0} → (P → Access → P → Type 0) → P → Option Access → P → Type 0
+Makes makes old None new = new ≡ old
+Makes makes old (Some a) new = makes old a new
+
+-- a plan whose result is handed on
+abbrev pub mapped : {A B : Type 0} → (A → B) → Plan A → Plan B
+mapped f (Finished x) = Finished (f x)
+mapped f (Make want note next) = Make want note (λ v. mapped f (next v))
 
 -- the next access may be made through a port
 abbrev pub MayGo : {A : Type 0} → (Want → Type 0) → Plan A → Type 0

@@ -16,3 +16,10 @@ pub enum Access {
     /// mask's bits.
     Clear(Place, u32, u32),
 }
+
+/// What one step of an activity did: its access, and its result where it is done.
+#[derive(Clone, Copy, Debug, PartialEq, Eq)]
+pub struct Turn<T> {
+    pub access: Option<Access>,
+    pub done: Option<T>,
+}

@@ -11,7 +11,7 @@ pub mod place;
 pub mod setup;
 pub mod words;
 
-pub use access::Access;
+pub use access::{Access, Turn};
 pub use device::{HostEvent, HostRefusal, NodeFault, NodeValue, Reason, Said, State, Touch};
 pub use entry::{End, Entry, Told};
 pub use grant::{GrantRefusal, Hold, Mode};

@@ -1,0 +1,116 @@
+-- The messages of displif.h of Xen's public headers, protocol 1, as lists of sixteen words. A word is a
+-- number below 2 ^ 32, stored with its low octet first.
+use Rattle.std.specs.Prelude.{◌≡◌, ◌≢◌, ℕ, ◌+◌, ◌*◌, ◌/◌, ◌%◌, ◌^◌, ◌<◌, ℤ, FitsSigned, List, [], ◌∷◌, ◌++◌, slice_index, replicate, if◌then◌else◌, ◌==◌}
+use Rattle.std.specs.Int.{w32, cast_signed, cast_unsigned}
+use Rattle.displ_wire.specs.declared.Asked.{Asked}
+use Rattle.displ_wire.specs.declared.Asked.TheVariants.{Config as AskedConfig, Other}
+use Rattle.displ_wire.specs.declared.Config.{Config}
+use Rattle.displ_wire.specs.declared.Reply.{Reply}
+use Rattle.displ_wire.specs.declared.Request.{Request}
+
+-- the id of a message: the low half of its first word
+abbrev pub id_of : List ℕ → ℕ
+id_of words = slice_index words 0 % 2 ^ 16
+
+-- the operation of a message: octet 2 of its first word. Octet 3 is reserved
+abbrev pub operation_of : List ℕ → ℕ
+operation_of words = slice_index words 0 / 2 ^ 16 % 2 ^ 8
+
+-- the first word of a message with this id and operation
+abbrev pub head_of : ℕ → ℕ → ℕ
+head_of id op = id + 2 ^ 16 * op
+
+-- the number of 64 bits in the word at a place and the next one, its low half first
+abbrev pub u64_at : List ℕ → ℕ → ℕ
+u64_at words place = slice_index words place + 2 ^ 32 * slice_index words (place + 1)
+
+-- the two words of a number of 64 bits, its low half first
+abbrev pub u64_words : ℕ → List ℕ
+u64_words n = (n % 2 ^ 32) ∷ (n / 2 ^ 32) ∷ []
+
+-- struct xendispl_set_config_req
+abbrev pub config_of : List ℕ → Config
+config_of words = record {
+  fb_cookie = u64_at words 2;
+  x = slice_index words 4;
+  y = slice_index words 5;
+  width = slice_index words 6;
+  height = slice_index words 7;
+  bpp = slice_index words 8;
+}
+
+-- the fourteen words of that structure, from word 2 of a request on
+abbrev pub config_words : Config → List ℕ
+config_words c = u64_words c.fb_cookie ++ (c.x ∷ c.y ∷ c.width ∷ c.height ∷ c.bpp ∷ replicate 7 0)
+
+-- what a request with this operation asks for: XENDISPL_OP_SET_CONFIG is 4
+abbrev pub asked_of : ℕ → List ℕ → Asked
+asked_of op words = if op == 4 then AskedConfig (config_of words) else Other
+
+-- the fourteen words of what a request asks for
+abbrev pub asked_words : Asked → List ℕ
+asked_words (AskedConfig c) = config_words c
+asked_words Other = replicate 14 0
+
+-- struct xendispl_req: word 1 is reserved
+abbrev pub request_of : List ℕ → Request
+request_of words = record {
+  id = id_of words;
+  op = operation_of words;
+  asked = asked_of (operation_of words) words;
+}
+
+-- the words of a request
+abbrev pub request_words : Request → List ℕ
+request_words r = head_of r.id r.op ∷ 0 ∷ asked_words r.asked
+
+-- struct xendispl_resp: the status stands in word 1, as two's complement
+abbrev pub reply_of : List ℕ → Reply
+reply_of words = record {
+  id = id_of words;
+  op = operation_of words;
+  status = cast_signed w32 (slice_index words 1);
+}
+
+-- the words of a reply
+abbrev pub reply_words : ℕ → ℕ → ℤ → List ℕ
+reply_words id op status = head_of id op ∷ cast_unsigned w32 status ∷ replicate 14 0
+
+-- each field of a configuration is 0
+pub record IsZero (c : Config) : Type 0 where
+  pub fb_cookie : c.fb_cookie ≡ 0
+  pub x : c.x ≡ 0
+  pub y : c.y ≡ 0
+  pub width : c.width ≡ 0
+  pub height : c.height ≡ 0
+  pub bpp : c.bpp ≡ 0
+
+-- each field of a configuration fits its type
+pub record Fits (c : Config) : Type 0 where
+  pub fb_cookie : c.fb_cookie < 2 ^ 64
+  pub x : c.x < 2 ^ 32
+  pub y : c.y < 2 ^ 32
+  pub width : c.width < 2 ^ 32
+  pub height : c.height < 2 ^ 32
+  pub bpp : c.bpp < 2 ^ 32
+
+-- this operation asks for such a thing
+abbrev pub AsksFor : ℕ → Asked → Type 0
+AsksFor op (AskedConfig c) = (op ≡ 4) × Fits c
+AsksFor op Other = op ≢ 4
+
+-- the fields of a request fit their types, and what it asks for is what its operation asks for
+pub record Belongs (r : Request) : Type 0 where
+  pub id : r.id < 2 ^ 16
+  pub op : r.op < 2 ^ 8
+  pub asked : AsksFor r.op r.asked
+
+-- a request comes back from its words
+abbrev pub RequestsReadBack : Type 0
+RequestsReadBack = (r : Request) → Belongs r → request_of (request_words r) ≡ r
+
+-- a reply comes back from its words
+abbrev pub RepliesReadBack : Type 0
+RepliesReadBack =
+    (id op : ℕ) (status : ℤ) → id < 2 ^ 16 → op < 2 ^ 8 → FitsSigned w32 status
+    → reply_of (reply_words id op status) ≡ record { id = id; op = op; status = status }

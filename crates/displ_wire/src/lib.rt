@@ -1,0 +1,161 @@
+//! The requests and replies of Xen's paravirtual display, as `displif.h` of Xen's public headers lays
+//! them out (protocol 1). A message is sixteen words of 32 bits. Here words become values and values
+//! words; the shared pages in which they lie are read and written elsewhere.
+#![tactic(auto)]
+
+ghost use Rattle.std.specs.Prelude.{◌≡◌, ◌∷◌, ◌↔◌, IsTrue};
+ghost use Rattle.displ_wire.specs.Wire.{asked_of, config_of, config_words, reply_of, reply_words, request_of, request_words, IsZero, RepliesReadBack, RequestsReadBack};
+
+mod fields;
+
+use crate::fields::{head_fields, head_word, i32_of, u64_of, word_of_i32, words_of_u64};
+
+/// The operation that sets or takes away a connector's configuration (`XENDISPL_OP_SET_CONFIG`).
+pub const SET_CONFIG: u8 = 4;
+
+/// A connector's configuration: which framebuffer it shows, and where (`xendispl_set_config_req`).
+#[derive(Clone, Copy, Debug, PartialEq, Eq)]
+pub struct Config {
+    /// The frontend's name for the framebuffer.
+    pub fb_cookie: u64,
+    /// The left edge, in pixels.
+    pub x: u32,
+    /// The top edge, in pixels.
+    pub y: u32,
+    /// The width in pixels.
+    pub width: u32,
+    /// The height in pixels.
+    pub height: u32,
+    /// Bits for each pixel.
+    pub bpp: u32,
+}
+
+/// What a request asks for.
+#[derive(Clone, Copy, Debug, PartialEq, Eq)]
+pub enum Asked {
+    /// To set the configuration, or to take it away (see [`is_zero`]).
+    Config(Config),
+    /// Something by an operation that is not known here.
+    Other,
+}
+
+/// A request of the frontend (`xendispl_req`).
+#[derive(Clone, Copy, Debug, PartialEq, Eq)]
+pub struct Request {
+    /// The frontend's number for the request, which the reply repeats.
+    pub id: u16,
+    /// The operation, which the reply repeats.
+    pub op: u8,
+    /// What the operation asks for.
+    pub asked: Asked,
+}
+
+/// A reply of the backend (`xendispl_resp`).
+#[derive(Clone, Copy, Debug, PartialEq, Eq)]
+pub struct Reply {
+    /// The id of the request.
+    pub id: u16,
+    /// The operation of the request.
+    pub op: u8,
+    /// 0, or the negative number of an error.
+    pub status: i32,
+}
+
+/// The request in these words. The words that no field of its operation stands in are ignored.
+pub fn decode(w: &[u32; 16]) -> Request
+    ensures { result ≡ request_of w.now }
+{
+    let (id, op) = head_fields(w[0]);
+    Request {
+        id,
+        op,
+        asked: decode_asked(op, w),
+    }
+}
+
+// What a request with this operation and these words asks for.
+fn decode_asked(op: u8, w: &[u32; 16]) -> Asked
+    ensures { result ≡ asked_of op w.now }
+{
+    match op {
+        SET_CONFIG => Asked::Config(decode_config(w)),
+        _ => Asked::Other,
+    }
+}
+
+// The configuration in the words of a request.
+fn decode_config(w: &[u32; 16]) -> Config
+    ensures { result ≡ config_of w.now }
+{
+    Config {
+        fb_cookie: u64_of(w[2], w[3]),
+        x: w[4],
+        y: w[5],
+        width: w[6],
+        height: w[7],
+        bpp: w[8],
+    }
+}
+
+/// The words of a request. Those that no field of its operation stands in are 0.
+pub fn encode_request(r: &Request) -> [u32; 16]
+    ensures { result ≡ request_words r.now }
+{
+    let head = head_word(r.id, r.op);
+    match r.asked {
+        Asked::Config(config) => encode_config(head, &config),
+        Asked::Other => [head, 0, 0, 0, 0, 0, 0, 0, 0, 0, 0, 0, 0, 0, 0, 0],
+    }
+}
+
+// The words of a request for a configuration, the first of which is `head`.
+fn encode_config(head: u32, c: &Config) -> [u32; 16]
+    ensures { result ≡ head ∷ 0 ∷ config_words c.now }
+{
+    let [low, high] = words_of_u64(c.fb_cookie);
+    [
+        head, 0, low, high, c.x, c.y, c.width, c.height, c.bpp, 0, 0, 0, 0, 0, 0, 0,
+    ]
+}
+
+/// The words of a reply to the request with this id and operation. A status of 0 says that the request
+/// was met, and a negative one, which error kept it from that.
+pub fn encode_reply(id: u16, op: u8, status: i32) -> [u32; 16]
+    ensures { result ≡ reply_words id op status }
+{
+    let head = head_word(id, op);
+    let status = word_of_i32(status);
+    [head, status, 0, 0, 0, 0, 0, 0, 0, 0, 0, 0, 0, 0, 0, 0]
+}
+
+/// The reply in these words, of which the first two count.
+pub fn decode_reply(w: &[u32; 16]) -> Reply
+    ensures { result ≡ reply_of w.now }
+{
+    let (id, op) = head_fields(w[0]);
+    Reply {
+        id,
+        op,
+        status: i32_of(w[1]),
+    }
+}
+
+/// Whether each field is 0: such a request takes the configuration away.
+pub fn is_zero(c: &Config) -> bool
+    ensures { IsTrue result ↔ IsZero c.now }
+{
+    c.fb_cookie == 0 && c.x == 0 && c.y == 0 && c.width == 0 && c.height == 0 && c.bpp == 0
+}
+
+/// A request whose operation and content belong together comes back from its words.
+pub fn requests_read_back()
+    ensures { RequestsReadBack }
+{}
+
+/// A reply comes back from its words.
+pub fn replies_read_back()
+    ensures { RepliesReadBack }
+{}
+
+#[cfg(test)]
+mod tests;

@@ -1,0 +1,6 @@
+//! The link of a device to its frontend: the activities on its shared pages, one access at a time.
+#![tactic(auto)]
+
+pub mod link;
+
+pub use link::Link;

@@ -1,1 +1,2 @@
 pub mod MachineRun
+pub mod Transitions

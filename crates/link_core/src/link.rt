@@ -1,6 +1,6 @@
 //! A device's end of one request ring.
 
-ghost use Rattle.std.specs.Prelude.{◌≡◌, ◌+◌, ◌<◌, ◌≤◌, IsTrue, true, OnSome, IfSome, IfNone, IsSome, length};
+ghost use Rattle.std.specs.Prelude.{◌≡◌, ◌+◌, ◌<◌, ◌≤◌, IsTrue, true, OnSome, IsSome, is_some, if◌then◌else◌};
 ghost use Rattle.link_core.specs.Stage.{length_of, taken_in, answered_in, slept_in};
 
 use pv_words::{Access, DomId, Frame, Place, Turn, Words};
@@ -31,7 +31,8 @@ pub struct Link {
 }
 
 impl Link {
-    ghost use Rattle.pv_words.specs.Plan.{MayGo, Turns, Makes};
+    ghost use Rattle.pv_words.specs.Plan.{Plan, MayGo, Turns, Makes};
+    ghost use Rattle.ring_words.specs.declared.Looked.{Looked};
     ghost use Rattle.ring_words.specs.Ring.{next_index};
     ghost use Rattle.link_core.specs.Activities.{Page, look_plan, take_plan, answer_plan, sleep_plan};
     ghost use Rattle.link_core.specs.Link.{page_of, rsp_of, take_left, answer_left, sleep_left, idle};
@@ -63,6 +64,42 @@ impl Link {
         }
     }
 
+    fn answered(&self) -> u8
+        ensures exact { result ≡ answered_in self.now.stage self.now.count }
+        ensures within { result < 18 }
+    {
+        match self.stage {
+            Stage::Answer => self.count,
+            _ => 0,
+        }
+    }
+
+    fn slept(&self) -> u8
+        ensures exact { result ≡ slept_in self.now.stage self.now.count }
+        ensures within { result < 2 }
+    {
+        match self.stage {
+            Stage::Sleep => self.count,
+            _ => 0,
+        }
+    }
+
+    /// Makes the one load of a Look: what requests there are.
+    pub fn look_step<W: Words>(&mut self, words: &mut W) -> Turn<Looked>
+        requires { MayGo (W.may words.old) (look_plan (page_of self.old) (rsp_of self.old)) }
+        ensures turns { (new : Plan Looked) → Turns (look_plan (page_of self.old) (rsp_of self.old)) result.access result.done new }
+        ensures done { IsSome result.done }
+        ensures made { Makes W.makes words.old result.access words.new }
+        ensures same { self.new ≡ self.old }
+    {
+        let at = Place::Cell(self.dom, self.frame, REQ_PROD);
+        let prod = words.load(at);
+        Turn {
+            access: Some(Access::Load(at, prod)),
+            done: Some(self.ring.look(prod)),
+        }
+    }
+
     /// Makes the next load of a Take: the words of the slot of the next request, in order.
     pub fn take_step<W: Words>(&mut self, words: &mut W) -> Turn<[u32; 16]>
         requires { MayGo (W.may words.old) (take_left self.old) }
@@ -89,6 +126,83 @@ impl Link {
         Turn {
             access: Some(Access::Load(at, word)),
             done: None,
+        }
+    }
+
+    /// Makes the next access of an Answer with this reply: its words are stored in the slot of the request, then it
+    /// is published, and at last the frontend's event index is loaded. Done tells whether the frontend is notified.
+    pub fn answer_step<W: Words>(&mut self, words: &mut W, reply: &[u32; 16]) -> Turn<bool>
+        requires { MayGo (W.may words.old) (answer_left self.old reply.now) }
+        ensures turns { Turns (answer_left self.old reply.now) result.access result.done (answer_left self.new reply.now) }
+        ensures made { Makes W.makes words.old result.access words.new }
+        ensures page { page_of self.new ≡ page_of self.old }
+        ensures rsp { rsp_of self.new ≡ (if is_some result.done then next_index (rsp_of self.old) else rsp_of self.old) }
+        ensures rests { OnSome result.done (idle self.new ≡ true) }
+    {
+        let n = self.answered();
+        if n < 16 {
+            let at = Place::Cell(self.dom, self.frame, self.ring.slot_word(n));
+            let word = reply[n as usize];
+            words.store(at, word);
+            self.stage = Stage::Answer;
+            self.count = n + 1;
+            return Turn {
+                access: Some(Access::Store(at, word)),
+                done: None,
+            };
+        }
+        if n == 16 {
+            let at = Place::Cell(self.dom, self.frame, RSP_PROD);
+            let next = self.ring.rsp().wrapping_add(1);
+            words.store(at, next);
+            self.stage = Stage::Answer;
+            self.count = n + 1;
+            return Turn {
+                access: Some(Access::Store(at, next)),
+                done: None,
+            };
+        }
+        let at = Place::Cell(self.dom, self.frame, RSP_EVENT);
+        let event = words.load(at);
+        let old = self.ring.rsp();
+        let new = self.ring.answered();
+        self.stage = Stage::Rest;
+        self.count = 0;
+        Turn {
+            access: Some(Access::Load(at, event)),
+            done: Some(must_notify(old, new, event)),
+        }
+    }
+
+    /// Makes the next access of a Sleep: it asks to be notified of the next request, and looks once more. Done tells
+    /// that no request came.
+    pub fn sleep_step<W: Words>(&mut self, words: &mut W) -> Turn<bool>
+        requires { MayGo (W.may words.old) (sleep_left self.old) }
+        ensures turns { Turns (sleep_left self.old) result.access result.done (sleep_left self.new) }
+        ensures made { Makes W.makes words.old result.access words.new }
+        ensures page { page_of self.new ≡ page_of self.old }
+        ensures rsp { rsp_of self.new ≡ rsp_of self.old }
+        ensures rests { OnSome result.done (idle self.new ≡ true) }
+    {
+        let rsp = self.ring.rsp();
+        if self.slept() == 0 {
+            let at = Place::Cell(self.dom, self.frame, REQ_EVENT);
+            let next = rsp.wrapping_add(1);
+            words.store(at, next);
+            self.stage = Stage::Sleep;
+            self.count = 1;
+            return Turn {
+                access: Some(Access::Store(at, next)),
+                done: None,
+            };
+        }
+        let at = Place::Cell(self.dom, self.frame, REQ_PROD);
+        let prod = words.load(at);
+        self.stage = Stage::Rest;
+        self.count = 0;
+        Turn {
+            access: Some(Access::Load(at, prod)),
+            done: Some(prod == rsp),
         }
     }
 }

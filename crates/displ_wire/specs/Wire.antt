@@ -1,6 +1,6 @@
 -- The messages of displif.h of Xen's public headers, protocol 1, as lists of sixteen words. A word is a
 -- number below 2 ^ 32, stored with its low octet first.
-use Rattle.std.specs.Prelude.{◌≡◌, ◌≢◌, ℕ, ◌+◌, ◌*◌, ◌/◌, ◌%◌, ◌^◌, ◌<◌, ℤ, FitsSigned, List, [], ◌∷◌, ◌++◌, slice_index, replicate, if◌then◌else◌, ◌==◌}
+use Rattle.std.specs.Prelude.{◌≡◌, ◌≢◌, ℕ, ◌+◌, ◌*◌, ◌/◌, ◌%◌, ◌^◌, ◌<◌, ℤ, FitsSigned, List, [], ◌∷◌, ◌++◌, slice_index, replicate, if◌then◌else◌, ◌==◌, Bool, ◌&&◌}
 use Rattle.std.specs.Int.{w32, cast_signed, cast_unsigned}
 use Rattle.displ_wire.specs.declared.Asked.{Asked}
 use Rattle.displ_wire.specs.declared.Asked.TheVariants.{Config as AskedConfig, Other}
@@ -84,6 +84,10 @@ pub record IsZero (c : Config) : Type 0 where
   pub width : c.width ≡ 0
   pub height : c.height ≡ 0
   pub bpp : c.bpp ≡ 0
+
+-- whether each field of a configuration is 0
+abbrev pub all_zero : Config → Bool
+all_zero c = (c.fb_cookie == 0) && ((c.x == 0) && ((c.y == 0) && ((c.width == 0) && ((c.height == 0) && (c.bpp == 0)))))
 
 -- each field of a configuration fits its type
 pub record Fits (c : Config) : Type 0 where

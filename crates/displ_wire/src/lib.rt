@@ -4,7 +4,7 @@
 #![tactic(auto)]
 
 ghost use Rattle.std.specs.Prelude.{◌≡◌, ◌∷◌, ◌↔◌, IsTrue};
-ghost use Rattle.displ_wire.specs.Wire.{asked_of, config_of, config_words, reply_of, reply_words, request_of, request_words, IsZero, RepliesReadBack, RequestsReadBack};
+ghost use Rattle.displ_wire.specs.Wire.{all_zero, asked_of, config_of, config_words, reply_of, reply_words, request_of, request_words, IsZero, RepliesReadBack, RequestsReadBack};
 
 mod fields;
 
@@ -142,7 +142,8 @@ pub fn decode_reply(w: &[u32; 16]) -> Reply
 
 /// Whether each field is 0: such a request takes the configuration away.
 pub fn is_zero(c: &Config) -> bool
-    ensures { IsTrue result ↔ IsZero c.now }
+    ensures zero { IsTrue result ↔ IsZero c.now }
+    ensures test { result ≡ all_zero c.now }
 {
     c.fb_cookie == 0 && c.x == 0 && c.y == 0 && c.width == 0 && c.height == 0 && c.bpp == 0
 }

@@ -1,2 +1,5 @@
+pub mod Links
 pub mod MachineRun
+pub mod PlanFits
+pub mod Steps
 pub mod Transitions

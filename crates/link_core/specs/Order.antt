@@ -3,7 +3,7 @@ use Rattle.std.specs.Prelude.{◌≡◌, ℕ, List, [], ◌∷◌, Option, Some,
 use Rattle.pv_words.specs.declared.access.Access.{Access}
 use Rattle.pv_words.specs.declared.device.Said.{Said}
 use Rattle.pv_words.specs.Along.{after, Along}
-use Rattle.pv_words.specs.Plan.{Plan, Finished, Make, Want, Note, Fits, MayGo, wanted, seen_by}
+use Rattle.pv_words.specs.Plan.{Plan, Finished, Make, Want, Note, Goes, MayGo, wanted, seen_by}
 
 -- what a device does, one after another: an access, something that it says, or resting until it is stepped again
 pub data Own : Type 0 where
@@ -120,6 +120,16 @@ steps_of (Some a) (Some s) = Did a ∷ Spoke s ∷ []
 pub record Steps {W O : Type 0} (r : Rules W O) (old : Stand W O) (access : Option Access) (said : Option Said) (new : Stand W O) : Type 0 where
   pub explained : IsExplained r old (steps_of access said)
   pub left : new ≡ after (next r) old (steps_of access said)
+
+-- the access was made, and this is left: the activity goes on, or it is over and what is said at its end is said
+abbrev pub Went : {W O : Type 0} → Rules W O → W → Plan O → Option Said → Stand W O → Type 0
+Went r w (Finished o) said new = (said ≡ r.said_at w o) × (new ≡ Between (r.settled w o))
+Went r w (Make want note more) said new = (said ≡ None) × (new ≡ During w (Make want note more))
+
+-- one step of an activity
+abbrev pub GoesOn : {W O : Type 0} → Rules W O → W → Plan O → Option Access → Option Said → Stand W O → Type 0
+GoesOn r w p None said new = ⊥
+GoesOn {W} {O} r w p (Some a) said new = (q : Plan O) × Goes p a q × Went r w q said new
 
 -- the next access, if one comes next, may be made through a port
 abbrev pub MayChoose : {W O : Type 0} → (Want → Type 0) → Order W O → Type 0

@@ -1,0 +1,5 @@
+pub mod Activity
+pub mod Display
+pub mod Machine
+pub mod Reply
+pub mod Work

@@ -1,0 +1,84 @@
+-- What a step of an activity makes of a stand.
+use Rattle.std.proofs.Common.{◌≡◌, ℕ, List, [], ◌∷◌, Option, Some, None, refl, sym, subst, ◌∙◌, ap}
+use Rattle.pv_words.specs.declared.access.Access.{Access}
+use Rattle.pv_words.specs.declared.device.Said.{Said}
+use Rattle.pv_words.specs.Along.{after, Along}
+use Rattle.pv_words.specs.Plan.{Plan, Finished, Make, Want, Note, Goes, Turns, IsUnfinished, mapped, wanted, seen_by}
+use Rattle.link_core.specs.Order.{Own, Did, Spoke, Rested, Order, Act, Rest, Rules, Stand, Between, During, Telling, ended, going, begun, gone, next, May, MayBegin, MayGoOn, MayTell, IsExplained, Steps, steps_of, Went, GoesOn}
+
+goes_mapped : {A B : Type 0} (f : A → B) (p : Plan A) (a : Access) (q : Plan A) → Goes p a q → Goes (mapped f p) a (mapped f q)
+goes_mapped f (Finished x) a q g = absurd g
+goes_mapped f (Make want note more) a q g = (g.0, ap (mapped f) g.1)
+
+module _ {W O : Type 0} (r : Rules W O) where
+  rest_of : Option Said → List Own
+  rest_of None = []
+  rest_of (Some s) = Spoke s ∷ []
+
+  -- from where an activity is after an access, what is said leads to the new stand
+  ended_leads : (w : W) (o : O) (x said : Option Said) (new : Stand W O) → said ≡ x → new ≡ Between (r.settled w o) → Along (next r) (May r) (ended r w o x) (rest_of said) × (new ≡ after (next r) (ended r w o x) (rest_of said))
+  unfolding rest_of
+  ended_leads w o None None new e n = (tt, n)
+  ended_leads w o (Some t) (Some s) new e n = let same : s ≡ t = cc in ((same, tt), n)
+  ended_leads w o None (Some s) new e n = let wrong : ⊥ = cc in absurd wrong
+  ended_leads w o (Some t) None new e n = let wrong : ⊥ = cc in absurd wrong
+
+  went_leads : (w : W) (q : Plan O) (said : Option Said) (new : Stand W O) → Went r w q said new → Along (next r) (May r) (going r w q) (rest_of said) × (new ≡ after (next r) (going r w q) (rest_of said))
+  unfolding rest_of
+  went_leads w (Finished o) said new h = ended_leads w o (r.said_at w o) said new h.0 h.1
+  went_leads w (Make want note more) None new h = (tt, h.1)
+  went_leads w (Make want note more) (Some s) new h = let wrong : ⊥ = cc in absurd wrong
+
+  steps_from : (old : Stand W O) (a : Access) (said : Option Said) (new mid : Stand W O) → May r old (Did a) → next r old (Did a) ≡ mid → Along (next r) (May r) mid (rest_of said) × (new ≡ after (next r) mid (rest_of said)) → Steps r old (Some a) said new
+  unfolding rest_of
+  steps_from old a None new mid m e h = record { explained = (m, tt); left = h.1 ∙ sym e }
+  steps_from old a (Some s) new mid m e h =
+      let told : May r (next r old (Did a)) (Spoke s) = subst (λ (x : Stand W O). May r x (Spoke s)) (sym e) h.0.0 in
+      record { explained = (m, (told, tt)); left = h.1 ∙ ap (λ (x : Stand W O). next r x (Spoke s)) (sym e) }
+
+  -- a step of the activity under way
+  pub steps_during : (w : W) (p : Plan O) (access : Option Access) (said : Option Said) (new : Stand W O) → GoesOn r w p access said new → Steps r (During w p) access said new
+  steps_during w p None said new g = absurd g
+  steps_during w (Finished o) (Some a) said new g = absurd g.1
+  steps_during w (Make want note more) (Some a) said new g =
+      steps_from (During w (Make want note more)) a said new (going r w g.0) g.1.0 (ap (going r w) (sym g.1.1)) (went_leads w g.0 said new g.2)
+
+  -- a step that begins an activity
+  began : (w : W) (p : Plan O) (a : Access) → r.choice w ≡ Act p → (q : Plan O) → Goes p a q → MayBegin r w (r.choice w) (Did a) × (begun r w (r.choice w) (Did a) ≡ going r w q)
+  began w (Finished o) a e q g = absurd g
+  began w (Make want note more) a e q g =
+      subst (λ (c : Order W O). MayBegin r w c (Did a) × (begun r w c (Did a) ≡ going r w q)) (sym e) (g.0, ap (going r w) (sym g.1))
+
+  pub steps_between : (w : W) (p : Plan O) (access : Option Access) (said : Option Said) (new : Stand W O) → r.choice w ≡ Act p → GoesOn r w p access said new → Steps r (Between w) access said new
+  steps_between w p None said new e g = absurd g
+  steps_between w p (Some a) said new e g =
+      let b = began w p a e g.0 g.1 in
+      steps_from (Between w) a said new (going r w g.0) b.0 b.1 (went_leads w g.0 said new g.2)
+
+  -- a step that says an event alone, and one that rests
+  pub steps_said : (w : W) (o : O) (t : Said) (new : Stand W O) → r.choice w ≡ Act (Finished o) → r.said_at w o ≡ Some t → new ≡ Between (r.settled w o) → Steps r (Between w) None (Some t) new
+  steps_said w o t new e s n =
+      record {
+        explained = (subst (λ (c : Order W O). MayBegin r w c (Spoke t)) (sym e) s, tt);
+        left = n ∙ ap (λ (c : Order W O). begun r w c (Spoke t)) (sym e);
+      }
+
+  pub steps_rest : (w v : W) (new : Stand W O) → r.choice w ≡ Rest v → new ≡ Between v → Steps r (Between w) None None new
+  steps_rest w v new e n =
+      record {
+        explained = (subst (λ (c : Order W O). MayBegin r w c Rested) (sym e) tt, tt);
+        left = n ∙ ap (λ (c : Order W O). begun r w c Rested) (sym e);
+      }
+
+  -- the turn of a smaller activity is a step of the device's
+  pub turn_ends : {A : Type 0} (f : A → O) (w : W) (p : Plan A) (access : Option Access) (x : A) (q : Plan A) (said : Option Said) (new : Stand W O) → Turns p access (Some x) q → said ≡ r.said_at w (f x) → new ≡ Between (r.settled w (f x)) → GoesOn r w (mapped f p) access said new
+  turn_ends f w p None x q said new t s n = absurd t
+  turn_ends f w p (Some a) x q said new t s n = (Finished (f x), goes_mapped f p a (Finished x) t, (s, n))
+
+  still : {A : Type 0} (f : A → O) (w : W) (q : Plan A) (new : Stand W O) → IsUnfinished q → new ≡ During w (mapped f q) → Went r w (mapped f q) None new
+  still f w (Finished x) new u n = absurd u
+  still f w (Make want note more) new u n = (refl, n)
+
+  pub turn_goes_on : {A : Type 0} (f : A → O) (w : W) (p : Plan A) (access : Option Access) (q : Plan A) (new : Stand W O) → Turns p access None q → new ≡ During w (mapped f q) → GoesOn r w (mapped f p) access None new
+  turn_goes_on f w p None q new t n = absurd t
+  turn_goes_on f w p (Some a) q new t n = (mapped f q, goes_mapped f p a q t.0, still f w q new t.1 n)

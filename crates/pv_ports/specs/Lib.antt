@@ -1,0 +1,5 @@
+pub mod ListSink
+pub mod ListSource
+pub mod Plan
+pub mod Port
+pub mod StdPorts

@@ -86,7 +86,7 @@ settled w (Took words) = record w { hand = Some (request_of words); left = w.lef
 settled w (Answered notified) = record w { hand = None; rsp = next_index w.rsp }
 settled w (Slept quiet) = after_sleep w quiet
 settled w (Shut why) = record w { connection = connection.Ending; hand = None }
-settled w Left = record w { connection = connection.Over }
+settled w Left = record w { connection = connection.Over; hand = None }
 
 -- what is said at an activity's end
 unfoldable pub said_at : Work → End → Option Said

@@ -1,6 +1,7 @@
 //! The display device.
 
-ghost use Rattle.std.specs.Prelude.{◌≡◌, true, ForSome};
+ghost use Rattle.std.specs.Prelude.{◌≡◌, true, not};
+ghost use Rattle.std.specs.Option.{ForSome};
 ghost use Rattle.link_core.specs.Link.{idle};
 ghost use Rattle.display_backend.specs.Activity.{is_between};
 ghost use Rattle.display_backend.specs.Machine.{verdict};
@@ -101,9 +102,9 @@ impl Display {
     ghost use Rattle.pv_words.specs.Plan.{MayGo, Makes, mapped};
     ghost use Rattle.link_core.specs.Activities.{Page, look_plan};
     ghost use Rattle.link_core.specs.Link.{page_of, rsp_of, take_left, answer_left, sleep_left};
-    ghost use Rattle.link_core.specs.Order.{Between, GoesOn, MayStep, Steps, IsAtRest};
+    ghost use Rattle.link_core.specs.Order.{Between, GoesOn, MayChoose, MayStep, Steps, at_rest, rests_next};
     ghost use Rattle.display_backend.specs.Display.{stand_of, work_of};
-    ghost use Rattle.display_backend.specs.Work.{display, first_work, Saw, Took, Answered, Slept, choice};
+    ghost use Rattle.display_backend.specs.Work.{display, first_work, Saw, Took, Answered, Slept, choice, with_hand};
 
     /// A display that is connected over the ring in this frame of the domain.
     pub fn over(dom: DomId, frame: Frame) -> Display
@@ -128,18 +129,18 @@ impl Display {
         ensures made { Makes W.makes words.old result.access words.new }
     {
         let turn = self.link.look_step(words);
-        match turn.done {
-            Some(Looked::Nothing) => self.round = Round::Sleeps,
-            Some(Looked::Ready(requests)) => self.left = requests,
-            Some(Looked::Overrun(prod, rsp)) => {
+        let access = turn.access;
+        let Some(looked) = turn.done else {
+            unreachable!();
+        };
+        match looked {
+            Looked::Nothing => self.round = Round::Sleeps,
+            Looked::Ready(requests) => self.left = requests,
+            Looked::Overrun(prod, rsp) => {
                 self.connection = Connection::Broken(Reason::Overrun(prod, rsp));
             }
-            None => {}
         }
-        Step {
-            access: turn.access,
-            said: None,
-        }
+        Step { access, said: None }
     }
 
     // The next access of a Take.
@@ -199,5 +200,109 @@ impl Display {
         self.round = if quiet { Round::Idles } else { Round::Looks };
         self.activity = Activity::Between;
         Step { access, said: None }
+    }
+
+    /// Makes the next step: at most one access, and what is said with it. A step with neither is idle; it comes exactly
+    /// where the order of work has nothing left.
+    pub fn step<W: Words>(&mut self, words: &mut W) -> Step
+        requires { MayStep (W.may words.old) display (stand_of self.old) }
+        ensures steps { Steps display (stand_of self.old) result.access result.said (stand_of self.new) }
+        ensures made { Makes W.makes words.old result.access words.new }
+    {
+        match self.activity {
+            Activity::Taking => self.take(words),
+            Activity::Answering => self.answer(words),
+            Activity::Sleeping => self.sleep(words),
+            Activity::Between => self.begin(words),
+        }
+    }
+
+    // The first step of what comes next between two activities.
+    fn begin<W: Words>(&mut self, words: &mut W) -> Step
+        requires may { MayChoose (W.may words.old) (choice (work_of self.old)) }
+        requires between { is_between self.old.activity ≡ true }
+        ensures steps { Steps display (Between (work_of self.old)) result.access result.said (stand_of self.new) }
+        ensures made { Makes W.makes words.old result.access words.new }
+    {
+        match self.connection {
+            Connection::Open => self.serve(words),
+            Connection::Broken(reason) => {
+                self.connection = Connection::Ending;
+                self.hand = None;
+                Step {
+                    access: None,
+                    said: Some(Said::Closed(reason)),
+                }
+            }
+            Connection::Ending => {
+                self.connection = Connection::Over;
+                self.hand = None;
+                Step {
+                    access: None,
+                    said: Some(Said::State(State::Closed)),
+                }
+            }
+            Connection::Over => Step {
+                access: None,
+                said: None,
+            },
+        }
+    }
+
+    // The same while the connection is open.
+    fn serve<W: Words>(&mut self, words: &mut W) -> Step
+        requires may { MayChoose (W.may words.old) (with_hand (work_of self.old) self.old.hand) }
+        requires between { is_between self.old.activity ≡ true }
+        requires open { self.old.connection ≡ Connection.Open }
+        ensures steps { Steps display (Between (work_of self.old)) result.access result.said (stand_of self.new) }
+        ensures made { Makes W.makes words.old result.access words.new }
+    {
+        if self.hand.is_some() {
+            return self.answer(words);
+        }
+        if self.left > 0 {
+            return self.take(words);
+        }
+        match self.round {
+            Round::Looks => self.look(words),
+            Round::Sleeps => self.sleep(words),
+            Round::Idles => {
+                self.round = Round::Looks;
+                Step {
+                    access: None,
+                    said: None,
+                }
+            }
+        }
+    }
+
+    // Whether an open connection has something to be done.
+    fn is_busy(&self) -> bool
+        ensures { result ≡ not (rests_next (with_hand (work_of self.now) self.now.hand)) }
+    {
+        if self.hand.is_some() {
+            return true;
+        }
+        if self.left > 0 {
+            return true;
+        }
+        match self.round {
+            Round::Looks | Round::Sleeps => true,
+            Round::Idles => false,
+        }
+    }
+
+    /// Whether the next step isn't idle.
+    pub fn due(&self) -> bool
+        ensures { result ≡ not (at_rest display (stand_of self.now)) }
+    {
+        match self.activity {
+            Activity::Taking | Activity::Answering | Activity::Sleeping => true,
+            Activity::Between => match self.connection {
+                Connection::Open => self.is_busy(),
+                Connection::Broken(_) | Connection::Ending => true,
+                Connection::Over => false,
+            },
+        }
     }
 }

@@ -1,5 +1,5 @@
 -- The order of a device's work, and where a device stands in it.
-use Rattle.std.specs.Prelude.{◌≡◌, ℕ, List, [], ◌∷◌, Option, Some, None}
+use Rattle.std.specs.Prelude.{◌≡◌, ℕ, Bool, true, false, List, [], ◌∷◌, Option, Some, None}
 use Rattle.pv_words.specs.declared.access.Access.{Access}
 use Rattle.pv_words.specs.declared.device.Said.{Said}
 use Rattle.pv_words.specs.Along.{after, Along}
@@ -98,15 +98,15 @@ May r (Telling s w o) e = MayTell s e
 abbrev pub IsExplained : {W O : Type 0} → Rules W O → Stand W O → List Own → Type 0
 IsExplained r s es = Along (next r) (May r) s es
 
--- the device rests next
-abbrev pub RestsNext : {W O : Type 0} → Order W O → Type 0
-RestsNext (Act p) = ⊥
-RestsNext (Rest v) = Unit {0}
+-- whether the device rests next
+abbrev pub rests_next : {W O : Type 0} → Order W O → Bool
+rests_next (Act p) = false
+rests_next (Rest v) = true
 
-abbrev pub IsAtRest : {W O : Type 0} → Rules W O → Stand W O → Type 0
-IsAtRest r (Between w) = RestsNext (r.choice w)
-IsAtRest r (During w p) = ⊥
-IsAtRest r (Telling s w o) = ⊥
+abbrev pub at_rest : {W O : Type 0} → Rules W O → Stand W O → Bool
+at_rest r (Between w) = rests_next (r.choice w)
+at_rest r (During w p) = false
+at_rest r (Telling s w o) = false
 
 -- what one step of a device does: its access, where it makes one, and the event that rides on it or is said alone;
 -- a step with neither rests

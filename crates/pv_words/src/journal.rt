@@ -95,3 +95,11 @@ impl Journal {
         self.entries.as_slice()
     }
 }
+
+/// Why a play stopped before its end.
+#[derive(Clone, Copy, Debug, PartialEq, Eq)]
+pub enum Stop {
+    /// A further entry was due, and the journal has as many as it may have.
+    JournalFull,
+    OutOfMemory,
+}

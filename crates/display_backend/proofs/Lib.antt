@@ -1,0 +1,4 @@
+pub mod Busy
+pub mod Choices
+pub mod Sound
+pub mod Works

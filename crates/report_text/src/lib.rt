@@ -1,0 +1,13 @@
+//! The text of a journal, a line an entry: fields with one space between any two, numbers in
+//! decimal, and a line feed at the end of each line.
+#![tactic(auto)]
+
+mod accesses;
+mod builder;
+mod devices;
+mod grants;
+mod hosts;
+mod report;
+
+pub use builder::{Line, MAX_LINE_LEN};
+pub use report::line_of;

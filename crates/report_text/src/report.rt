@@ -1,0 +1,117 @@
+//! The line of an entry.
+
+ghost use Rattle.std.specs.Prelude.{◌≡◌, ◌<◌, ◌≤◌, length};
+ghost use Rattle.report_text.specs.Fields.{joined};
+ghost use Rattle.report_text.specs.Report.{entry_fields, is_with_words_only, line};
+
+use crate::accesses::push_access;
+use crate::builder::{Line, MAX_LINE_LEN};
+use crate::devices::{write_bus, write_node, write_said};
+use crate::grants::write_told;
+use crate::hosts::{push_event, push_host_refusal};
+use pv_words::Entry;
+
+/// Says whether an entry has a line only in a report with the words.
+#[inline]
+fn is_with_words_only(e: &Entry) -> bool
+    ensures { result ≡ is_with_words_only e.now }
+{
+    match e {
+        Entry::Front(_, _)
+        | Entry::Wake(_)
+        | Entry::Back(_, _)
+        | Entry::Host(_, _)
+        | Entry::Node(_, _, _, _) => true,
+        Entry::Refused(_, _) | Entry::Bus(_, _, _) | Entry::Said(_, _) | Entry::Told(_, _) => false,
+    }
+}
+
+/// Writes the fields of an entry's line.
+fn write_entry(out: &mut Line, e: &Entry)
+    ensures text { out.new ≡ joined (entry_fields e.now) }
+    ensures length { length out.new < MAX_LINE_LEN }
+{
+    match *e {
+        Entry::Front(dom, access) => {
+            out.start(b"front", &[u32::from(dom.0)]);
+            push_access(out, access);
+        }
+        Entry::Wake(dev) => out.start(b"wake", &[u32::from(dev.0)]),
+        Entry::Back(dev, access) => {
+            out.start(b"back", &[u32::from(dev.0)]);
+            push_access(out, access);
+        }
+        Entry::Host(dev, event) => {
+            out.start(b"host", &[u32::from(dev.0)]);
+            push_event(out, event);
+        }
+        Entry::Refused(dev, refusal) => {
+            out.start(b"refused", &[u32::from(dev.0)]);
+            push_host_refusal(out, refusal);
+        }
+        Entry::Bus(dev, end, state) => write_bus(out, dev, end, state),
+        Entry::Node(dev, part, key, value) => write_node(out, dev, part, key, value),
+        Entry::Said(dev, said) => write_said(out, dev, said),
+        Entry::Told(dom, told) => write_told(out, dom, told),
+    }
+}
+
+/// The line of an entry, with its line feed. It is empty where the entry has none: an access, a
+/// wake-up, a host's event and a set node have a line only where `with_words` is true.
+#[tactic(auto, unfolding(crate::specs::Report::line))]
+pub fn line_of(e: &Entry, with_words: bool) -> Line
+    ensures text { result ≡ line e.now with_words }
+    ensures length { length result ≤ MAX_LINE_LEN }
+{
+    let mut out = Line::new();
+    if with_words || !is_with_words_only(e) {
+        write_entry(&mut out, e);
+        out.push_text(b"\n");
+    }
+    out
+}
+
+#[cfg(test)]
+mod tests {
+    use super::*;
+    use pv_words::{Access, DevId, DomId, End, Frame, Place, Reason, Said, State};
+
+    #[test]
+    fn lines_of_entries(rt: HostRuntime) {
+        let dev = DevId(1);
+        let store = Access::Store(Place::Cell(DomId(1), Frame(0), 2), 7);
+        let lines: [(Entry, bool, &[u8]); 6] = [
+            (
+                Entry::Said(dev, Said::Request(0, 1, 4)),
+                false,
+                b"request 1 0 1 4\n",
+            ),
+            (
+                Entry::Said(dev, Said::Replied(0, 1, -95, true)),
+                false,
+                b"reply 1 0 1 -95 notify\n",
+            ),
+            (
+                Entry::Said(dev, Said::Closed(Reason::Overrun(33, 0))),
+                false,
+                b"closed 1 overrun 33 0\n",
+            ),
+            (
+                Entry::Bus(dev, End::Back, State::Closed),
+                false,
+                b"bus 1 back 6\n",
+            ),
+            (
+                Entry::Back(dev, store),
+                true,
+                b"back 1 store cell 1 0 2 7\n",
+            ),
+            (Entry::Back(dev, store), false, b""),
+        ];
+        for (entry, with_words, wanted) in lines {
+            let line = line_of(&entry, with_words);
+            assert_eq!(rt; line.as_bytes(), wanted);
+            assert_eq!(rt; line.is_empty(), wanted.is_empty());
+        }
+    }
+}

@@ -262,3 +262,7 @@ sound page = record {
 -- the work of a new display is sane
 pub first_sane : (page : Page) → IsSane page (first_work page)
 first_sane page = record { page_is = refl; kept = tt }
+
+pub first_good : (page : Page) → (sound page).Sane (first_work page)
+unfolding sound
+first_good page = first_sane page

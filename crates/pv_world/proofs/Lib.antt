@@ -1,0 +1,4 @@
+pub mod Extends
+pub mod Fronts
+pub mod Items
+pub mod Serving

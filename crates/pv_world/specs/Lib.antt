@@ -1,0 +1,4 @@
+pub mod History
+pub mod Marked
+pub mod Record
+pub mod World

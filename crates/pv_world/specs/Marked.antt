@@ -1,0 +1,84 @@
+-- A journal with marks where a device was idle.
+use Rattle.std.specs.Prelude.{◌≡◌, ℕ, ◌==◌, List, [], ◌∷◌, ◌++◌, Option, Some, None, if◌then◌else◌}
+use Rattle.pv_words.specs.declared.access.Access.{Access}
+use Rattle.pv_words.specs.declared.entry.Entry.{Entry}
+use Rattle.pv_words.specs.declared.entry.Entry.TheVariants as entry
+use Rattle.pv_words.specs.declared.entry.End.TheVariants as end
+use Rattle.pv_words.specs.declared.place.DevId.{DevId}
+use Rattle.pv_words.specs.declared.device.Said.{Said}
+use Rattle.pv_words.specs.declared.device.Said.TheVariants as said
+use Rattle.link_core.specs.Order.{Own, Did, Spoke, Rested}
+
+-- an entry, or a mark: the device of this number was stepped and was idle
+pub data Item : Type 0 where
+  Entered : Entry → Item
+  Idle : ℕ → Item
+
+-- the journal itself
+abbrev pub entries : List Item → List Entry
+entries [] = []
+entries (Entered e ∷ m) = e ∷ entries m
+entries (Idle d ∷ m) = entries m
+
+-- what an entry tells of the device of this number: a state that it says is entered as a state of the bus
+abbrev pub told_by : ℕ → Entry → List Own
+told_by d (entry.Back dev a) = if dev.0 == d then Did a ∷ [] else []
+told_by d (entry.Said dev s) = if dev.0 == d then Spoke s ∷ [] else []
+told_by d (entry.Bus dev end.Back s) = if dev.0 == d then Spoke (said.State s) ∷ [] else []
+told_by d (entry.Bus dev end.Front s) = []
+told_by d (entry.Front dom a) = []
+told_by d (entry.Wake dev) = []
+told_by d (entry.Host dev e) = []
+told_by d (entry.Refused dev r) = []
+told_by d (entry.Node dev p k v) = []
+told_by d (entry.Told dom t) = []
+
+abbrev pub told_in : ℕ → Item → List Own
+told_in d (Entered e) = told_by d e
+told_in d (Idle dev) = if dev == d then Rested ∷ [] else []
+
+-- what the device of this number does, in order
+abbrev pub own : ℕ → List Item → List Own
+own d [] = []
+own d (i ∷ m) = told_in d i ++ own d m
+
+-- how what a device says is entered
+abbrev pub entry_of : DevId → Said → Entry
+entry_of dev (said.State s) = entry.Bus dev end.Back s
+entry_of dev (said.Request part id op) = entry.Said dev (said.Request part id op)
+entry_of dev (said.Denied r) = entry.Said dev (said.Denied r)
+entry_of dev (said.Replied part id status n) = entry.Said dev (said.Replied part id status n)
+entry_of dev (said.Raised part cookie) = entry.Said dev (said.Raised part cookie)
+entry_of dev (said.Pos part position) = entry.Said dev (said.Pos part position)
+entry_of dev (said.Full part) = entry.Said dev (said.Full part)
+entry_of dev (said.Blank part) = entry.Said dev (said.Blank part)
+entry_of dev (said.Shown part pixels mark) = entry.Said dev (said.Shown part pixels mark)
+entry_of dev (said.Moved part octets mark) = entry.Said dev (said.Moved part octets mark)
+entry_of dev (said.Published events) = entry.Said dev (said.Published events)
+entry_of dev (said.Closed why) = entry.Said dev (said.Closed why)
+
+-- the entries of one step of a device, or the mark where it was idle
+abbrev pub items_of : DevId → Option Access → Option Said → List Item
+items_of dev None None = Idle dev.0 ∷ []
+items_of dev None (Some s) = Entered (entry_of dev s) ∷ []
+items_of dev (Some a) None = Entered (entry.Back dev a) ∷ []
+items_of dev (Some a) (Some s) = Entered (entry.Back dev a) ∷ Entered (entry_of dev s) ∷ []
+
+-- an entry that a device makes by itself
+abbrev pub IsStepOf : ℕ → Entry → Type 0
+IsStepOf d (entry.Back dev a) = dev.0 ≡ d
+IsStepOf d (entry.Said dev s) = dev.0 ≡ d
+IsStepOf d (entry.Bus dev end.Back s) = dev.0 ≡ d
+IsStepOf d (entry.Bus dev end.Front s) = ⊥
+IsStepOf d (entry.Front dom a) = ⊥
+IsStepOf d (entry.Wake dev) = ⊥
+IsStepOf d (entry.Host dev e) = ⊥
+IsStepOf d (entry.Refused dev r) = ⊥
+IsStepOf d (entry.Node dev p k v) = ⊥
+IsStepOf d (entry.Told dom t) = ⊥
+
+-- steps of a device, with no mark
+abbrev pub AreSteps : ℕ → List Item → Type 0
+AreSteps d [] = Unit {0}
+AreSteps d (Entered e ∷ m) = IsStepOf d e × AreSteps d m
+AreSteps d (Idle dev ∷ m) = ⊥

@@ -1,3 +1,4 @@
+pub mod Consequences
 pub mod Extends
 pub mod Fronts
 pub mod Items

@@ -1,6 +1,6 @@
 -- What every journal of a run is, whatever was played: lawful, and explained by the devices' order of work.
-use Rattle.std.specs.Prelude.{◌≡◌, ℕ, ◌==◌, ◌||◌, Bool, true, false, List, [], ◌∷◌, Option, Some, None}
-use Rattle.std.specs.List.{AllByRecursion}
+use Rattle.std.specs.Prelude.{◌≡◌, ℕ, ◌==◌, Bool, true, List, [], ◌∷◌, Option, Some, None}
+use Rattle.std.specs.List.{AllByRecursion, list_any}
 use Rattle.pv_words.specs.declared.entry.Entry.{Entry}
 use Rattle.pv_words.specs.declared.entry.Entry.TheVariants as entry
 use Rattle.pv_words.specs.declared.entry.End.TheVariants as end
@@ -28,8 +28,7 @@ abbrev pub first_stand : DeviceSetup → Stand Work End
 first_stand s = Between (first_work (ring_page s))
 
 abbrev pub is_declared : List DeviceSetup → ℕ → Bool
-is_declared [] d = false
-is_declared (s ∷ ss) d = (s.dev.0 == d) || is_declared ss d
+is_declared devices d = list_any (λ s. s.dev.0 == d) devices
 
 -- what a said event may be entered as: a state is entered as one of the bus
 abbrev pub IsNoState : Said → Type 0
@@ -75,6 +74,11 @@ first_hold s = record { dom = s.dom; gref = record { 0 = 0 }; frame = record { 0
 abbrev pub IsMachineRunIn : List Item → DeviceSetup → Type 0
 IsMachineRunIn m s = (rows : Rows) × IsRun Moves first_rows (history display reading (first_stand s) (own s.dev.0 m)) rows
 
--- each access of a device lies in a page that it holds
+-- each access of a device lies in a page that it holds, each that may write in one that it holds for writing
 abbrev pub KeepsIn : (frames : ℕ → ℕ) → List Item → DeviceSetup → Type 0
 KeepsIn frames m s = KeepsToGrants frames s.dom.0 (first_hold s ∷ []) (accesses (own s.dev.0 m))
+
+-- what is so of every history: what its devices say are runs of the display machine, and they stay in their pages
+abbrev pub HistoriesAreRuns : Type 0
+HistoriesAreRuns =
+    (frames grants : ℕ → ℕ) (devices : List DeviceSetup) (m : List Item) → IsHistory frames grants devices m → AllByRecursion (IsMachineRunIn m) devices × AllByRecursion (KeepsIn frames m) devices

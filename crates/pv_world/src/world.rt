@@ -3,6 +3,7 @@
 ghost use Rattle.std.specs.Prelude.{◌≡◌, ◌++◌, ◌∷◌, [], ◌<◌, ◌≤◌, OnOk, OnErr, IfErr, Ok, true, length};
 ghost use Rattle.pv_world.specs.Marked.{entry_of, items_of};
 ghost use Rattle.pv_words.specs.Place.{domain_of};
+ghost use Rattle.pv_world.specs.History.{HistoriesAreRuns};
 ghost use Rattle.pv_world.specs.Record.{Records, IsAtLimit, IsLonger};
 
 use display_backend::{Display, Step};
@@ -112,6 +113,12 @@ fn domain(place: Place) -> DomId
         Place::Grant(dom, _, _) => dom,
     }
 }
+
+/// Whatever was played, what a device said is a run of the display machine, and each of its accesses lies in a page
+/// that it holds.
+pub fn histories_are_runs()
+    ensures { HistoriesAreRuns }
+{}
 
 impl<W: Machine> World<W> {
     ghost use Rattle.std.specs.Prelude.{ℕ, List, [], true};

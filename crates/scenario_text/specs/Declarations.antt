@@ -1,0 +1,29 @@
+-- Declarations, behind their first token.
+use Rattle.std.specs.Prelude.{Result, Ok, codes}
+use Rattle.pv_words.specs.declared.setup.Kind.TheVariants.{Wild}
+use Rattle.pv_words.specs.declared.setup.DeviceKind.TheVariants as kinds
+use Rattle.scenario_text.specs.declared.draft.Item.{Item}
+use Rattle.scenario_text.specs.declared.draft.Item.TheVariants as items
+use Rattle.scenario_text.specs.declared.fault.Flaw.{Flaw}
+use Rattle.scenario_text.specs.Flaws.{◌>>=◌}
+use Rattle.scenario_text.specs.Cursors.{Cursor}
+use Rattle.scenario_text.specs.Arguments.{between_at, keyword_at}
+use Rattle.scenario_text.specs.Lookups.{frames_left, grants_left, new_domain_at, size_at, new_device_at}
+use Rattle.scenario_text.specs.Scenario.{Scenario}
+
+-- domain D wild F G: F frames, and G grants
+unfoldable pub domain_at : Scenario → Cursor → Result (Item × Cursor) Flaw
+domain_at so_far c = do
+  dom ← new_domain_at so_far.sizes c
+  c ← keyword_at (codes "wild") dom.1
+  frames ← between_at 1 (frames_left so_far.sizes) c
+  grants ← between_at 0 (grants_left so_far.sizes) frames.1
+  Ok (items.Domain (record { dom = dom.0; kind = Wild; frames = frames.0.value; grants = grants.0.value; first = record { 0 = 0 } }), grants.1)
+
+-- display N D C: device N of domain D with C connectors
+unfoldable pub display_at : Scenario → Cursor → Result (Item × Cursor) Flaw
+display_at so_far c = do
+  dev ← new_device_at so_far.devices c
+  size ← size_at so_far.sizes dev.1
+  connectors ← between_at 1 1 size.1
+  Ok (items.Device (record { dev = dev.0; dom = size.0.dom; kind = kinds.Display connectors.0.value }), connectors.1)

@@ -1,0 +1,69 @@
+-- What a line holds, under what the lines before it declared.
+use Rattle.std.specs.Prelude.{ℕ, Bool, true, false, ◌&&◌, not, List, [], ◌∷◌, Option, Some, None, Result, Ok, Err, codes, if◌then◌else◌}
+use Rattle.std.specs.Str.{bytes_eq}
+use Rattle.scenario_text.specs.declared.draft.Item.{Item}
+use Rattle.scenario_text.specs.declared.fault.Flaw.{Flaw}
+use Rattle.scenario_text.specs.declared.fault.FaultKind.TheVariants.{UnknownStatement, ExtraWord, Late}
+use Rattle.scenario_text.specs.declared.item.Command.{Command}
+use Rattle.scenario_text.specs.declared.item.Command.TheVariants.{Domain, Display, Put, Serve}
+use Rattle.scenario_text.specs.Flaws.{flaw, ◌>>=◌, or_flaw}
+use Rattle.scenario_text.specs.Tokens.{Token, tokens}
+use Rattle.scenario_text.specs.Cursors.{Cursor, first_of}
+use Rattle.scenario_text.specs.Declarations.{domain_at, display_at}
+use Rattle.scenario_text.specs.Statements.{put_at, serve_at}
+use Rattle.scenario_text.specs.Scenario.{Scenario}
+
+-- the first tokens of lines, and what they name
+abbrev pub names : List (List ℕ × Command)
+names = (codes "put", Put) ∷ (codes "serve", Serve) ∷ (codes "domain", Domain) ∷ (codes "display", Display) ∷ []
+
+-- what one of those names
+abbrev pub named : List ℕ → List (List ℕ × Command) → Option Command
+named octets [] = None
+named octets (n ∷ ns) = if bytes_eq octets n.0 then Some n.1 else named octets ns
+
+-- what a token names, as the first of a line
+unfoldable pub command_of : List ℕ → Option Command
+command_of octets = named octets names
+
+-- whether it is a declaration, and not a statement
+abbrev pub is_declaration : Command → Bool
+is_declaration Domain = true
+is_declaration Display = true
+is_declaration Put = false
+is_declaration Serve = false
+
+-- whether there is nothing in a list
+abbrev pub is_empty_list : {X : Type 0} → List X → Bool
+is_empty_list [] = true
+is_empty_list (x ∷ xs) = false
+
+-- what the first token of a line names: a declaration may not follow a statement
+unfoldable pub command_at : Scenario → Token → Result Command Flaw
+command_at so_far t = do
+  command ← or_flaw (command_of t.octets) t.column UnknownStatement
+  if is_declaration command && not (is_empty_list so_far.statements) then Err (flaw t.column Late) else Ok command
+
+-- what a line holds, from the tokens behind its first one
+unfoldable pub arguments_at : Command → Scenario → Cursor → Result (Item × Cursor) Flaw
+arguments_at Domain so_far c = domain_at so_far c
+arguments_at Display so_far c = display_at so_far c
+arguments_at Put so_far c = put_at so_far c
+arguments_at Serve so_far c = serve_at so_far c
+
+-- no token may be left over
+abbrev pub unless_more : {A : Type 0} → Option (Token × Cursor) → A → Result A Flaw
+unless_more None x = Ok x
+unless_more (Some t) x = Err (flaw t.0.column ExtraWord)
+
+-- what a line holds, from its first token and those behind it
+abbrev pub item_from : Scenario → Option (Token × Cursor) → Result (Option Item) Flaw
+item_from so_far None = Ok None
+item_from so_far (Some t) = do
+  command ← command_at so_far t.0
+  item ← arguments_at command so_far t.1
+  unless_more (first_of item.1) (Some item.0)
+
+-- what the code of a line holds, which is nothing where it has no token
+unfoldable pub item_of : Scenario → List ℕ → Result (Option Item) Flaw
+item_of so_far code = item_from so_far (first_of (record { past = 1; tokens = tokens 1 code }))

@@ -1,0 +1,12 @@
+pub mod Flaws
+pub mod Lines
+pub mod Tokens
+pub mod Cursors
+pub mod Numbers
+pub mod Scenario
+pub mod Arguments
+pub mod Lookups
+pub mod Declarations
+pub mod Statements
+pub mod Items
+pub mod Reading

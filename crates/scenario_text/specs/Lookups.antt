@@ -1,0 +1,52 @@
+-- The domains and devices that a line names.
+use Rattle.std.specs.Prelude.{ℕ, ◌-◌, ◌==◌, Bool, List, Option, Result, Ok, Err, is_some, find, sum_by, if◌then◌else◌}
+use Rattle.std.specs.List.{list_any}
+use Rattle.pv_words.specs.declared.place.DomId.{DomId}
+use Rattle.pv_words.specs.declared.place.DevId.{DevId}
+use Rattle.pv_words.specs.declared.setup.DomainSize.{DomainSize}
+use Rattle.pv_words.specs.declared.setup.DeviceSetup.{DeviceSetup}
+use Rattle.scenario_text.specs.declared.fault.Flaw.{Flaw}
+use Rattle.scenario_text.specs.declared.fault.FaultKind.TheVariants.{Twice, Undeclared}
+use Rattle.scenario_text.specs.Flaws.{flaw, ◌>>=◌, or_flaw}
+use Rattle.scenario_text.specs.Cursors.{Cursor}
+use Rattle.scenario_text.specs.Arguments.{between_at}
+
+-- the domain of this number
+unfoldable pub size_of : ℕ → List DomainSize → Option DomainSize
+size_of dom sizes = find (λ s. s.dom.0 == dom) sizes
+
+-- whether there is a device of this number
+unfoldable pub has_device : ℕ → List DeviceSetup → Bool
+has_device dev devices = list_any (λ d. d.dev.0 == dev) devices
+
+-- what is left of the 16384 frames, and of the 16384 grants, of all domains together
+unfoldable pub frames_left : List DomainSize → ℕ
+frames_left sizes = 16384 - sum_by (λ s. s.frames) sizes
+
+unfoldable pub grants_left : List DomainSize → ℕ
+grants_left sizes = 16384 - sum_by (λ s. s.grants) sizes
+
+-- a domain's number, 1 to 4, that wasn't declared yet
+unfoldable pub new_domain_at : List DomainSize → Cursor → Result (DomId × Cursor) Flaw
+new_domain_at sizes c = do
+  dom ← between_at 1 4 c
+  if is_some (size_of dom.0.value sizes) then Err (flaw dom.0.column Twice) else Ok (record { 0 = dom.0.value }, dom.1)
+
+-- a domain that was declared
+unfoldable pub size_at : List DomainSize → Cursor → Result (DomainSize × Cursor) Flaw
+size_at sizes c = do
+  dom ← between_at 1 4 c
+  size ← or_flaw (size_of dom.0.value sizes) dom.0.column Undeclared
+  Ok (size, dom.1)
+
+-- a device's number, which is 1, that wasn't declared yet
+unfoldable pub new_device_at : List DeviceSetup → Cursor → Result (DevId × Cursor) Flaw
+new_device_at devices c = do
+  dev ← between_at 1 1 c
+  if has_device dev.0.value devices then Err (flaw dev.0.column Twice) else Ok (record { 0 = dev.0.value }, dev.1)
+
+-- a device that was declared
+unfoldable pub device_at : List DeviceSetup → Cursor → Result (DevId × Cursor) Flaw
+device_at devices c = do
+  dev ← between_at 1 1 c
+  if has_device dev.0.value devices then Ok (record { 0 = dev.0.value }, dev.1) else Err (flaw dev.0.column Undeclared)

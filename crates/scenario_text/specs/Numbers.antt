@@ -1,0 +1,29 @@
+-- Numbers: decimal digits, or 0x and hexadecimal digits.
+use Rattle.std.specs.Prelude.{ℕ, ◌+◌, ◌-◌, ◌*◌, ◌^◌, nat_lt, nat_le, ◌&&◌, List, [], ◌∷◌, Option, Some, None, option_and_then, if◌then◌else◌, take, drop, codes}
+use Rattle.std.specs.Str.{bytes_eq}
+
+-- 0 to 9, and A to F or a to f for 10 to 15
+abbrev pub hex_digit : ℕ → Option ℕ
+hex_digit b = if nat_le 48 b && nat_le b 57 then Some (b - 48) else (if nat_le 65 b && nat_le b 70 then Some (b - 55) else (if nat_le 97 b && nat_le b 102 then Some (b - 87) else None))
+
+-- what an octet stands for as a digit of this base
+unfoldable pub digit_of : ℕ → ℕ → Option ℕ
+digit_of base b = option_and_then (λ d. if nat_lt d base then Some d else None) (hex_digit b)
+
+-- the value of digits behind those of this value
+unfoldable pub value_of : ℕ → ℕ → List ℕ → Option ℕ
+value_of base front [] = Some front
+value_of base front (b ∷ bs) = option_and_then (λ d. value_of base (front * base + d) bs) (digit_of base b)
+
+-- the value of digits, of which there is at least one
+unfoldable pub digits_of : ℕ → List ℕ → Option ℕ
+digits_of base [] = None
+digits_of base (b ∷ bs) = value_of base 0 (b ∷ bs)
+
+-- the number that a token spells, however large
+unfoldable pub number_of : List ℕ → Option ℕ
+number_of octets = if bytes_eq (take 2 octets) (codes "0x") then digits_of 16 (drop 2 octets) else digits_of 10 octets
+
+-- a number below 2 ^ 64
+abbrev pub in_64_bits : Option ℕ → Option ℕ
+in_64_bits o = option_and_then (λ n. if nat_lt n (2 ^ 64) then Some n else None) o

@@ -1,0 +1,105 @@
+//! What a line holds, under what the lines before it declared.
+
+ghost use Rattle.std.specs.Prelude.{◌≡◌, ◌<◌, ◌-◌, ◌^◌, length};
+ghost use Rattle.scenario_text.specs.Flaws.{Gives};
+ghost use Rattle.scenario_text.specs.Cursors.{cursor, seen, token};
+ghost use Rattle.scenario_text.specs.Scenario.{drafted};
+ghost use Rattle.scenario_text.specs.Items.{command_of, is_declaration, command_at, arguments_at, item_of};
+
+use crate::declaration::{display, domain};
+use crate::draft::{Draft, Item};
+use crate::fault::{FaultKind, Flaw};
+use crate::statement::{put, serve};
+use crate::words::{Word, Words};
+
+/// What the first token of a line names.
+#[derive(Clone, Copy, Debug, PartialEq, Eq)]
+pub enum Command {
+    Domain,
+    Display,
+    Put,
+    Serve,
+}
+
+/// What this token names, as the first of a line.
+#[tactic(auto, unfolding(crate::specs::Items::command_of))]
+fn command_of(octets: &[u8]) -> Option<Command>
+    ensures { result ≡ command_of octets.now }
+{
+    if octets == b"put".as_slice() {
+        Some(Command::Put)
+    } else if octets == b"serve".as_slice() {
+        Some(Command::Serve)
+    } else if octets == b"domain".as_slice() {
+        Some(Command::Domain)
+    } else if octets == b"display".as_slice() {
+        Some(Command::Display)
+    } else {
+        None
+    }
+}
+
+/// Whether it is a declaration.
+fn is_declaration(command: Command) -> bool
+    ensures { result ≡ is_declaration command }
+{
+    match command {
+        Command::Domain | Command::Display => true,
+        Command::Put | Command::Serve => false,
+    }
+}
+
+/// What the first token of a line names. No declaration may follow a statement.
+#[tactic(auto, unfolding(crate::specs::Items::command_at))]
+fn command_at(so_far: &Draft, word: Word) -> Result<Command, Flaw>
+    ensures { result ≡ command_at (drafted so_far.now) (token word.entry) }
+{
+    match command_of(word.octets) {
+        None => Err(Flaw {
+            column: word.column,
+            kind: FaultKind::UnknownStatement,
+        }),
+        Some(command) if is_declaration(command) && !so_far.statements.is_empty() => Err(Flaw {
+            column: word.column,
+            kind: FaultKind::Late,
+        }),
+        Some(command) => Ok(command),
+    }
+}
+
+/// What a line holds, from the tokens behind its first one.
+#[tactic(auto, unfolding(crate::specs::Items::arguments_at))]
+fn arguments<'a>(
+    command: Command,
+    so_far: &Draft,
+    words: Words<'a>,
+) -> Result<(Item, Words<'a>), Flaw>
+    ensures { Gives seen result (arguments_at command (drafted so_far.now) (cursor words.entry)) }
+{
+    match command {
+        Command::Domain => domain(so_far, words),
+        Command::Display => display(so_far, words),
+        Command::Put => put(so_far, words),
+        Command::Serve => serve(so_far, words),
+    }
+}
+
+/// What the code of a line holds, which is nothing where it has no token.
+#[tactic(auto, unfolding(crate::specs::Items::item_of))]
+pub fn item_of(so_far: &Draft, code: &[u8]) -> Result<Option<Item>, Flaw>
+    requires { length code.now < 2 ^ 32 - 1 }
+    ensures { result ≡ item_of (drafted so_far.now) code.now }
+{
+    let Some((word, words)) = Words::new(code).split_first() else {
+        return Ok(None);
+    };
+    let command = command_at(so_far, word)?;
+    let (item, words) = arguments(command, so_far, words)?;
+    match words.split_first() {
+        None => Ok(Some(item)),
+        Some((extra, _)) => Err(Flaw {
+            column: extra.column,
+            kind: FaultKind::ExtraWord,
+        }),
+    }
+}

@@ -1,0 +1,120 @@
+//! The domains and devices that a line names.
+
+ghost use Rattle.std.specs.Prelude.{◌≡◌};
+ghost use Rattle.scenario_text.specs.Flaws.{Gives};
+ghost use Rattle.scenario_text.specs.Cursors.{cursor, seen};
+ghost use Rattle.scenario_text.specs.Lookups.{size_of, has_device, frames_left, grants_left, new_domain_at, size_at, new_device_at, device_at};
+
+use crate::argument::between;
+use crate::fault::{FaultKind, Flaw};
+use crate::words::Words;
+use pv_words::{DevId, DeviceSetup, DomId, DomainSize};
+
+/// The most frames, and the most grants, of all domains together.
+const MOST: u32 = 16384;
+
+/// The domain of this number.
+#[tactic(auto, unfolding(crate::specs::Lookups::size_of))]
+fn size_of(dom: u64, sizes: &[DomainSize]) -> Option<DomainSize>
+    ensures { result ≡ size_of dom sizes.now }
+{
+    sizes.iter().copied().find(|s| u64::from(s.dom.0) == dom)
+}
+
+/// Whether there is a device of this number.
+#[tactic(auto, unfolding(crate::specs::Lookups::has_device))]
+fn has_device(dev: u64, devices: &[DeviceSetup]) -> bool
+    ensures { result ≡ has_device dev devices.now }
+{
+    devices.iter().any(|d| u64::from(d.dev.0) == dev)
+}
+
+/// How many frames a further domain may have.
+#[tactic(auto, unfolding(crate::specs::Lookups::frames_left))]
+pub fn frames_left(sizes: &[DomainSize]) -> u32
+    ensures { result ≡ frames_left sizes.now }
+{
+    let mut left = MOST;
+    for size in sizes {
+        left = left.saturating_sub(size.frames);
+    }
+    left
+}
+
+/// How many grants a further domain may have.
+#[tactic(auto, unfolding(crate::specs::Lookups::grants_left))]
+pub fn grants_left(sizes: &[DomainSize]) -> u32
+    ensures { result ≡ grants_left sizes.now }
+{
+    let mut left = MOST;
+    for size in sizes {
+        left = left.saturating_sub(size.grants);
+    }
+    left
+}
+
+/// The next token as the number of a domain that is not declared yet.
+#[tactic(auto, unfolding(crate::specs::Lookups::new_domain_at))]
+pub fn new_domain<'a>(sizes: &[DomainSize], words: Words<'a>) -> Result<(DomId, Words<'a>), Flaw>
+    ensures { Gives seen result (new_domain_at sizes.now (cursor words.entry)) }
+{
+    let (dom, words) = between(words, 1, 4)?;
+    if size_of(dom.value, sizes).is_some() {
+        return Err(Flaw {
+            column: dom.column,
+            kind: FaultKind::Twice,
+        });
+    }
+    Ok((DomId(dom.value as u8), words))
+}
+
+/// The next token as the number of a declared domain, which is returned.
+#[tactic(auto, unfolding(crate::specs::Lookups::size_at))]
+pub fn declared_domain<'a>(
+    sizes: &[DomainSize],
+    words: Words<'a>,
+) -> Result<(DomainSize, Words<'a>), Flaw>
+    ensures { Gives seen result (size_at sizes.now (cursor words.entry)) }
+{
+    let (dom, words) = between(words, 1, 4)?;
+    match size_of(dom.value, sizes) {
+        Some(size) => Ok((size, words)),
+        None => Err(Flaw {
+            column: dom.column,
+            kind: FaultKind::Undeclared,
+        }),
+    }
+}
+
+/// The next token as the number of a device that is not declared yet.
+#[tactic(auto, unfolding(crate::specs::Lookups::new_device_at))]
+pub fn new_device<'a>(devices: &[DeviceSetup], words: Words<'a>) -> Result<(DevId, Words<'a>), Flaw>
+    ensures { Gives seen result (new_device_at devices.now (cursor words.entry)) }
+{
+    let (dev, words) = between(words, 1, 1)?;
+    if has_device(dev.value, devices) {
+        return Err(Flaw {
+            column: dev.column,
+            kind: FaultKind::Twice,
+        });
+    }
+    Ok((DevId(dev.value as u8), words))
+}
+
+/// The next token as the number of a declared device.
+#[tactic(auto, unfolding(crate::specs::Lookups::device_at))]
+pub fn declared_device<'a>(
+    devices: &[DeviceSetup],
+    words: Words<'a>,
+) -> Result<(DevId, Words<'a>), Flaw>
+    ensures { Gives seen result (device_at devices.now (cursor words.entry)) }
+{
+    let (dev, words) = between(words, 1, 1)?;
+    if !has_device(dev.value, devices) {
+        return Err(Flaw {
+            column: dev.column,
+            kind: FaultKind::Undeclared,
+        });
+    }
+    Ok((DevId(dev.value as u8), words))
+}

@@ -10,3 +10,4 @@ pub mod Declarations
 pub mod Statements
 pub mod Items
 pub mod Reading
+pub mod Playable

@@ -42,6 +42,14 @@ impl Script {
         })
     }
 
+    /// The declarations.
+    pub fn setup(&self) -> &Setup
+        ensures sizes { result.now.sizes ≡ self.now.sizes }
+        ensures devices { result.now.devices ≡ self.now.devices }
+    {
+        &self.setup
+    }
+
     /// The domains, in the order of their declarations.
     pub fn sizes(&self) -> &[DomainSize]
         ensures { result.now ≡ self.now.sizes }

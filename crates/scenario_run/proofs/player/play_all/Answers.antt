@@ -1,0 +1,86 @@
+use Rattle.std.proofs.Common.{◌≡◌, ℕ, ◌<◌, ◌++◌, List, length, take, get_or, sym, subst, ◌∙◌, ap, arith}
+use Rattle.std.proofs.lemmas.List.{get_or_default, take_all}
+use Rattle.std.proofs.lemmas.Result.{err_from_is_err_and}
+use Rattle.pv_words.specs.declared.journal.Stop.TheVariants.{JournalFull}
+use Rattle.pv_words.specs.declared.place.Place.TheVariants.{Cell}
+use Rattle.pv_words.specs.declared.setup.DeviceSetup.{DeviceSetup}
+use Rattle.pv_words.specs.Sizes.{frames_by, grants_by}
+use Rattle.scenario_text.specs.declared.statement.Statement.{Statement}
+use Rattle.scenario_text.specs.declared.statement.Statement.TheVariants.{Put}
+use Rattle.scenario_text.specs.Playable.{IsPlayed}
+use Rattle.scenario_text.specs.Scenario.{Scenario}
+use Rattle.pv_world.specs.Marked.{Item}
+use Rattle.pv_world.specs.World.{setups, device_of, memory_of}
+use Rattle.pv_world.specs.History.{IsHistory}
+use Rattle.scenario_run.specs.Follows.{Follows}
+use Rattle.scenario_run.specs.Played.{StopsAt, CanPlay}
+use Rattle.scenario_run.proofs.Plays.{all_at, can_play, stops_legal, stops_full, follows_push, front_is, true_journal}
+use Rattle.scenario_run.proofs.player.play_all.Goals as goal
+
+-- a statement that no list has at a place beyond its end
+abbrev beyond : Statement
+beyond = Put (Cell (record { 0 = 0 }) (record { 0 = 0 }) 0) 0
+
+-- the statement of a turn is the script's
+turn : (xs ys : List Statement) (i : ℕ) → xs ≡ ys → i < length ys → get_or xs i beyond ≡ get_or ys i (get_or xs i beyond)
+turn xs ys i e l = ap (λ (zs : List Statement). get_or zs i beyond) e ∙ get_or_default ys i beyond (get_or xs i beyond) l
+
+pub play_statement-requires-clause-playable : goal.play_statement-requires-clause-playable
+play_statement-requires-clause-playable g c =
+    let s = c.args.script.now in
+    let i = c.loop-statement.statement-index in
+    let inv = c.loop-statement.invariant in
+    let inside : i < length s.statements = omega (arith, ap length c.statements-statements.ensures) in
+    let played = all_at (IsPlayed s) s.statements i beyond c.requires.playable.statements inside in
+    rw c.statements-statements.ensures (can_play s (g.W.Words.frames_of (memory_of c.loop-statement.world)) (g.W.Words.grants_of (memory_of c.loop-statement.world)) (setups (device_of c.loop-statement.world)) (get_or s.statements i beyond) inv.2.frames_are inv.2.grants_are inv.4 played)
+
+pub returns-in_err-play_statement-clause-stopped : goal.returns-in_err-play_statement-clause-stopped
+returns-in_err-play_statement-clause-stopped g c =
+    let p = err_from_is_err_and c.from_residual.result c.from_residual.ensures.1 in
+    let s = c.args.script.now in
+    let i = c.loop-statement.statement-index in
+    let inv = c.loop-statement.invariant in
+    let xs = c.statements-statements.result.now in
+    let inside : i < length s.statements = omega (arith, ap length c.statements-statements.ensures) in
+    let es = c.play_statement.new.journal.entries in
+    let stop = c.in_err-play_statement.field-0.0 in
+    let stopped = subst (λ (ds : List DeviceSetup). StopsAt (frames_by s.sizes) (grants_by s.sizes) ds (get_or xs i beyond) stop inv.0 es) (c.play_statement.ensures.devices ∙ inv.4) (c.in_err-play_statement.ensures.played (frames_by s.sizes) (grants_by s.sizes) inv.0 inv.2 inv.3) in
+    rw p.1 (stops_legal s i (get_or xs i beyond) inside (turn xs s.statements i c.statements-statements.ensures inside) stop inv.0 es inv.1 stopped)
+
+pub returns-in_err-play_statement-clause-full : goal.returns-in_err-play_statement-clause-full
+returns-in_err-play_statement-clause-full g c = λ full.
+    let p = err_from_is_err_and c.from_residual.result c.from_residual.ensures.1 in
+    let s = c.args.script.now in
+    let i = c.loop-statement.statement-index in
+    let inv = c.loop-statement.invariant in
+    let xs = c.statements-statements.result.now in
+    let inside : i < length s.statements = omega (arith, ap length c.statements-statements.ensures) in
+    let es = c.play_statement.new.journal.entries in
+    let stop = c.in_err-play_statement.field-0.0 in
+    let is_full : stop ≡ JournalFull = cc (p.1, p.2, full) in
+    let stopped = subst (λ (ds : List DeviceSetup). StopsAt (frames_by s.sizes) (grants_by s.sizes) ds (get_or xs i beyond) stop inv.0 es) (c.play_statement.ensures.devices ∙ inv.4) (c.in_err-play_statement.ensures.played (frames_by s.sizes) (grants_by s.sizes) inv.0 inv.2 inv.3) in
+    stops_full s i (get_or xs i beyond) inside (turn xs s.statements i c.statements-statements.ensures inside) stop inv.0 es is_full inv.1 stopped
+
+pub loop-statement-preserved : goal.loop-statement-preserved
+loop-statement-preserved g c =
+    let s = c.args.script.now in
+    let i = c.loop-statement.statement-index in
+    let inv = c.loop-statement.invariant in
+    let xs = c.statements-statements.result.now in
+    let x = get_or xs i beyond in
+    let inside : i < length s.statements = omega (arith, ap length c.statements-statements.ensures) in
+    let played = c.in_ok-play_statement.ensures.played (frames_by s.sizes) (grants_by s.sizes) inv.0 inv.2 inv.3 in
+    (inv.0 ++ played.0,
+     subst (λ (ss : List Statement). Follows ss (inv.0 ++ played.0)) (sym (front_is s i x inside (turn xs s.statements i c.statements-statements.ensures inside))) (follows_push (take i s.statements) x inv.0 played.0 inv.1 played.1),
+     played.2, played.3, c.play_statement.ensures.devices ∙ inv.4)
+
+pub returns-clause-ok : goal.returns-clause-ok
+returns-clause-ok g c =
+    let s = c.args.script.now in
+    let inv = c.loop-statement.invariant in
+    let whole : take c.loop-statement.statement-index s.statements ≡ s.statements = take_all c.loop-statement.statement-index s.statements (omega (arith, ap length c.statements-statements.ensures)) in
+    record {
+      marked = inv.0;
+      so_far = true_journal s inv.0 c.loop-statement.journal.entries inv.3 (subst (λ (ds : List DeviceSetup). IsHistory (frames_by s.sizes) (grants_by s.sizes) ds inv.0) inv.4 inv.2.so_far);
+      follows = subst (λ (ss : List Statement). Follows ss inv.0) whole inv.1;
+    }

@@ -1,0 +1,35 @@
+-- Legal journals.
+use Rattle.std.specs.Prelude.{◌≡◌, ℕ, List, [], ◌∷◌, ◌++◌, length}
+use Rattle.std.specs.List.{AllByRecursion}
+use Rattle.pv_words.specs.declared.entry.Entry.{Entry}
+use Rattle.pv_words.specs.Sizes.{frames_by, grants_by}
+use Rattle.scenario_text.specs.Scenario.{Scenario}
+use Rattle.pv_world.specs.Marked.{Item, entries}
+use Rattle.pv_world.specs.History.{IsHistory, IsMachineRunIn, KeepsIn}
+use Rattle.scenario_run.specs.Follows.{Follows, FollowsTo}
+
+-- Whatever was played: the journal is lawful and explained; what the devices say are runs of the display machine, and
+-- their accesses stay in the pages that they hold.
+pub record IsTrueJournal (s : Scenario) (m : List Item) (es : List Entry) : Type 0 where
+  pub entered : entries m ≡ es
+  pub history : IsHistory (frames_by s.sizes) (grants_by s.sizes) s.devices m
+  pub machine_run : AllByRecursion (IsMachineRunIn m) s.devices
+  pub kept : AllByRecursion (KeepsIn (frames_by s.sizes) m) s.devices
+
+-- the journal is the scenario's, to its end
+pub record IsLegal (s : Scenario) (es : List Entry) : Type 0 where
+  pub marked : List Item
+  pub so_far : IsTrueJournal s marked es
+  pub follows : Follows s.statements marked
+
+-- the journal is the scenario's, up to some statement
+pub record IsLegalTo (s : Scenario) (es : List Entry) : Type 0 where
+  pub marked : List Item
+  pub so_far : IsTrueJournal s marked es
+  pub follows : FollowsTo s.statements marked
+
+-- the journal has as many entries as it may have, and a further one is due
+pub record IsFullFor (s : Scenario) (es : List Entry) : Type 0 where
+  pub length_is : length es ≡ 8388608
+  pub due : Entry
+  pub goes_on : IsLegalTo s (es ++ due ∷ [])

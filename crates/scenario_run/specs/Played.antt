@@ -1,0 +1,44 @@
+-- What one statement makes of a world.
+use Rattle.std.specs.Prelude.{◌≡◌, ℕ, true, ◌⊎◌, List, [], ◌∷◌, ◌++◌, length, Option, Result, Ok, Err}
+use Rattle.pv_words.specs.declared.entry.Entry.{Entry}
+use Rattle.pv_words.specs.declared.journal.Stop.{Stop}
+use Rattle.pv_words.specs.declared.journal.Stop.TheVariants.{JournalFull, OutOfMemory}
+use Rattle.pv_words.specs.declared.place.Place.{Place}
+use Rattle.pv_words.specs.declared.setup.DeviceSetup.{DeviceSetup}
+use Rattle.scenario_text.specs.declared.statement.Statement.{Statement}
+use Rattle.pv_world.specs.declared.world.Placed.{Placed}
+use Rattle.pv_world.specs.Marked.{Item, Entered, entries}
+use Rattle.pv_words.specs.Place.{InRange}
+use Rattle.scenario_text.specs.declared.statement.Statement.TheVariants.{Put, Serve}
+use Rattle.pv_world.specs.History.{IsHistory, is_declared}
+use Rattle.pv_world.specs.World.{Stands, setups}
+use Rattle.scenario_run.specs.Follows.{IsRow, IsPartOf}
+
+-- the journal is full, and with one entry more it would be a further part of the statement, or the whole of it
+pub record IsFullIn (frames grants : ℕ → ℕ) (devices : List DeviceSetup) (s : Statement) (m part : List Item) (es : List Entry) : Type 0 where
+  pub length_is : length es ≡ 8388608
+  pub due : Entry
+  pub goes_on : IsHistory frames grants devices (m ++ (part ++ Entered due ∷ []))
+  pub next : IsPartOf s (part ++ Entered due ∷ []) ⊎ IsRow s (part ++ Entered due ∷ [])
+
+abbrev pub HasCauseIn : (frames grants : ℕ → ℕ) (devices : List DeviceSetup) (s : Statement) (m part : List Item) (es : List Entry) → Stop → Type 0
+HasCauseIn frames grants devices s m part es JournalFull = IsFullIn frames grants devices s m part es
+HasCauseIn frames grants devices s m part es OutOfMemory = Unit {0}
+
+-- the statement was played in part
+pub record StopsAt (frames grants : ℕ → ℕ) (devices : List DeviceSetup) (s : Statement) (stop : Stop) (m : List Item) (es : List Entry) : Type 0 where
+  pub part : List Item
+  pub of : IsPartOf s part
+  pub so_far : IsHistory frames grants devices (m ++ part)
+  pub entered : entries (m ++ part) ≡ es
+  pub cause : HasCauseIn frames grants devices s m part es stop
+
+abbrev pub Played : {W : Type 0} (word : W → Place → ℕ) (frames_of grants_of : W → ℕ → ℕ) (frames grants : ℕ → ℕ) (memory : W) (device : Option Placed) (s : Statement) (es : List Entry) (m : List Item) {A : Type 0} → Result A Stop → Type 0
+Played word fs gs frames grants memory device s es m (Ok x) =
+    (here : List Item) × IsRow s here × Stands word fs gs frames grants memory device (m ++ here) × (entries (m ++ here) ≡ es)
+Played word fs gs frames grants memory device s es m (Err stop) = StopsAt frames grants (setups device) s stop m es
+
+-- a statement may be played: its place is in range, its device is declared
+abbrev pub CanPlay : (frames grants : ℕ → ℕ) → List DeviceSetup → Statement → Type 0
+CanPlay frames grants devices (Put at v) = InRange frames grants at
+CanPlay frames grants devices (Serve dev) = is_declared devices dev.0 ≡ true

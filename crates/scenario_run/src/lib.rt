@@ -1,0 +1,6 @@
+//! Playing a scenario.
+#![tactic(auto)]
+
+mod player;
+
+pub use player::play;

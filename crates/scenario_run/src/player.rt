@@ -1,0 +1,71 @@
+//! Plays the statements of a scenario, one after another.
+
+ghost use Rattle.std.specs.Prelude.{◌≡◌, ℕ, [], List, OnOk, OnErr, Err, true};
+ghost use Rattle.pv_words.specs.declared.journal.Stop.TheVariants as stop;
+ghost use Rattle.pv_words.specs.Place.{InRange};
+ghost use Rattle.pv_words.specs.Sizes.{frames_by, grants_by};
+ghost use Rattle.scenario_text.specs.Playable.{IsPlayable};
+ghost use Rattle.pv_world.specs.Marked.{Item, entries};
+ghost use Rattle.pv_world.specs.World.{Standing, Stands, device_of, memory_of, setups};
+ghost use Rattle.scenario_run.specs.Legal.{IsLegal, IsLegalTo, IsFullFor};
+ghost use Rattle.scenario_run.specs.Played.{Played, CanPlay};
+
+use pv_words::{Journal, ListWords, Machine, Stop};
+use pv_world::World;
+use scenario_text::{Script, Statement};
+use std::alloc::Global;
+
+// Plays one statement.
+fn play_statement<W: Machine>(
+    world: &mut World<W>,
+    statement: &Statement,
+    journal: &mut Journal,
+) -> Result<(), Stop>
+    requires standing { Standing W.word W.frames_of W.grants_of (memory_of world.old) (device_of world.old) journal.old.entries }
+    requires playable { CanPlay (W.frames_of (memory_of world.old)) (W.grants_of (memory_of world.old)) (setups (device_of world.old)) statement.now }
+    ensures played { (frames grants : ℕ → ℕ) (m : List Item) →
+        Stands W.word W.frames_of W.grants_of frames grants (memory_of world.old) (device_of world.old) m → entries m ≡ journal.old.entries →
+        Played W.word W.frames_of W.grants_of frames grants (memory_of world.new) (device_of world.new) statement.now journal.new.entries m result }
+    ensures devices { setups (device_of world.new) ≡ setups (device_of world.old) }
+{
+    match statement {
+        Statement::Put(place, v) => world.put(*place, *v, journal),
+        Statement::Serve(dev) => world.serve(*dev, journal),
+    }
+}
+
+// Plays all statements of a script over its world.
+fn play_all<W: Machine>(
+    script: &Script,
+    world: &mut World<W>,
+    journal: &mut Journal,
+) -> Result<(), Stop>
+    requires playable { IsPlayable script.now }
+    requires new { Stands W.word W.frames_of W.grants_of (frames_by script.now.sizes) (grants_by script.now.sizes) (memory_of world.old) (device_of world.old) [] }
+    requires devices { setups (device_of world.old) ≡ script.now.devices }
+    requires empty { journal.old.entries ≡ [] }
+    ensures ok { OnOk result (IsLegal script.now journal.new.entries) }
+    ensures stopped { OnErr result (IsLegalTo script.now journal.new.entries) }
+    ensures full { result ≡ Err stop.JournalFull → IsFullFor script.now journal.new.entries }
+{
+    let statements = script.statements();
+    for statement in statements {
+        play_statement(world, statement, journal)?;
+    }
+    Ok(())
+}
+
+/// Plays a script over a list of words, all 0 at the beginning. After a Stop the entries so far stand.
+pub fn play(alloc: Global, script: &Script, journal: &mut Journal) -> Result<(), Stop>
+    requires playable { IsPlayable script.now }
+    requires empty { journal.old.entries ≡ [] }
+    ensures ok { OnOk result (IsLegal script.now journal.new.entries) }
+    ensures stopped { OnErr result (IsLegalTo script.now journal.new.entries) }
+    ensures full { result ≡ Err stop.JournalFull → IsFullFor script.now journal.new.entries }
+{
+    let Ok(memory) = ListWords::new(alloc, &script.setup().sizes) else {
+        return Err(Stop::OutOfMemory);
+    };
+    let mut world = World::new(memory, script.devices());
+    play_all(script, &mut world, journal)
+}

@@ -53,7 +53,7 @@ IsUnfinished (Make want note next) = Unit {0}
 -- One step leads from plan to plan: it makes the next access, and is done, with the result, exactly where the plan is
 -- finished then.
 abbrev pub Turns : {A : Type 0} → Plan A → Option Access → Option A → Plan A → Type 0
-Turns old None done new = ⊥
+Turns old None _ new = ⊥
 Turns old (Some a) None new = Goes old a new × IsUnfinished new
 Turns old (Some a) (Some x) new = Goes old a (Finished x)
 

@@ -1,5 +1,5 @@
 -- What every scenario that was read keeps.
-use Rattle.std.specs.Prelude.{◌≡◌, ℕ, ◌<◌, ◌≤◌, ◌^◌, true, List, length}
+use Rattle.std.specs.Prelude.{◌≡◌, ◌^◌, ◌<◌, ◌≤◌, true, length}
 use Rattle.std.specs.List.{AllByRecursion}
 use Rattle.pv_words.specs.Place.{InRange}
 use Rattle.pv_words.specs.Sizes.{AreSizes, frames_by, grants_by}

@@ -1,0 +1,61 @@
+//! Plays a scenario that is read from the standard input, and writes its report to the standard output.
+#![tactic(auto)]
+
+mod status;
+mod top;
+
+pub use status::Status;
+pub use top::run;
+
+use pv_ports::{StdSink, StdSource};
+use pv_words::Journal;
+use std::alloc::Global;
+use std::io::{self, BufWriter, Write};
+use std::process::ExitCode;
+use std::env;
+
+#[cfg(test)]
+mod tests;
+
+// The program's words, without its name.
+fn words_of(rt: &HostRuntime, alloc: Global) -> Result<Vec<String>, Status> {
+    let arguments = match env::args(rt) {
+        Ok(arguments) => arguments,
+        Err(error) if error.kind() == io::ErrorKind::OutOfMemory => return Err(Status::OutOfMemory),
+        Err(_) => return Err(Status::Usage),
+    };
+    let mut words = Vec::new(alloc);
+    for word in arguments.skip(1) {
+        if words.push(word).is_err() {
+            return Err(Status::OutOfMemory);
+        }
+    }
+    Ok(words)
+}
+
+// Runs the command that the words ask for, over the standard input and output.
+fn run_command(rt: &HostRuntime, alloc: Global) -> Status {
+    let words = match words_of(rt, alloc) {
+        Ok(words) => words,
+        Err(status) => return status,
+    };
+    let Ok(mut writer) = BufWriter::new(alloc, io::writer(rt)) else {
+        return Status::OutOfMemory;
+    };
+    let mut source = StdSource::new(rt.reader());
+    let mut journal = Journal::new(alloc);
+    let status = run(alloc, &words, &mut source, &mut StdSink::new(&mut writer), &mut journal);
+    match writer.flush() {
+        Err(_) if status.has_output() => Status::WriteFault,
+        _ => status,
+    }
+}
+
+fn main(rt: HostRuntime) -> ExitCode {
+    let status = run_command(&rt, rt.alloc());
+    if status != Status::Ok {
+        // Where the standard error fails as well, the number still tells the status.
+        let _ = rt.eprintln(&status);
+    }
+    ExitCode::from(status.number())
+}

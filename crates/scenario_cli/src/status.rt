@@ -1,0 +1,65 @@
+//! How a command ended.
+
+ghost use Rattle.std.specs.Prelude.{◌≡◌, IsTrue, ◌↔◌};
+ghost use Rattle.scenario_cli.specs.Numbers.{number_of};
+
+use scenario_text::ScriptFault;
+use std::fmt::{self, Display, Formatter};
+
+/// How a command ended. Its name is what the program prints on the standard error, and its number is what the
+/// program ends with.
+#[derive(Clone, Copy, Debug, PartialEq, Eq)]
+pub enum Status {
+    /// The script was read and played to its end, and all was written.
+    Ok,
+    /// The words are no command.
+    Usage,
+    /// The script has a fault, and this is its first.
+    Script(ScriptFault),
+    /// The source failed.
+    ReadFault,
+    /// The sink failed, and has got a front of the output.
+    WriteFault,
+    /// Memory ran out.
+    OutOfMemory,
+    /// The journal has as many entries as it may have, and a further one was due.
+    JournalFull,
+    /// The script has more than `scenario_io::SCRIPT_LIMIT` octets.
+    TooLong,
+    /// The report isn't legal from this line on.
+    NotLegal(u32),
+}
+
+impl Status {
+    /// The number that the program ends with.
+    pub fn number(self) -> u8
+        ensures { result ≡ number_of self }
+    {
+        match self {
+            Status::Ok => 0,
+            Status::Usage => 2,
+            Status::Script(_) => 3,
+            Status::ReadFault => 4,
+            Status::WriteFault => 5,
+            Status::OutOfMemory => 6,
+            Status::JournalFull => 7,
+            Status::TooLong => 8,
+            Status::NotLegal(_) => 9,
+        }
+    }
+
+    /// Whether the whole output was written.
+    pub fn has_output(self) -> bool {
+        matches!(self, Status::Ok | Status::JournalFull)
+    }
+}
+
+impl Display for Status {
+    fn fmt<W: fmt::Write>(&self, f: &mut Formatter<W>) -> fmt::Result {
+        match self {
+            Status::Script(fault) => write!(f, "Script {} {} {:?}", fault.line, fault.column, fault.kind),
+            Status::NotLegal(line) => write!(f, "NotLegal {line}"),
+            status => write!(f, "{status:?}"),
+        }
+    }
+}

@@ -1,0 +1,78 @@
+//! The command that plays a scenario.
+
+ghost use Rattle.std.specs.Prelude.{◌≡◌, [], ◌<◌, ◌↔◌, ◌^◌, ◌-◌, false, IsTrue, length};
+ghost use Rattle.scenario_cli.specs.Ending.{Told, Ends, EndsFor, HasPlayed, is_run};
+ghost use Rattle.scenario_cli.specs.declared.status.Status.TheVariants as status;
+
+use crate::Status;
+use pv_ports::{Sink, Source};
+use pv_words::{Journal, Stop};
+use scenario_io::{ReadError, read_script, write_report};
+use scenario_run::play;
+use scenario_text::{ParseFault, Script};
+use std::alloc::Global;
+
+// Whether the words are `run` alone.
+fn asks_to_run(words: &Vec<String>) -> bool
+    ensures { result ≡ is_run words.now.items }
+{
+    words.len() == 1 && words[0].as_str() == "run"
+}
+
+// Reads a text as a script, plays it and writes its report.
+fn play_text<K: Sink>(alloc: Global, text: &[u8], sink: &mut K, journal: &mut Journal) -> Status
+    requires short { length text.now < 2 ^ 32 - 1 }
+    requires empty { journal.old.entries ≡ [] }
+    ensures { EndsFor text.now (K.bytes sink.old) (K.bytes sink.new) (K.faults sink.old) (K.faults sink.new) journal.new.entries result }
+{
+    let script = match Script::parse(alloc, text) {
+        Ok(script) => script,
+        Err(ParseFault::Fault(fault)) => return Status::Script(fault),
+        Err(ParseFault::OutOfMemory) => return Status::OutOfMemory,
+    };
+    let status = match play(alloc, &script, journal) {
+        Ok(()) => Status::Ok,
+        Err(Stop::JournalFull) => Status::JournalFull,
+        Err(Stop::OutOfMemory) => return Status::OutOfMemory,
+    };
+    match write_report(sink, journal.as_slice(), false) {
+        Ok(()) => status,
+        Err(_) => Status::WriteFault,
+    }
+}
+
+/// Does what the words ask for: with `run`, it reads a script to its end, plays it into the journal, and then writes
+/// the report, line by line. No source and no sink makes it stay inside less than the pages that the devices were
+/// granted: whatever the result, the journal is true.
+#[tactic(auto, using(crate::proofs::Playing::has_played))]
+pub fn run<S: Source, K: Sink>(
+    alloc: Global,
+    words: &Vec<String>,
+    source: &mut S,
+    sink: &mut K,
+    journal: &mut Journal,
+) -> Status
+    requires empty { journal.old.entries ≡ [] }
+
+    // What each status says of the octets that were read and written, and of the journal.
+    ensures ends { Ends
+        (record { rest = S.rest source.old; reads_failed = S.faults source.old; bytes = K.bytes sink.old; writes_failed = K.faults sink.old })
+        (record { rest = S.rest source.new; reads_failed = S.faults source.new; bytes = K.bytes sink.new; writes_failed = K.faults sink.new })
+        journal.new.entries result }
+
+    ensures usage { (result ≡ status.Usage) ↔ (is_run words.now.items ≡ false) }
+
+    // Whatever the status: the journal is lawful and explained, what the devices say are runs of the display machine,
+    // and each access of theirs lies in a page that they hold.
+    ensures every_path { HasPlayed (S.rest source.old) (S.rest source.new) journal.new.entries }
+{
+    if !asks_to_run(words) {
+        return Status::Usage;
+    }
+    match read_script(alloc, source) {
+        Ok(text) => play_text(alloc, &text, sink, journal),
+        Err(ReadError::Failed) => Status::ReadFault,
+        Err(ReadError::TooLong) => Status::TooLong,
+        Err(ReadError::OutOfMemory) => Status::OutOfMemory,
+    }
+}

@@ -1,0 +1,242 @@
+-- Every scenario that is read is playable.
+use Rattle.std.proofs.Common.{◌≡◌, ℕ, ◌+◌, ◌<◌, ◌≤◌, ◌^◌, ◌++◌, ◌==◌, Bool, true, false, not, ◌&&◌, List, [], ◌∷◌, Option, Some, None, Result, Ok, Err, refl, ap, subst, arith, length, inl, inr}
+use Rattle.std.specs.Prelude.{sum_by, codes, IfSome}
+use Rattle.std.specs.List.{AllByRecursion}
+use Rattle.std.proofs.lemmas.Bool.{cases_Bool}
+use Rattle.std.proofs.lemmas.List.{length_push}
+use Rattle.std.proofs.lemmas.List.Elements.{All-nil, All-push}
+use Rattle.std.proofs.lemmas.List.Sums.{sum_by_push}
+use Rattle.pv_words.specs.declared.setup.DomainSize.{DomainSize}
+use Rattle.pv_words.specs.declared.setup.DeviceSetup.{DeviceSetup}
+use Rattle.pv_words.specs.declared.setup.Kind.TheVariants.{Wild}
+use Rattle.pv_words.specs.declared.setup.DeviceKind.TheVariants as kinds
+use Rattle.pv_words.specs.declared.place.Place.TheVariants.{Cell}
+use Rattle.pv_words.specs.Sizes.{frames_by}
+use Rattle.scenario_text.specs.declared.statement.Statement.{Statement}
+use Rattle.scenario_text.specs.declared.statement.Statement.TheVariants.{Put, Serve}
+use Rattle.scenario_text.specs.declared.draft.Item.{Item}
+use Rattle.scenario_text.specs.declared.draft.Item.TheVariants as items
+use Rattle.scenario_text.specs.declared.item.Command.{Command}
+use Rattle.scenario_text.specs.declared.item.Command.TheVariants as commands
+use Rattle.scenario_text.specs.declared.fault.Flaw.{Flaw}
+use Rattle.scenario_text.specs.declared.fault.FaultKind.TheVariants.{UnknownStatement}
+use Rattle.scenario_text.specs.Flaws.{or_flaw}
+use Rattle.scenario_text.specs.Tokens.{Token, tokens}
+use Rattle.scenario_text.specs.Cursors.{Cursor, first_of}
+use Rattle.scenario_text.specs.Arguments.{between_at, below_at, keyword_at}
+use Rattle.scenario_text.specs.Lookups.{has_device, frames_left, grants_left, new_domain_at, size_at, new_device_at, device_at}
+use Rattle.scenario_text.specs.Declarations.{domain_at, display_at}
+use Rattle.scenario_text.specs.Statements.{put_at, serve_at}
+use Rattle.scenario_text.specs.Scenario.{Scenario, nothing, with_item}
+use Rattle.scenario_text.specs.Items.{is_empty_list, is_declaration, command_of, command_at, arguments_at, unless_more, item_from, item_of}
+use Rattle.scenario_text.specs.Lines.{code_of, lines}
+use Rattle.scenario_text.specs.Reading.{line_item, at_line, scenario_from, scenario_of}
+use Rattle.scenario_text.specs.Playable.{IsPlayed, IsPlayable}
+use Rattle.scenario_text.proofs.OkLemmas.{bind_ok, test_failed}
+use Rattle.scenario_text.proofs.GivenLemmas.{between_gives, below_gives, new_domain_gives, size_gives, size_keeps, new_device_gives, device_gives}
+
+-- with one more element, and with a weaker fact of each
+each_push : {X : Type 0} (P : X → Type 0) (xs : List X) (x : X) → AllByRecursion P xs → P x → AllByRecursion P (xs ++ x ∷ [])
+each_push P [] x all one = (one, tt)
+each_push P (y ∷ ys) x all one = (all.0, each_push P ys x all.1 one)
+
+each_weaker : {X : Type 0} (P Q : X → Type 0) (xs : List X) → ((x : X) → P x → Q x) → AllByRecursion P xs → AllByRecursion Q xs
+each_weaker P Q [] weaker all = tt
+each_weaker P Q (x ∷ xs) weaker all = (weaker x all.0, each_weaker P Q xs weaker all.1)
+
+each_of_none : {X : Type 0} (P : X → Type 0) (xs : List X) → is_empty_list xs ≡ true → AllByRecursion P xs
+each_of_none P [] none = tt
+each_of_none P (x ∷ xs) none = cc
+
+-- one more domain takes no frames from the others
+frames_kept : (sizes : List DomainSize) (size : DomainSize) (dom : ℕ) → 0 < frames_by sizes dom → 0 < frames_by (sizes ++ size ∷ []) dom
+frames_kept [] size dom some = absurd (omega arith)
+frames_kept (s ∷ ss) size dom some =
+    elim (cases_Bool (s.dom.0 == dom)) [
+      | inl passes ↦ let here : 0 < s.frames = rw passes at some in rw passes here
+      | inr fails ↦ let there : 0 < frames_by ss dom = rw fails at some in rw fails (frames_kept ss size dom there)
+    ]
+
+-- where each device is device 1, and there is no device 1, there is none
+no_device : (devices : List DeviceSetup) → AllByRecursion (λ d. d.dev.0 ≡ 1) devices → has_device 1 devices ≡ false → length devices ≡ 0
+unfolding has_device
+no_device [] ones fails = refl
+no_device (d ∷ ds) ones fails = let first : d.dev.0 ≡ 1 = ones.0 in let bad : true ≡ false = rw first at fails in cc
+
+-- what the lines so far said, with what the next line relies on
+pub record IsKept (s : Scenario) : Type 0 where
+  pub playable : IsPlayable s
+  pub filled : AllByRecursion (λ z. 1 ≤ z.frames) s.sizes
+  pub ones : AllByRecursion (λ d. d.dev.0 ≡ 1) s.devices
+
+-- what may come next
+abbrev Fits : Scenario → Item → Type 0
+Fits s (items.Domain z) = (is_empty_list s.statements ≡ true) × ((1 ≤ z.dom.0) × (z.dom.0 ≤ 4)) × (1 ≤ z.frames) × (z.frames ≤ frames_left s.sizes) × (z.grants ≤ grants_left s.sizes)
+Fits s (items.Device d) = (is_empty_list s.statements ≡ true) × (d.dev.0 ≡ 1) × (has_device 1 s.devices ≡ false) × (0 < frames_by s.sizes d.dom.0)
+Fits s (items.Step x) = IsPlayed s x
+
+nothing_kept : IsKept nothing
+nothing_kept = record {
+  playable = record { sizes = record { numbers = All-nil _; frames = omega arith; grants = omega arith }; one = omega arith; rooms = tt; statements = tt };
+  filled = tt;
+  ones = tt;
+}
+
+domain_kept : (s : Scenario) (z : DomainSize) → IsKept s → Fits s (items.Domain z) → IsKept (with_item (Some (items.Domain z)) s)
+unfolding frames_left grants_left
+domain_kept s z kept fits =
+    let old = kept.playable.sizes in
+    let frames : sum_by (λ (d : DomainSize). d.frames) (s.sizes ++ z ∷ []) ≤ 16384 = rw (sum_by_push (λ (d : DomainSize). d.frames) s.sizes z) (omega arith) in
+    let grants : sum_by (λ (d : DomainSize). d.grants) (s.sizes ++ z ∷ []) ≤ 16384 = rw (sum_by_push (λ (d : DomainSize). d.grants) s.sizes z) (omega arith) in
+    record {
+      playable = record {
+        sizes = record { numbers = All-push (λ (d : DomainSize). (1 ≤ d.dom.0) × (d.dom.0 ≤ 4)) s.sizes z old.numbers fits.1; frames = frames; grants = grants };
+        one = kept.playable.one;
+        rooms = each_weaker _ _ s.devices (λ (d : DeviceSetup) some. frames_kept s.sizes z d.dom.0 some) kept.playable.rooms;
+        statements = each_of_none _ s.statements fits.0;
+      };
+      filled = each_push _ s.sizes z kept.filled fits.2;
+      ones = kept.ones;
+    }
+
+device_kept : (s : Scenario) (d : DeviceSetup) → IsKept s → Fits s (items.Device d) → IsKept (with_item (Some (items.Device d)) s)
+device_kept s d kept fits =
+    let none = no_device s.devices kept.ones fits.2 in
+    record {
+      playable = record {
+        sizes = kept.playable.sizes;
+        one = rw (length_push s.devices d) (omega arith);
+        rooms = each_push _ s.devices d kept.playable.rooms fits.3;
+        statements = each_of_none _ s.statements fits.0;
+      };
+      filled = kept.filled;
+      ones = each_push _ s.devices d kept.ones fits.1;
+    }
+
+statement_kept : (s : Scenario) (x : Statement) → IsKept s → Fits s (items.Step x) → IsKept (with_item (Some (items.Step x)) s)
+statement_kept s x kept fits = record {
+  playable = record {
+    sizes = kept.playable.sizes;
+    one = kept.playable.one;
+    rooms = kept.playable.rooms;
+    statements = each_push (IsPlayed s) s.statements x kept.playable.statements fits;
+  };
+  filled = kept.filled;
+  ones = kept.ones;
+}
+
+item_kept : (s : Scenario) (item : Option Item) → IsKept s → IfSome item (Fits s) → IsKept (with_item item s)
+item_kept s None kept fits = kept
+item_kept s (Some (items.Domain z)) kept fits = domain_kept s z kept fits
+item_kept s (Some (items.Device d)) kept fits = device_kept s d kept fits
+item_kept s (Some (items.Step x)) kept fits = statement_kept s x kept fits
+
+domain_fits : (s : Scenario) (c : Cursor) (x : Item × Cursor) → is_empty_list s.statements ≡ true → domain_at s c ≡ Ok x → Fits s x.0
+unfolding domain_at
+domain_fits s c x none same =
+    let dom = bind_ok (new_domain_at s.sizes c) _ x same in
+    let word = bind_ok (keyword_at (codes "wild") dom.0.1) _ x dom.2 in
+    let frames = bind_ok (between_at 1 (frames_left s.sizes) word.0) _ x word.2 in
+    let grants = bind_ok (between_at 0 (grants_left s.sizes) frames.0.1) _ x frames.2 in
+    let number = new_domain_gives s.sizes c dom.0 dom.1 in
+    let f = between_gives 1 (frames_left s.sizes) word.0 frames.0 frames.1 in
+    let g = between_gives 0 (grants_left s.sizes) frames.0.1 grants.0 grants.1 in
+    let item : Item = items.Domain (record { dom = dom.0.0; kind = Wild; frames = frames.0.0.value; grants = grants.0.0.value; first = record { 0 = 0 } }) in
+    let one : (item, grants.0.1) ≡ x = cc in
+    subst (λ (y : Item × Cursor). Fits s y.0) {x = (item, grants.0.1)} one (none, number, f.0, f.1, g.1)
+
+-- a domain that is found has a frame
+found_room : (s : Scenario) (c : Cursor) (x : DomainSize × Cursor) → IsKept s → size_at s.sizes c ≡ Ok x → 0 < frames_by s.sizes x.0.dom.0
+found_room s c x kept same =
+    let filled = size_keeps (λ (z : DomainSize). 1 ≤ z.frames) s.sizes c x kept.filled same in
+    rw (size_gives s.sizes c x same) filled
+
+device_fits : (s : Scenario) (c : Cursor) (x : Item × Cursor) → IsKept s → is_empty_list s.statements ≡ true → display_at s c ≡ Ok x → Fits s x.0
+unfolding display_at
+device_fits s c x kept none same =
+    let dev = bind_ok (new_device_at s.devices c) _ x same in
+    let size = bind_ok (size_at s.sizes dev.0.1) _ x dev.2 in
+    let connectors = bind_ok (between_at 1 1 size.0.1) _ x size.2 in
+    let number = new_device_gives s.devices c dev.0 dev.1 in
+    let free : has_device 1 s.devices ≡ false = rw (← number.0) number.1 in
+    let room = found_room s dev.0.1 size.0 kept size.1 in
+    let item : Item = items.Device (record { dev = dev.0.0; dom = size.0.0.dom; kind = kinds.Display connectors.0.0.value }) in
+    let one : (item, connectors.0.1) ≡ x = cc in
+    subst (λ (y : Item × Cursor). Fits s y.0) {x = (item, connectors.0.1)} one (none, number.0, free, room)
+
+put_fits : (s : Scenario) (c : Cursor) (x : Item × Cursor) → put_at s c ≡ Ok x → Fits s x.0
+unfolding put_at
+put_fits s c x same =
+    let size = bind_ok (size_at s.sizes c) _ x same in
+    let frame = bind_ok (below_at size.0.0.frames size.0.1) _ x size.2 in
+    let word = bind_ok (below_at 1024 frame.0.1) _ x frame.2 in
+    let value = bind_ok (below_at (2 ^ 32) word.0.1) _ x word.2 in
+    let has = size_gives s.sizes c size.0 size.1 in
+    let f = below_gives size.0.0.frames size.0.1 frame.0 frame.1 in
+    let w = below_gives 1024 frame.0.1 word.0 word.1 in
+    let v = below_gives (2 ^ 32) word.0.1 value.0 value.1 in
+    let inside : frame.0.0.value < frames_by s.sizes size.0.0.dom.0 = rw has f in
+    let item : Item = items.Step (Put (Cell size.0.0.dom (record { 0 = frame.0.0.value }) word.0.0.value) value.0.0.value) in
+    let one : (item, value.0.1) ≡ x = cc in
+    subst (λ (y : Item × Cursor). Fits s y.0) {x = (item, value.0.1)} one ((inside, w), v)
+
+serve_fits : (s : Scenario) (c : Cursor) (x : Item × Cursor) → serve_at s c ≡ Ok x → Fits s x.0
+unfolding serve_at
+serve_fits s c x same =
+    let dev = bind_ok (device_at s.devices c) _ x same in
+    let there = device_gives s.devices c dev.0 dev.1 in
+    let item : Item = items.Step (Serve dev.0.0) in
+    let one : (item, dev.0.1) ≡ x = cc in
+    subst (λ (y : Item × Cursor). Fits s y.0) {x = (item, dev.0.1)} one there
+
+command_in_time : (s : Scenario) (t : Token) (command : Command) → command_at s t ≡ Ok command → (is_declaration command && not (is_empty_list s.statements)) ≡ false
+unfolding command_at
+command_in_time s t command same =
+    let found = bind_ok (or_flaw (command_of t.octets) t.column UnknownStatement) _ command same in
+    let passed = test_failed (is_declaration found.0 && not (is_empty_list s.statements)) _ found.0 command found.2 in
+    rw (← passed.1) passed.0
+
+none_stated : (b : Bool) → (true && not b) ≡ false → b ≡ true
+none_stated true e = refl
+none_stated false e = cc
+
+arguments_fit : (command : Command) (s : Scenario) (c : Cursor) (x : Item × Cursor) → IsKept s → (is_declaration command && not (is_empty_list s.statements)) ≡ false → arguments_at command s c ≡ Ok x → Fits s x.0
+unfolding arguments_at
+arguments_fit commands.Domain s c x kept early same = domain_fits s c x (none_stated (is_empty_list s.statements) early) same
+arguments_fit commands.Display s c x kept early same = device_fits s c x kept (none_stated (is_empty_list s.statements) early) same
+arguments_fit commands.Put s c x kept early same = put_fits s c x same
+arguments_fit commands.Serve s c x kept early same = serve_fits s c x same
+
+no_more : {A : Type 0} (o : Option (Token × Cursor)) (x y : A) → unless_more o x ≡ Ok y → x ≡ y
+no_more None x y same = cc
+no_more (Some t) x y same = cc
+
+item_fits : (s : Scenario) (t : Option (Token × Cursor)) (item : Option Item) → IsKept s → item_from s t ≡ Ok item → IfSome item (Fits s)
+item_fits s None item kept same = let one : None ≡ item = cc in subst (λ (i : Option Item). IfSome i (Fits s)) one tt
+item_fits s (Some t) item kept same =
+    let command = bind_ok (command_at s t.0) _ item same in
+    let found = bind_ok (arguments_at command.0 s t.1) _ item command.2 in
+    let fits = arguments_fit command.0 s t.1 found.0 kept (command_in_time s t.0 command.0 command.1) found.1 in
+    subst (λ (i : Option Item). IfSome i (Fits s)) (no_more (first_of found.0.1) (Some found.0.0) item found.2) fits
+
+line_fits : (s : Scenario) (line : List ℕ) (item : Option Item) → IsKept s → line_item s line ≡ Ok item → IfSome item (Fits s)
+unfolding line_item item_of
+line_fits s line item kept same =
+    let code = bind_ok (code_of line) _ item same in
+    item_fits s (first_of (record { past = 1; tokens = tokens 1 code.0 })) item kept code.2
+
+of_line : {A : Type 0} (line : ℕ) (r : Result A Flaw) (x : A) → at_line line r ≡ Ok x → r ≡ Ok x
+of_line line (Ok y) x same = let one : y ≡ x = cc in ap Ok one
+of_line line (Err f) x same = cc
+
+lines_kept : (line : ℕ) (ls : List (List ℕ)) (so_far s : Scenario) → IsKept so_far → scenario_from line ls so_far ≡ Ok s → IsKept s
+unfolding scenario_from
+lines_kept line [] so_far s kept same = let one : so_far ≡ s = cc in subst IsKept one kept
+lines_kept line (l ∷ ls) so_far s kept same =
+    let item = bind_ok (at_line line (line_item so_far l)) _ s same in
+    let fits = line_fits so_far l item.0 kept (of_line line (line_item so_far l) item.0 item.1) in
+    lines_kept (line + 1) ls (with_item item.0 so_far) s (item_kept so_far item.0 kept fits) item.2
+
+pub is_playable : (text : List ℕ) (s : Scenario) → scenario_of text ≡ Ok s → IsPlayable s
+unfolding scenario_of
+is_playable text s same = (lines_kept 1 (lines text) nothing s nothing_kept same).playable

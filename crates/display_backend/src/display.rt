@@ -72,13 +72,7 @@ fn verdict_on(asked: &Asked) -> i32
     ensures { result ≡ verdict asked.now }
 {
     match asked {
-        Asked::Config(config) => {
-            if is_zero(config) {
-                0
-            } else {
-                ENOENT
-            }
-        }
+        Asked::Config(config) => { if is_zero(config) { 0 } else { ENOENT } }
         Asked::Other => EOPNOTSUPP,
     }
 }
@@ -89,12 +83,7 @@ fn said_of(hand: &Option<Request>, notified: bool) -> Option<Said>
 {
     match hand {
         None => None,
-        Some(request) => Some(Said::Replied(
-            0,
-            request.id,
-            verdict_on(&request.asked),
-            notified,
-        )),
+        Some(request) => Some(Said::Replied(0, request.id, verdict_on(&request.asked), notified)),
     }
 }
 

@@ -1,7 +1,6 @@
 -- A link that rests has the whole of each activity before it.
-use Rattle.std.proofs.Common.{◌≡◌, ℕ, true, Bool, List, refl}
+use Rattle.std.proofs.Common.{◌≡◌, ℕ, true, List, refl}
 use Rattle.std.proofs.lemmas.Bool.{false≢true}
-use Rattle.pv_words.specs.Plan.{Plan}
 use Rattle.link_core.specs.declared.link.Link.{Link}
 use Rattle.link_core.specs.declared.link.Stage.{Stage}
 use Rattle.link_core.specs.declared.link.Stage.TheVariants as stage

@@ -1,14 +1,13 @@
 -- Explained work is a run of the machine, and each access means what it is for.
-use Rattle.std.proofs.Common.{◌≡◌, ℕ, List, [], ◌∷◌, ◌++◌, Option, Some, None, refl, sym, subst, ◌∙◌, ap}
+use Rattle.std.proofs.Common.{◌≡◌, List, [], ◌∷◌, ◌++◌, Option, Some, None, refl, sym, subst, ◌∙◌, ap}
 use Rattle.pv_words.specs.declared.access.Access.{Access}
 use Rattle.pv_words.specs.declared.device.Said.{Said}
-use Rattle.pv_words.specs.Along.{after, Along}
+use Rattle.pv_words.specs.Along.{after}
 use Rattle.pv_words.specs.Plan.{Plan, Finished, Make, Want, Note, Fits, MayGo, wanted, seen_by}
 use Rattle.link_core.specs.Order.{Own, Did, Spoke, Rested, Order, Act, Rest, Rules, Stand, Between, During, Telling, ended, going, begun, gone, next, May, MayBegin, MayGoOn, IsExplained, MayStep, MayChoose}
 use Rattle.link_core.specs.Machine.{Reading, IsRun, happens_first, happens_told, happens, history, Sound}
 
 module _ {W O M E : Type 0} (r : Rules W O) (d : Reading W O M E) (Means : Want → Note → Type 0) (sound : Sound r d Means) where
-
   -- what is known of a stand: what the work knows is true, and the activity under way will end as it should
   abbrev pub IsGood : Stand W O → Type 0
   IsGood (Between w) = sound.Sane w

@@ -1,7 +1,7 @@
 -- Each access of an activity on a ring's page lies on that page, and its end is one of its ends.
-use Rattle.std.proofs.Common.{◌≡◌, ℕ, zero, suc, ◌+◌, ◌≤◌, ◌<◌, List, [], ◌∷◌, ◌++◌, length, Bool, refl, arith}
+use Rattle.std.proofs.Common.{ℕ, zero, suc, ◌+◌, ◌≤◌, ◌<◌, List, [], ◌∷◌, ◌++◌, length, arith}
 use Rattle.pv_words.specs.declared.place.Place.{Place}
-use Rattle.pv_words.specs.Plan.{Plan, Finished, Make, Want, Load, Store, Note, Plain, Fits, MayGo, mapped}
+use Rattle.pv_words.specs.Plan.{Plan, Finished, Make, Want, Load, Store, Note, Plain, Fits, mapped}
 use Rattle.link_core.specs.Activities.{loads, stores}
 
 module _ (Means : Want → Note → Type 0) where

@@ -1,10 +1,10 @@
 -- What a step of an activity makes of a stand.
-use Rattle.std.proofs.Common.{◌≡◌, ℕ, List, [], ◌∷◌, Option, Some, None, refl, sym, subst, ◌∙◌, ap}
+use Rattle.std.proofs.Common.{◌≡◌, List, [], ◌∷◌, Option, Some, None, refl, sym, subst, ◌∙◌, ap}
 use Rattle.pv_words.specs.declared.access.Access.{Access}
 use Rattle.pv_words.specs.declared.device.Said.{Said}
 use Rattle.pv_words.specs.Along.{after, Along}
-use Rattle.pv_words.specs.Plan.{Plan, Finished, Make, Want, Note, Goes, Turns, IsUnfinished, mapped, wanted, seen_by}
-use Rattle.link_core.specs.Order.{Own, Did, Spoke, Rested, Order, Act, Rest, Rules, Stand, Between, During, Telling, ended, going, begun, gone, next, May, MayBegin, MayGoOn, MayTell, IsExplained, Steps, steps_of, Went, GoesOn}
+use Rattle.pv_words.specs.Plan.{Plan, Finished, Make, Goes, Turns, IsUnfinished, mapped}
+use Rattle.link_core.specs.Order.{Own, Did, Spoke, Rested, Order, Act, Rest, Rules, Stand, Between, During, ended, going, begun, next, May, MayBegin, Steps, Went, GoesOn}
 
 goes_mapped : {A B : Type 0} (f : A → B) (p : Plan A) (a : Access) (q : Plan A) → Goes p a q → Goes (mapped f p) a (mapped f q)
 goes_mapped f (Finished x) a q g = absurd g

@@ -1,5 +1,5 @@
 -- One access leads from what is left of an activity to what is left then.
-use Rattle.std.proofs.Common.{◌≡◌, ℕ, zero, suc, ◌+◌, ◌-◌, ◌<◌, ◌≤◌, ◌==◌, Bool, true, false, cond, List, [], ◌∷◌, ◌++◌, length, take, drop, set, get_or, Option, Some, None, refl, sym, subst, ◌∙◌, ap, arith, length-set, ◌≢◌, ⊎_elim}
+use Rattle.std.proofs.Common.{◌≡◌, ℕ, zero, suc, ◌+◌, ◌-◌, ◌<◌, ◌==◌, Bool, true, false, cond, List, [], ◌∷◌, ◌++◌, length, take, drop, set, get_or, Some, None, refl, sym, subst, ◌∙◌, ap, arith, length-set, ◌≢◌, ⊎_elim}
 use Rattle.std.proofs.lemmas.Bool.{cases_lt}
 use Rattle.std.proofs.lemmas.Bool.Decides.{nat_tests}
 use Rattle.std.proofs.lemmas.List.{take_more_set, take_all, drop_more, drop_all}
@@ -58,9 +58,10 @@ module _ (page : Page) (rsp n m s : ℕ) (words : List ℕ) (same : m ≡ n) (pl
   take_goes_on v long h more =
       let left : ℕ = 15 - m in
       let count : 16 - (m + 1) ≡ 15 - m = omega arith in
-      let next : take_rest page rsp (m + 1) (set words m v) ≡ loads (slot_place page rsp) Finished (15 - m) (m + 1) (take m words ++ v ∷ []) = ap (λ k. loads (slot_place page rsp) Finished k (m + 1) (take (m + 1) (set words m v))) count ∙ ap (loads (slot_place page rsp) Finished (15 - m) (m + 1)) (sym (grown v long h)) in
-      (goes_from (take_rest page rsp n words) (Load (word_of page s)) (λ x. loads (slot_place page rsp) Finished (15 - m) (m + 1) (take m words ++ x ∷ [])) (access.Load (word_of page s) v) (take_rest page rsp (m + 1) (set words m v)) (take_head h) (refl, next),
-       unfinished_from (take_rest page rsp (m + 1) (set words m v)) (Load (slot_place page rsp (m + 1))) (λ x. loads (slot_place page rsp) Finished (14 - m) (m + 1 + 1) (take (m + 1) (set words m v) ++ x ∷ [])) (loads_one (slot_place page rsp) Finished (16 - (m + 1)) (14 - m) (m + 1) (take (m + 1) (set words m v)) (omega arith)))
+      let next : take_rest page rsp (m + 1) (set words m v) ≡ loads (slot_place page rsp) Finished (15 - m) (m + 1) (take m words ++ v ∷ []) = ap (λ k. loads (slot_place page rsp) Finished k (m + 1) (take (m + 1) (set words m v))) count ∙ ap (loads (slot_place page rsp) Finished (15 - m) (m + 1)) (sym (grown v long h)) in (
+        goes_from (take_rest page rsp n words) (Load (word_of page s)) (λ x. loads (slot_place page rsp) Finished (15 - m) (m + 1) (take m words ++ x ∷ [])) (access.Load (word_of page s) v) (take_rest page rsp (m + 1) (set words m v)) (take_head h) (refl, next),
+        unfinished_from (take_rest page rsp (m + 1) (set words m v)) (Load (slot_place page rsp (m + 1))) (λ x. loads (slot_place page rsp) Finished (14 - m) (m + 1 + 1) (take (m + 1) (set words m v) ++ x ∷ [])) (loads_one (slot_place page rsp) Finished (16 - (m + 1)) (14 - m) (m + 1) (take (m + 1) (set words m v)) (omega arith)),
+      )
 
   pub take_ends : (v : ℕ) (new : Plan (List ℕ)) → length words ≡ 16 → n < 16 → m ≡ 15 → Turns (take_rest page rsp n words) (Some (access.Load (word_of page s) v)) (Some (set words m v)) new
   take_ends v new long h last =
@@ -104,15 +105,17 @@ module _ (page : Page) (rsp n m : ℕ) (reply : List ℕ) (same : m ≡ n) (long
       (cases_lt (m + 1) 16)
 
   pub answer_stores : (s v : ℕ) → s ≡ slot_of rsp m → v ≡ get_or reply m 0 → m < 16 → Turns (answer_rest page rsp n reply) (Some (access.Store (word_of page s) v)) None (answer_rest page rsp (m + 1) reply)
-  answer_stores s v place value h =
-      (goes_from (answer_rest page rsp n reply) (Store (word_of page s) v) (λ _. stores (slot_place page rsp) (publish_plan page rsp) (m + 1) (drop (m + 1) reply)) (access.Store (word_of page s) v) (answer_rest page rsp (m + 1) reply) (answer_head page rsp n m reply same long s v place value h) (refl, next_words h),
-       unfinished_words h)
+  answer_stores s v place value h = (
+    goes_from (answer_rest page rsp n reply) (Store (word_of page s) v) (λ _. stores (slot_place page rsp) (publish_plan page rsp) (m + 1) (drop (m + 1) reply)) (access.Store (word_of page s) v) (answer_rest page rsp (m + 1) reply) (answer_head page rsp n m reply same long s v place value h) (refl, next_words h),
+    unfinished_words h,
+  )
 
   pub answer_told : (v : ℕ) → v ≡ next_index rsp → m ≡ 16 → Turns (answer_rest page rsp n reply) (Some (access.Store (word_of page 2) v)) None (answer_rest page rsp (m + 1) reply)
   answer_told v value h =
-      let next : answer_rest page rsp (m + 1) reply ≡ event_plan page rsp = answer_event page rsp (m + 1) (m + 1) reply refl long (omega arith) in
-      (goes_from (answer_rest page rsp n reply) (Store (word_of page 2) (next_index rsp)) (λ _. event_plan page rsp) (access.Store (word_of page 2) v) (answer_rest page rsp (m + 1) reply) (answer_publishes page rsp n m reply same long h) (ap (Store (word_of page 2)) value, next),
-       unfinished_from (answer_rest page rsp (m + 1) reply) (Load (word_of page 3)) (λ event. Finished (notifies rsp (next_index rsp) event)) next)
+      let next : answer_rest page rsp (m + 1) reply ≡ event_plan page rsp = answer_event page rsp (m + 1) (m + 1) reply refl long (omega arith) in (
+        goes_from (answer_rest page rsp n reply) (Store (word_of page 2) (next_index rsp)) (λ _. event_plan page rsp) (access.Store (word_of page 2) v) (answer_rest page rsp (m + 1) reply) (answer_publishes page rsp n m reply same long h) (ap (Store (word_of page 2)) value, next),
+        unfinished_from (answer_rest page rsp (m + 1) reply) (Load (word_of page 3)) (λ event. Finished (notifies rsp (next_index rsp) event)) next,
+      )
 
   pub answer_ends : (event : ℕ) (b : Bool) (new : Plan Bool) → b ≡ notifies rsp (next_index rsp) event → m ≡ 17 → Turns (answer_rest page rsp n reply) (Some (access.Load (word_of page 3) event)) (Some b) new
   answer_ends event b new told h =

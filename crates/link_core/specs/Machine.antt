@@ -1,11 +1,8 @@
 -- A device's work is a run of a machine of rows: one theorem for every device.
-use Rattle.std.specs.Prelude.{◌≡◌, ℕ, List, [], ◌∷◌, ◌++◌, Option, Some, None, refl}
-use Rattle.std.proofs.Common.{sym, subst, ◌∙◌, ap}
-use Rattle.pv_words.specs.declared.access.Access.{Access}
+use Rattle.std.specs.Prelude.{◌≡◌, List, [], ◌∷◌, ◌++◌, Some, None}
 use Rattle.pv_words.specs.declared.device.Said.{Said}
-use Rattle.pv_words.specs.Along.{after, Along}
-use Rattle.pv_words.specs.Plan.{Plan, Finished, Make, Want, Note, Fits, wanted, seen_by}
-use Rattle.link_core.specs.Order.{Own, Did, Spoke, Rested, Order, Act, Rest, Rules, Stand, Between, During, Telling, ended, going, begun, gone, next, May, MayBegin, MayGoOn, IsExplained}
+use Rattle.pv_words.specs.Plan.{Plan, Finished, Make, Want, Note, Fits}
+use Rattle.link_core.specs.Order.{Own, Did, Spoke, Rested, Order, Act, Rest, Rules, Stand, Between, During, Telling, next}
 
 -- A machine of rows: its states, what happens to it, and which happening leads from which state to which. It knows no
 -- word, page or access. Each state of a device's work shows a state of the machine, and what the device says at an

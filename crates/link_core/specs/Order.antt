@@ -1,9 +1,9 @@
 -- The order of a device's work, and where a device stands in it.
-use Rattle.std.specs.Prelude.{◌≡◌, ℕ, Bool, true, false, List, [], ◌∷◌, Option, Some, None}
+use Rattle.std.specs.Prelude.{◌≡◌, Bool, true, false, List, [], ◌∷◌, Option, Some, None}
 use Rattle.pv_words.specs.declared.access.Access.{Access}
 use Rattle.pv_words.specs.declared.device.Said.{Said}
 use Rattle.pv_words.specs.Along.{after, Along}
-use Rattle.pv_words.specs.Plan.{Plan, Finished, Make, Want, Note, Goes, MayGo, wanted, seen_by}
+use Rattle.pv_words.specs.Plan.{Plan, Finished, Make, Want, Goes, MayGo, wanted, seen_by}
 
 -- what a device does, one after another: an access, something that it says, or resting until it is stepped again
 pub data Own : Type 0 where

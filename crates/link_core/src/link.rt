@@ -53,7 +53,6 @@ impl Link {
         }
     }
 
-
     fn taken(&self) -> u8
         ensures exact { result ≡ taken_in self.now.stage self.now.count }
         ensures within { result < 16 }

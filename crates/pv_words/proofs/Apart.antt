@@ -1,5 +1,5 @@
 -- Two places in range stand at one index only if they are one place.
-use Rattle.std.proofs.Common.{◌≡◌, ℕ, zero, suc, ◌+◌, ◌*◌, ◌<◌, ◌≤◌, ◌⊎◌, ◌&&◌, ◌==◌, ◌∙◌, ap, sym, inl, inr, Bool, cond, List, [], ◌∷◌, length, get_or, get_or-set_same, get_or-set_other, set, take, sum, true, false, refl, arith}
+use Rattle.std.proofs.Common.{◌≡◌, ℕ, zero, suc, ◌+◌, ◌<◌, ◌≤◌, ◌⊎◌, ◌&&◌, ◌==◌, ◌∙◌, ap, sym, inl, inr, Bool, cond, List, [], ◌∷◌, length, get_or, get_or-set_same, get_or-set_other, set, take, sum, true, false, refl, arith}
 use Rattle.std.proofs.lemmas.Bool.{false≢true}
 use Rattle.std.proofs.lemmas.List.Sums.{sum_by-cons}
 use Rattle.std.proofs.lemmas.Bool.Decides.{nat_tests, Decides-eqb}

@@ -1,10 +1,9 @@
 -- How a list of words is laid out: blocks, one after another.
-use Rattle.std.specs.Prelude.{◌≡◌, ℕ, zero, suc, ◌+◌, ◌*◌, ◌/◌, ◌<◌, List, [], ◌∷◌, length, take, sum, slice_index}
+use Rattle.std.specs.Prelude.{ℕ, ◌+◌, ◌*◌, ◌/◌, List, take, sum, slice_index}
 use Rattle.pv_words.specs.declared.place.Place.{Place}
 use Rattle.pv_words.specs.declared.place.Place.TheVariants.{Cell, Grant}
 use Rattle.pv_words.specs.declared.place.Half.{Half}
 use Rattle.pv_words.specs.declared.place.Half.TheVariants.{Flags, FrameNo}
-use Rattle.pv_words.specs.declared.setup.DomainSize.{DomainSize}
 
 -- where a block begins: after all blocks before it
 abbrev pub start_of : List ℕ → ℕ → ℕ

@@ -1,12 +1,10 @@
 -- A list of words as memory.
-use Rattle.std.specs.Prelude.{◌≡◌, ℕ, ◌+◌, ◌<◌, ◌^◌, List, sum, slice_index}
+use Rattle.std.specs.Prelude.{◌≡◌, ℕ, ◌+◌, List, slice_index}
 use Rattle.pv_words.specs.declared.place.Place.{Place}
 use Rattle.pv_words.specs.declared.access.Access.{Access}
 use Rattle.pv_words.specs.declared.list_words.ListWords.{ListWords}
 use Rattle.pv_words.specs.Layout.{start_of, block_of, offset_of, frames_in, grants_in}
 use Rattle.pv_words.specs.Memory.{Answers}
-use Rattle.pv_words.specs.Place.{InRange}
-use Rattle.pv_words.specs.Plan.{Want, aim_of}
 
 -- where in the list a word stands
 abbrev pub index_of : List ℕ → Place → ℕ

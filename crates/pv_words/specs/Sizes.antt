@@ -1,5 +1,5 @@
 -- What a scenario may declare of its domains.
-use Rattle.std.specs.Prelude.{◌≡◌, ◌≢◌, ℕ, ◌+◌, ◌*◌, ◌≤◌, ◌==◌, List, [], ◌∷◌, All, AllPairs, sum_by, if◌then◌else◌}
+use Rattle.std.specs.Prelude.{ℕ, ◌*◌, ◌≤◌, ◌==◌, List, [], ◌∷◌, All, sum_by, if◌then◌else◌}
 use Rattle.pv_words.specs.declared.setup.DomainSize.{DomainSize}
 
 -- how many frames, and grant entries, a domain has: 0 where it isn't declared

@@ -25,9 +25,10 @@ use Rattle.pv_world.proofs.Extends.{all_weaker}
 -- a run of the machine
 runs : (m : List Item) (s : DeviceSetup) → IsExplainedIn m s → IsMachineRunIn m s
 runs m s h =
-    let page : Page = ring_page s in
-    (rows_at display reading (OnPage page) (sound page) (after (next display) (first_stand s) (own s.dev.0 m)),
-     run_after display reading (OnPage page) (sound page) (first_stand s) (own s.dev.0 m) (first_good page) h)
+    let page : Page = ring_page s in (
+      rows_at display reading (OnPage page) (sound page) (after (next display) (first_stand s) (own s.dev.0 m)),
+      run_after display reading (OnPage page) (sound page) (first_stand s) (own s.dev.0 m) (first_good page) h,
+    )
 
 -- the one page of a device
 module _ (s : DeviceSetup) where
@@ -60,10 +61,11 @@ module _ (s : DeviceSetup) where
   keeps_along frames x [] g h = tt
   keeps_along frames x (Did a ∷ es) g h =
       let meant = meant_next display reading (OnPage (ring_page s)) (sound (ring_page s)) x a g h.0 in
-      let on = meant.1 in
-      (stays a on.0 on.2,
-       subst (λ (k : Holds). Along (holding frames) (λ h a. Stays s.dom.0 h.held a) k (accesses es)) (sym (keeps_holds frames a on.0 on.2))
-       (keeps_along frames (next display x (Did a)) es (good_next display reading (OnPage (ring_page s)) (sound (ring_page s)) x (Did a) g h.0) h.1))
+      let on = meant.1 in (
+        stays a on.0 on.2,
+        subst (λ (k : Holds). Along (holding frames) (λ h a. Stays s.dom.0 h.held a) k (accesses es)) (sym (keeps_holds frames a on.0 on.2))
+            (keeps_along frames (next display x (Did a)) es (good_next display reading (OnPage (ring_page s)) (sound (ring_page s)) x (Did a) g h.0) h.1),
+      )
   keeps_along frames x (Spoke t ∷ es) g h =
       keeps_along frames (next display x (Spoke t)) es (good_next display reading (OnPage (ring_page s)) (sound (ring_page s)) x (Spoke t) g h.0) h.1
   keeps_along frames x (Rested ∷ es) g h =

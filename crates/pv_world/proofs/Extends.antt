@@ -161,7 +161,6 @@ module _ {W : Type 0} (word : W → Place → ℕ) (fs gs : W → ℕ → ℕ) (
     (keeps_grants : (old : W) (a : Access) (new : W) → makes old a new → (d : ℕ) → gs new d ≡ gs old d)
     (remembers : (old : W) (a : Access) (new : W) → makes old a new → Answers (fs old) (gs old) (word old) a (word new))
     (frames grants : ℕ → ℕ) where
-
   good_stand : (memory : W) (p : Placed) (m : List Item) → Stands word fs gs frames grants memory (Some p) m → IsGood display reading (OnPage (ring_page p.setup)) (sound (ring_page p.setup)) (stand_of p.display)
   good_stand memory p m h =
       let good = good_after display reading (OnPage (ring_page p.setup)) (sound (ring_page p.setup)) (first_stand p.setup) (own p.setup.dev.0 m) (first_good (ring_page p.setup)) h.so_far.explained.0 in
@@ -208,19 +207,19 @@ module _ {W : Type 0} (word : W → Place → ℕ) (fs gs : W → ℕ → ℕ) (
       let entered : entries (m ++ items) ≡ entries m ++ entries items = entries_append m items in
       let done : own p.setup.dev.0 (m ++ items) ≡ own p.setup.dev.0 m ++ steps_of a s = own_append p.setup.dev.0 m items ∙ ap (λ (es : List Own). own p.setup.dev.0 m ++ es) (own_step p.setup.dev a s) in
       let memory : (q : Place) → memory_after (entries (m ++ items)) q ≡ left_by (memory_after (entries m)) a q = λ q.
-          ap (λ (es : List Entry). memory_after es q) entered ∙ (ap (λ (x : Memory). x q) (after-append remembered zeros (entries m) (entries items)) ∙ step_leaves (memory_after (entries m)) p.setup.dev a s q) in
+      ap (λ (es : List Entry). memory_after es q) entered ∙ (ap (λ (x : Memory). x q) (after-append remembered zeros (entries m) (entries items)) ∙ step_leaves (memory_after (entries m)) p.setup.dev a s q) in
       let explained : IsExplained display (first_stand p.setup) (own p.setup.dev.0 (m ++ items)) =
-          subst (λ (es : List Own). IsExplained display (first_stand p.setup) es) (sym done)
-          (Along-append (next display) (May display) (first_stand p.setup) (own p.setup.dev.0 m) (steps_of a s) st.so_far.explained.0
-            (subst (λ (x : Stand Work End). IsExplained display x (steps_of a s)) st.placed.0 steps.explained)) in
+      subst (λ (es : List Own). IsExplained display (first_stand p.setup) es) (sym done)
+      (Along-append (next display) (May display) (first_stand p.setup) (own p.setup.dev.0 m) (steps_of a s) st.so_far.explained.0
+      (subst (λ (x : Stand Work End). IsExplained display x (steps_of a s)) st.placed.0 steps.explained)) in
       let stands : stand_of r.display ≡ after (next display) (first_stand p.setup) (own p.setup.dev.0 (m ++ items)) =
-          steps.left ∙ (ap (λ (x : Stand Work End). after (next display) x (steps_of a s)) st.placed.0
-          ∙ (sym (after-append (next display) (first_stand p.setup) (own p.setup.dev.0 m) (steps_of a s))
-          ∙ ap (λ (es : List Own). after (next display) (first_stand p.setup) es) (sym done))) in
+      steps.left ∙ (ap (λ (x : Stand Work End). after (next display) x (steps_of a s)) st.placed.0
+      ∙ (sym (after-append (next display) (first_stand p.setup) (own p.setup.dev.0 m) (steps_of a s))
+      ∙ ap (λ (es : List Own). after (next display) (first_stand p.setup) es) (sym done))) in
       let so_far : IsHistory frames grants (p.setup ∷ []) (m ++ items) = record {
         lawful = subst (λ (es : List Entry). IsLawful frames grants es) (sym entered)
             (Along-append remembered (IsTrueNext frames grants) zeros (entries m) (entries items) st.so_far.lawful
-              (step_true frames grants (memory_after (entries m)) p.setup.dev a s (true_access old new p m a s (stand_of r.display) h st steps)));
+            (step_true frames grants (memory_after (entries m)) p.setup.dev a s (true_access old new p m a s (stand_of r.display) h st steps)));
         belongs = subst (λ (es : List Entry). AllByRecursion (Belongs (p.setup ∷ [])) es) (sym entered)
             (all_append (Belongs (p.setup ∷ [])) (entries m) (entries items) st.so_far.belongs (step_belongs (p.setup ∷ []) p.setup.dev a s (declared_first p.setup)));
         explained = (explained, tt);

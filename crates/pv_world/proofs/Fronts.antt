@@ -53,7 +53,7 @@ module _ (frames grants : ℕ → ℕ) where
         let entered : entries (m ++ front_store at v ∷ []) ≡ entries m ++ entries (front_store at v ∷ []) = entries_append m (front_store at v ∷ []) in
         let there : InRange frames grants at = in_range_from (fs old) frames (gs old) grants st.frames_are st.grants_are at range in
         let memory : (q : Place) → memory_after (entries (m ++ front_store at v ∷ [])) q ≡ written (memory_after (entries m)) (access.Store at v) q = λ q.
-            ap (λ (es : List Entry). memory_after es q) entered ∙ ap (λ (x : Memory). x q) (after-append remembered zeros (entries m) (entries (front_store at v ∷ []))) in
+        ap (λ (es : List Entry). memory_after es q) entered ∙ ap (λ (x : Memory). x q) (after-append remembered zeros (entries m) (entries (front_store at v ∷ []))) in
         record {
           frames_are = λ d. keeps_frames old (access.Store at v) new made d ∙ st.frames_are d;
           grants_are = λ d. keeps_grants old (access.Store at v) new made d ∙ st.grants_are d;

@@ -30,9 +30,10 @@ module _ {W : Type 0} (word : W → Place → ℕ) (fs gs : W → ℕ → ℕ) (
       (items, busy_steps p.setup.dev a s (sym r.1), st, entries_append m items ∙ (ap (λ (x : List Entry). x ++ entries items) e ∙ sym r.0))
   recorded memory p a s old new m (Ok false) st e r =
       let items : List Item = items_of p.setup.dev a s in
-      let mark : items ≡ Idle p.setup.dev.0 ∷ [] = idle_mark p.setup.dev a s (sym r.1) in
-      (subst (λ (x : List Item). Stands word fs gs frames grants memory (Some p) (m ++ x)) mark st,
-       subst (λ (x : List Item). entries (m ++ x) ≡ new) mark (entries_append m items ∙ (ap (λ (x : List Entry). x ++ entries items) e ∙ sym r.0)))
+      let mark : items ≡ Idle p.setup.dev.0 ∷ [] = idle_mark p.setup.dev a s (sym r.1) in (
+        subst (λ (x : List Item). Stands word fs gs frames grants memory (Some p) (m ++ x)) mark st,
+        subst (λ (x : List Item). entries (m ++ x) ≡ new) mark (entries_append m items ∙ (ap (λ (x : List Entry). x ++ entries items) e ∙ sym r.0)),
+      )
   recorded memory p a s old new m (Err stop) st e r =
       let whole : m ++ items_of p.setup.dev a s ≡ (m ++ r.done) ++ Entered r.due ∷ r.rest = ap (λ (x : List Item). m ++ x) r.split ∙ sym (append_assoc m r.done (Entered r.due ∷ r.rest)) in
       let h : IsHistory frames grants (p.setup ∷ []) ((m ++ r.done) ++ Entered r.due ∷ r.rest) = subst (λ (x : List Item). IsHistory frames grants (p.setup ∷ []) x) whole st.so_far in
@@ -61,18 +62,22 @@ module _ {W : Type 0} (word : W → Place → ℕ) (fs gs : W → ℕ → ℕ) (
   pub goes_on : (memory later : W) (p q : Placed) (es fs' : List Entry) (m : List Item) → p.setup ≡ q.setup → Advanced word fs gs frames grants memory p es m (Ok true) → ((n : List Item) → Stands word fs gs frames grants memory (Some p) n → entries n ≡ es → Advanced word fs gs frames grants later q fs' n (Ok true)) → Advanced word fs gs frames grants later q fs' m (Ok true)
   goes_on memory later p q es new m same a f =
       let b = f (m ++ a.0) a.2 a.3 in
-      let joined : (m ++ a.0) ++ b.0 ≡ m ++ (a.0 ++ b.0) = append_assoc m a.0 b.0 in
-      (a.0 ++ b.0, steps_append q.setup.dev.0 a.0 b.0 (subst (λ (x : DeviceSetup). AreSteps x.dev.0 a.0) same a.1) b.1,
-       subst (λ (x : List Item). Stands word fs gs frames grants later (Some q) x) joined b.2,
-       subst (λ (x : List Item). entries x ≡ new) joined b.3)
+      let joined : (m ++ a.0) ++ b.0 ≡ m ++ (a.0 ++ b.0) = append_assoc m a.0 b.0 in (
+        a.0 ++ b.0,
+        steps_append q.setup.dev.0 a.0 b.0 (subst (λ (x : DeviceSetup). AreSteps x.dev.0 a.0) same a.1) b.1,
+        subst (λ (x : List Item). Stands word fs gs frames grants later (Some q) x) joined b.2,
+        subst (λ (x : List Item). entries x ≡ new) joined b.3,
+      )
 
   pub comes_to_rest : {A : Type 0} (x : A) (memory later : W) (p q : Placed) (es new : List Entry) (m : List Item) → p.setup ≡ q.setup → Advanced word fs gs frames grants memory p es m (Ok true) → ((n : List Item) → Stands word fs gs frames grants memory (Some p) n → entries n ≡ es → Advanced word fs gs frames grants later q new n (Ok false)) → Served word fs gs frames grants later q new m (Ok x)
   comes_to_rest x memory later p q es new m same a f =
       let b = f (m ++ a.0) a.2 a.3 in
-      let joined : (m ++ a.0) ++ Idle q.setup.dev.0 ∷ [] ≡ m ++ (a.0 ++ Idle q.setup.dev.0 ∷ []) = append_assoc m a.0 (Idle q.setup.dev.0 ∷ []) in
-      (a.0, subst (λ (y : DeviceSetup). AreSteps y.dev.0 a.0) same a.1,
-       subst (λ (y : List Item). Stands word fs gs frames grants later (Some q) y) joined b.0,
-       subst (λ (y : List Item). entries y ≡ new) joined b.1)
+      let joined : (m ++ a.0) ++ Idle q.setup.dev.0 ∷ [] ≡ m ++ (a.0 ++ Idle q.setup.dev.0 ∷ []) = append_assoc m a.0 (Idle q.setup.dev.0 ∷ []) in (
+        a.0,
+        subst (λ (y : DeviceSetup). AreSteps y.dev.0 a.0) same a.1,
+        subst (λ (y : List Item). Stands word fs gs frames grants later (Some q) y) joined b.0,
+        subst (λ (y : List Item). entries y ≡ new) joined b.1,
+      )
 
   pub is_stopped : (memory later : W) (p q : Placed) (es new : List Entry) (m : List Item) (stop : Stop) → p.setup ≡ q.setup → Advanced word fs gs frames grants memory p es m (Ok true) → ((n : List Item) → Stands word fs gs frames grants memory (Some p) n → entries n ≡ es → Advanced word fs gs frames grants later q new n (Err stop)) → StopsIn frames grants (q.setup ∷ []) q.setup.dev.0 stop m new
   is_stopped memory later p q es new m stop same a f =

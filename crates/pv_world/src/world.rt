@@ -8,8 +8,8 @@ ghost use Rattle.pv_world.specs.Record.{Records, IsAtLimit, IsLonger};
 
 use display_backend::{Display, Step};
 use pv_words::{
-    Access, DevId, DeviceSetup, DomId, End, Entry, Frame, JOURNAL_LIMIT, Journal, Machine, Place, Said,
-    Stop,
+    Access, DevId, DeviceSetup, DomId, End, Entry, Frame, JOURNAL_LIMIT, Journal, Machine, Place,
+    Said, Stop,
 };
 
 /// A device, and what was declared of it.

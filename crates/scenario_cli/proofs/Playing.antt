@@ -37,7 +37,7 @@ what_was_played octets old new failed fails es (status.NotLegal l) p = elim p [ 
 
 of_read : (old new : Option (List ℕ)) (octets : List ℕ) (es : List Entry) → IsRead old new octets → ((es ≡ []) ⊎ IsTrueFor octets es) → HasPlayed old new es
 of_read old new octets es is_read (inl none) = inl none
-of_read old new octets es is_read (inr p) = inr (octets , is_read , p)
+of_read old new octets es is_read (inr p) = inr (octets, is_read, p)
 
 -- however it ended after the source was read
 pub has_played : (old new : Option (List ℕ)) (octets : List ℕ) (bytes more : Option (List ℕ)) (failed fails : ℕ) (es : List Entry) (s : Status) → IsRead old new octets → EndsFor octets bytes more failed fails es s → HasPlayed old new es

@@ -4,15 +4,14 @@
 mod status;
 mod top;
 
-pub use status::Status;
-pub use top::run;
-
 use pv_ports::{StdSink, StdSource};
 use pv_words::Journal;
+pub use status::Status;
 use std::alloc::Global;
+use std::env;
 use std::io::{self, BufWriter, Write};
 use std::process::ExitCode;
-use std::env;
+pub use top::run;
 
 #[cfg(test)]
 mod tests;
@@ -44,7 +43,13 @@ fn run_command(rt: &HostRuntime, alloc: Global) -> Status {
     };
     let mut source = StdSource::new(rt.reader());
     let mut journal = Journal::new(alloc);
-    let status = run(alloc, &words, &mut source, &mut StdSink::new(&mut writer), &mut journal);
+    let status = run(
+        alloc,
+        &words,
+        &mut source,
+        &mut StdSink::new(&mut writer),
+        &mut journal,
+    );
     match writer.flush() {
         Err(_) if status.has_output() => Status::WriteFault,
         _ => status,

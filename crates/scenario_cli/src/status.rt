@@ -57,7 +57,11 @@ impl Status {
 impl Display for Status {
     fn fmt<W: fmt::Write>(&self, f: &mut Formatter<W>) -> fmt::Result {
         match self {
-            Status::Script(fault) => write!(f, "Script {} {} {:?}", fault.line, fault.column, fault.kind),
+            Status::Script(fault) => write!(
+                f,
+                "Script {} {} {:?}",
+                fault.line, fault.column, fault.kind
+            ),
             Status::NotLegal(line) => write!(f, "NotLegal {line}"),
             status => write!(f, "{status:?}"),
         }

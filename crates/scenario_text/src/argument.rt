@@ -17,6 +17,7 @@ pub struct Number {
 }
 
 /// The next token as a number.
+#[inline(always)]
 #[tactic(auto, unfolding(crate::specs::Arguments::number_at))]
 fn number_at<'a>(words: Words<'a>) -> Result<(Number, Words<'a>), Flaw>
     ensures { Gives seen result (number_at (cursor words.entry)) }
@@ -33,6 +34,7 @@ fn number_at<'a>(words: Words<'a>) -> Result<(Number, Words<'a>), Flaw>
 }
 
 /// The next token as a number from `low` to `high`.
+#[inline(always)]
 #[tactic(auto, unfolding(crate::specs::Arguments::between_at))]
 pub fn between<'a>(words: Words<'a>, low: u32, high: u32) -> Result<(Number, Words<'a>), Flaw>
     ensures value { Gives seen result (between_at low high (cursor words.entry)) }
@@ -50,6 +52,7 @@ pub fn between<'a>(words: Words<'a>, low: u32, high: u32) -> Result<(Number, Wor
 }
 
 /// The next token as a number below a limit.
+#[inline(always)]
 #[tactic(auto, unfolding(crate::specs::Arguments::below_at))]
 pub fn below<'a>(words: Words<'a>, limit: u64) -> Result<(Number, Words<'a>), Flaw>
     ensures value { Gives seen result (below_at limit (cursor words.entry)) }

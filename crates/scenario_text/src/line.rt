@@ -18,7 +18,12 @@ fn is_plain(b: u8) -> bool
 fn ends_code(b: u8) -> bool
     ensures { result ≡ ends_code b }
 {
-    b == b'#' || !is_plain(b)
+    // most octets of a text are above the sign of a comment
+    if b > b'#' {
+        b > 0x7E
+    } else {
+        b == b'#' || !is_plain(b)
+    }
 }
 
 /// The number of octets before the first one that isn't a line's code.

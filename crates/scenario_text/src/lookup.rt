@@ -69,6 +69,7 @@ pub fn new_domain<'a>(sizes: &[DomainSize], words: Words<'a>) -> Result<(DomId, 
 }
 
 /// The next token as the number of a declared domain, which is returned.
+#[inline(always)]
 #[tactic(auto, unfolding(crate::specs::Lookups::size_at))]
 pub fn declared_domain<'a>(
     sizes: &[DomainSize],

@@ -1,4 +1,4 @@
-use Rattle.std.proofs.Common.{◌≢◌, ◌<◌, length, length-set, get_or-set_same, get_or-set_other, below_more, ◌∙◌, sym, arith}
+use Rattle.std.proofs.Common.{◌≢◌, ◌<◌, length, length-set, get_or-set_same, get_or-set_other, below_more, arith}
 use Rattle.std.proofs.lemmas.List.Sums.{sum_by_more}
 use Rattle.pv_words.proofs.list_words.starts_of.Goals as goal
 

@@ -69,10 +69,13 @@ loop-statement-preserved g c =
     let xs = c.statements-statements.result.now in
     let x = get_or xs i beyond in
     let inside : i < length s.statements = omega (arith, ap length c.statements-statements.ensures) in
-    let played = c.in_ok-play_statement.ensures.played (frames_by s.sizes) (grants_by s.sizes) inv.0 inv.2 inv.3 in
-    (inv.0 ++ played.0,
-     subst (λ (ss : List Statement). Follows ss (inv.0 ++ played.0)) (sym (front_is s i x inside (turn xs s.statements i c.statements-statements.ensures inside))) (follows_push (take i s.statements) x inv.0 played.0 inv.1 played.1),
-     played.2, played.3, c.play_statement.ensures.devices ∙ inv.4)
+    let played = c.in_ok-play_statement.ensures.played (frames_by s.sizes) (grants_by s.sizes) inv.0 inv.2 inv.3 in (
+      inv.0 ++ played.0,
+      subst (λ (ss : List Statement). Follows ss (inv.0 ++ played.0)) (sym (front_is s i x inside (turn xs s.statements i c.statements-statements.ensures inside))) (follows_push (take i s.statements) x inv.0 played.0 inv.1 played.1),
+      played.2,
+      played.3,
+      c.play_statement.ensures.devices ∙ inv.4,
+    )
 
 pub returns-clause-ok : goal.returns-clause-ok
 returns-clause-ok g c =

@@ -37,4 +37,3 @@ returns-in-Overrun-clause-goes g c =
     let done : turn.result.done ≡ Some (looked.Overrun c.in-Overrun.prod c.in-Overrun.rsp) = c.in-Some.is ∙ ap Some c.in-Overrun.is in
     turn_ends display (λ x. Saw x) (work_of d) (look_plan (page_of d.link) (rsp_of d.link)) turn.result.access (looked.Overrun c.in-Overrun.prod c.in-Overrun.rsp) (Finished (looked.Overrun c.in-Overrun.prod c.in-Overrun.rsp)) None _ (rw done at (turn.ensures.turns (Finished (looked.Overrun c.in-Overrun.prod c.in-Overrun.rsp)))) refl
     (stands_between _ turn.new.self d.reply d.activity c.requires.between ∙ ap (λ (l : Link). Between (after_look (work (page_of l) d.connection (rsp_of l) d.hand d.left d.round) (looked.Overrun c.in-Overrun.prod c.in-Overrun.rsp))) turn.ensures.same)
-

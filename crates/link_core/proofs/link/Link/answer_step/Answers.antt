@@ -1,8 +1,7 @@
-use Rattle.std.proofs.Common.{◌≡◌, ◌+◌, ◌%◌, ◌^◌, true, refl, sym, ap, ◌∙◌, length, arith, get_or}
-use Rattle.std.proofs.lemmas.List.{get_or_read}
-use Rattle.pv_words.specs.Plan.{Plan, Finished, Make, Want, Load, Store, Plain}
+use Rattle.std.proofs.Common.{◌≡◌, ◌+◌, ◌%◌, ◌^◌, true, refl, sym, ap, ◌∙◌, arith}
+use Rattle.pv_words.specs.Plan.{Finished, Make, Store, Plain}
 use Rattle.ring_words.specs.Ring.{next_index, notifies}
-use Rattle.link_core.specs.Activities.{word_of, slot_place, stores, publish_plan, event_plan}
+use Rattle.link_core.specs.Activities.{word_of, event_plan}
 use Rattle.link_core.specs.Link.{page_of, rsp_of, answer_left, idle}
 use Rattle.link_core.specs.Stage.{answered_in}
 use Rattle.link_core.proofs.Transitions.{may_from, answer_head, answer_publishes, answer_event, answer_stores, answer_told, answer_ends}

@@ -1,7 +1,7 @@
 use Rattle.std.proofs.Common.{◌≡◌, ◌+◌, ◌%◌, ◌^◌, ◌==◌, true, refl, sym, ap, ◌∙◌, arith}
-use Rattle.pv_words.specs.Plan.{Plan, Finished, Make, Want, Load, Store, Plain}
+use Rattle.pv_words.specs.Plan.{Finished, Make, Store, Plain}
 use Rattle.ring_words.specs.Ring.{next_index}
-use Rattle.link_core.specs.Activities.{word_of, check_plan, sleep_plan}
+use Rattle.link_core.specs.Activities.{word_of, check_plan}
 use Rattle.link_core.specs.Link.{page_of, rsp_of, sleep_left, idle}
 use Rattle.link_core.specs.Stage.{slept_in}
 use Rattle.link_core.proofs.Transitions.{may_from, sleep_asks, sleep_checks, sleep_goes_on, sleep_ends}

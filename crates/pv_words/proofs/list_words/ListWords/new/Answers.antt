@@ -1,8 +1,5 @@
-use Rattle.std.proofs.Common.{◌≡◌, ◌≤◌, ◌<◌, ◌+◌, ℕ, List, get_or, sum, length, replicate, subst, sym, ◌∙◌, ap, refl, arith, rules}
-use Rattle.std.proofs.lemmas.List.{get_or_past, get_or-replicate}
-use Rattle.std.proofs.lemmas.Bool.{cases_lt}
-use Rattle.std.specs.Bool.{MatchBool}
-use Rattle.pv_words.specs.Layout.{start_of, frames_in, grants_in}
+use Rattle.std.proofs.Common.{◌≡◌, ◌≤◌, ◌+◌, get_or, sum, ◌∙◌, ap, arith}
+use Rattle.pv_words.specs.Layout.{start_of}
 use Rattle.pv_words.specs.Sizes.{blocks_by}
 use Rattle.pv_words.proofs.Blocks.{small_blocks, frames_of_blocks, grants_of_blocks, last_ends, last_start}
 use Rattle.pv_words.proofs.list_words.ListWords.new.Goals as goal

@@ -1,4 +1,4 @@
-use Rattle.std.proofs.Common.{◌+◌, ◌*◌, arith}
+use Rattle.std.proofs.Common.{◌*◌, arith}
 use Rattle.pv_words.proofs.list_words.ListWordsWords.frames.Goals as goal
 
 pub overflow_cast-result : goal.overflow_cast-result

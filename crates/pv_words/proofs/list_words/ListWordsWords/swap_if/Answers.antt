@@ -1,4 +1,4 @@
-use Rattle.std.proofs.Common.{◌≡◌, ℕ, ◌==◌, Bool, true, cond, ◌∙◌, sym, ap, get_or, refl, arith, eq-eqb}
+use Rattle.std.proofs.Common.{◌≡◌, ℕ, ◌==◌, Bool, true, cond, ◌∙◌, ap, get_or, refl, arith, eq-eqb}
 use Rattle.std.proofs.lemmas.List.{get_or_read}
 use Rattle.pv_words.proofs.Apart.{stored}
 use Rattle.pv_words.proofs.list_words.ListWordsWords.swap_if.Goals as goal

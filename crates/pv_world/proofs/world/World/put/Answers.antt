@@ -21,6 +21,7 @@ returns-in_err-enter-clause-stored g c = λ frames grants m st e.
 pub returns-clause-stored : goal.returns-clause-stored
 returns-clause-stored g c = λ frames grants m st e.
     let w = c.args.self.now in
-    let entered : c.enter.new.journal.entries ≡ c.args.journal.now.entries ++ entry.Front c.domain.result (access.Store c.args.place c.args.v) ∷ [] = c.in_ok-enter.ensures.ok in
-    (front_stands frames grants g.W.Machine.word g.W.Words.frames_of g.W.Words.grants_of g.W.Words.makes g.met.W.Words.keeps_frames g.met.W.Words.keeps_grants g.met.W.Machine.remembers w.memory c.store.new.self w.device m c.args.place c.args.v c.requires c.store.ensures st,
-     entries_append m (front_store c.args.place c.args.v ∷ []) ∙ (ap (λ (es : List Entry). es ++ entries (front_store c.args.place c.args.v ∷ [])) e ∙ (ap (λ (d : DomId). c.args.journal.now.entries ++ entry.Front d (access.Store c.args.place c.args.v) ∷ []) (sym c.domain.ensures) ∙ sym entered)))
+    let entered : c.enter.new.journal.entries ≡ c.args.journal.now.entries ++ entry.Front c.domain.result (access.Store c.args.place c.args.v) ∷ [] = c.in_ok-enter.ensures.ok in (
+      front_stands frames grants g.W.Machine.word g.W.Words.frames_of g.W.Words.grants_of g.W.Words.makes g.met.W.Words.keeps_frames g.met.W.Words.keeps_grants g.met.W.Machine.remembers w.memory c.store.new.self w.device m c.args.place c.args.v c.requires c.store.ensures st,
+      entries_append m (front_store c.args.place c.args.v ∷ []) ∙ (ap (λ (es : List Entry). es ++ entries (front_store c.args.place c.args.v ∷ [])) e ∙ (ap (λ (d : DomId). c.args.journal.now.entries ++ entry.Front d (access.Store c.args.place c.args.v) ∷ []) (sym c.domain.ensures) ∙ sym entered)),
+    )

@@ -1,9 +1,9 @@
 -- Whether a display rests next, as its fields tell.
-use Rattle.std.proofs.Common.{◌≡◌, ℕ, zero, suc, ◌<◌, Bool, true, false, not, is_some, List, Option, Some, None, refl, sym, subst, ◌∙◌, ap, arith}
+use Rattle.std.proofs.Common.{◌≡◌, ℕ, zero, suc, ◌<◌, true, false, not, is_some, List, Option, Some, None, refl, sym, ◌∙◌, ap, arith}
 use Rattle.std.proofs.lemmas.Bool.{false≢true}
 use Rattle.displ_wire.specs.declared.Request.{Request}
 use Rattle.link_core.specs.declared.link.Link.{Link}
-use Rattle.link_core.specs.Order.{Order, Act, Rest, rests_next, at_rest}
+use Rattle.link_core.specs.Order.{Order, rests_next, at_rest}
 use Rattle.display_backend.specs.declared.display.Activity.{Activity}
 use Rattle.display_backend.specs.declared.display.Connection.{Connection}
 use Rattle.display_backend.specs.declared.display.Round.{Round}

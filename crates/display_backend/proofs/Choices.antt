@@ -2,21 +2,17 @@
 use Rattle.std.proofs.Common.{◌≡◌, ℕ, zero, suc, ◌<◌, Bool, true, false, is_some, List, Option, Some, None, refl, sym, subst, ◌∙◌, ap, arith}
 use Rattle.std.proofs.lemmas.Bool.{false≢true}
 use Rattle.pv_words.specs.Plan.{Plan, Finished, Make, mapped, MayGo, Want}
-use Rattle.displ_wire.specs.declared.Request.{Request}
-use Rattle.link_core.specs.declared.link.Link.{Link}
-use Rattle.link_core.specs.Activities.{look_plan, take_plan, answer_plan, sleep_plan}
-use Rattle.link_core.specs.Link.{page_of, rsp_of, take_left, answer_left, sleep_left, idle}
-use Rattle.link_core.specs.Order.{Order, Act, Rest, MayChoose}
+use Rattle.link_core.specs.Activities.{look_plan, answer_plan}
+use Rattle.link_core.specs.Link.{page_of, rsp_of, take_left, answer_left, sleep_left}
+use Rattle.link_core.specs.Order.{Order, Act, MayChoose}
 use Rattle.link_core.proofs.Links.{whole_take, whole_answer, whole_sleep}
 use Rattle.display_backend.specs.declared.display.Display.{Display}
 use Rattle.display_backend.specs.declared.display.Connection.{Connection}
-use Rattle.display_backend.specs.declared.display.Connection.TheVariants as connection
 use Rattle.display_backend.specs.declared.display.Round.{Round}
 use Rattle.display_backend.specs.declared.display.Round.TheVariants as round
 use Rattle.display_backend.specs.Activity.{is_between}
 use Rattle.display_backend.specs.Display.{work_of}
-use Rattle.display_backend.specs.Reply.{reply_to}
-use Rattle.display_backend.specs.Work.{Work, End, Saw, Took, Answered, Slept, Shut, Left, choice, with_connection, with_hand, with_left, in_round}
+use Rattle.display_backend.specs.Work.{Work, End, Saw, Took, Answered, Slept, choice, with_connection, with_hand, with_left, in_round}
 
 pub some_of : {A : Type 0} (o : Option A) → is_some o ≡ true → (q : A) × (o ≡ Some q)
 some_of None h = absurd (false≢true h)

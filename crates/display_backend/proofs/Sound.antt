@@ -1,14 +1,13 @@
 -- The display's order of work is sound: its ends are moves of the machine, and its accesses lie on its ring's page.
-use Rattle.std.proofs.Common.{◌≡◌, ℕ, zero, suc, ◌+◌, ◌*◌, ◌%◌, ◌<◌, ◌≤◌, ◌==◌, nat_le, Bool, true, false, cond, List, [], ◌∷◌, Option, Some, None, refl, sym, subst, ◌∙◌, ap, arith, length, length-append, replicate}
+use Rattle.std.proofs.Common.{◌≡◌, ℕ, zero, suc, ◌<◌, ◌≤◌, ◌==◌, nat_le, Bool, true, false, cond, List, [], Option, Some, None, refl, sym, subst, ◌∙◌, ap, arith, length}
 use Rattle.std.proofs.lemmas.List.{length-replicate}
 use Rattle.std.proofs.lemmas.Bool.Decides.{nat_tests}
-use Rattle.pv_words.specs.declared.place.Place.{Place}
 use Rattle.pv_words.specs.declared.device.Said.{Said}
 use Rattle.pv_words.specs.declared.device.Said.TheVariants as said
 use Rattle.pv_words.specs.declared.device.Reason.{Reason}
 use Rattle.pv_words.specs.declared.device.Reason.TheVariants as reason
 use Rattle.pv_words.specs.declared.device.State.TheVariants as state
-use Rattle.pv_words.specs.Plan.{Plan, Finished, Make, Want, Load, Store, Note, Plain, Fits, mapped}
+use Rattle.pv_words.specs.Plan.{Plan, Finished, Load, Store, Plain, Fits, mapped}
 use Rattle.displ_wire.specs.declared.Request.{Request}
 use Rattle.displ_wire.specs.Wire.{request_of}
 use Rattle.ring_words.specs.declared.Looked.{Looked}
@@ -22,9 +21,9 @@ use Rattle.display_backend.specs.declared.display.Connection.{Connection}
 use Rattle.display_backend.specs.declared.display.Connection.TheVariants as connection
 use Rattle.display_backend.specs.declared.display.Round.{Round}
 use Rattle.display_backend.specs.declared.display.Round.TheVariants as round
-use Rattle.display_backend.specs.Machine.{Rows, Phase, Connected, Closing, Closed, Event, Moves, Says, verdict}
+use Rattle.display_backend.specs.Machine.{Connected, Closing, Closed, Moves, Says, verdict}
 use Rattle.display_backend.specs.Reply.{reply_to, replied}
-use Rattle.display_backend.specs.Work.{Work, End, Saw, Took, Answered, Slept, Shut, Left, display, reading, OnPage, choice, settled, said_at, with_connection, with_hand, with_left, in_round, after_look, after_sleep, rows_of, phase_of, first_work}
+use Rattle.display_backend.specs.Work.{Work, End, Saw, Took, Answered, Slept, Shut, Left, display, reading, OnPage, choice, settled, said_at, with_connection, with_hand, with_left, in_round, after_look, rows_of, phase_of, first_work}
 
 -- a kept reason is true
 abbrev pub IsTrueReason : Reason → Type 0

@@ -1,5 +1,5 @@
 -- The work of a display whose link shows the same page and index is the same.
-use Rattle.std.proofs.Common.{◌≡◌, ℕ, List, Bool, true, Option, ◌∙◌, ap, refl}
+use Rattle.std.proofs.Common.{◌≡◌, ℕ, List, true, Option, ◌∙◌, ap, refl}
 use Rattle.std.proofs.lemmas.Bool.{false≢true}
 use Rattle.displ_wire.specs.declared.Request.{Request}
 use Rattle.link_core.specs.Activities.{Page}
@@ -8,10 +8,10 @@ use Rattle.display_backend.specs.declared.display.Round.{Round}
 use Rattle.display_backend.specs.declared.display.Activity.{Activity}
 use Rattle.display_backend.specs.declared.display.Activity.TheVariants as activity
 use Rattle.link_core.specs.declared.link.Link.{Link}
-use Rattle.link_core.specs.Order.{Stand, Between}
+use Rattle.link_core.specs.Order.{Between}
 use Rattle.display_backend.specs.Activity.{is_between}
 use Rattle.display_backend.specs.Display.{stand_in}
-use Rattle.display_backend.specs.Work.{Work, End}
+use Rattle.display_backend.specs.Work.{Work}
 
 abbrev pub work : Page → Connection → ℕ → Option Request → ℕ → Round → Work
 work p c r h n round = record { page = p; connection = c; rsp = r; hand = h; left = n; round = round }

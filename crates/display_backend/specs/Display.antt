@@ -1,5 +1,5 @@
 -- Where a display stands.
-use Rattle.std.specs.Prelude.{◌≡◌, ℕ, Bool, true, false, List}
+use Rattle.std.specs.Prelude.{ℕ, List}
 use Rattle.pv_words.specs.Plan.{mapped}
 use Rattle.link_core.specs.Order.{Stand, Between, During}
 use Rattle.link_core.specs.Link.{page_of, rsp_of, take_left, answer_left, sleep_left}

@@ -5,14 +5,14 @@ use Rattle.pv_words.specs.declared.device.Said.TheVariants as said
 use Rattle.pv_words.specs.declared.device.Reason.{Reason}
 use Rattle.pv_words.specs.declared.device.Reason.TheVariants as reason
 use Rattle.pv_words.specs.declared.device.State.TheVariants as state
-use Rattle.pv_words.specs.Plan.{Plan, Finished, Want, Note, mapped, aim_of}
+use Rattle.pv_words.specs.Plan.{Finished, Want, Note, mapped, aim_of}
 use Rattle.displ_wire.specs.declared.Request.{Request}
 use Rattle.displ_wire.specs.Wire.{request_of}
 use Rattle.ring_words.specs.declared.Looked.{Looked}
 use Rattle.ring_words.specs.declared.Looked.TheVariants as looked
-use Rattle.ring_words.specs.Ring.{next_index, looked_of, since}
+use Rattle.ring_words.specs.Ring.{next_index}
 use Rattle.link_core.specs.Activities.{Page, word_of, look_plan, take_plan, answer_plan, sleep_plan}
-use Rattle.link_core.specs.Order.{Order, Act, Rest, Rules, Stand, Between}
+use Rattle.link_core.specs.Order.{Order, Act, Rest, Rules}
 use Rattle.link_core.specs.Machine.{Reading}
 use Rattle.display_backend.specs.declared.display.Connection.{Connection}
 use Rattle.display_backend.specs.declared.display.Connection.TheVariants as connection

@@ -1,21 +1,17 @@
 -- What is so of every history.
-use Rattle.std.proofs.Common.{◌≡◌, ℕ, zero, ◌<◌, List, [], ◌∷◌, ◌++◌, length, Option, Some, None, refl, sym, subst, ◌∙◌, ap, arith}
+use Rattle.std.proofs.Common.{◌≡◌, ℕ, List, [], ◌∷◌, None, refl, sym, subst, ap, arith}
 use Rattle.std.specs.List.{AllByRecursion, Any}
 use Rattle.pv_words.specs.declared.access.Access.{Access}
 use Rattle.pv_words.specs.declared.access.Access.TheVariants as access
 use Rattle.pv_words.specs.declared.grant.Hold.{Hold}
 use Rattle.pv_words.specs.declared.place.Place.{Place}
-use Rattle.pv_words.specs.declared.place.Place.TheVariants.{Cell, Grant}
-use Rattle.pv_words.specs.declared.device.Said.{Said}
 use Rattle.pv_words.specs.declared.setup.DeviceSetup.{DeviceSetup}
 use Rattle.pv_words.specs.Along.{after, Along}
-use Rattle.pv_words.specs.Held.{Holds, holding, Stays, Covers, CoversToWrite, KeepsToGrants}
-use Rattle.pv_words.specs.Plan.{Want, Note, wanted, aim_of}
+use Rattle.pv_words.specs.Held.{Holds, holding, Stays, Covers, CoversToWrite}
+use Rattle.pv_words.specs.Plan.{wanted, aim_of}
 use Rattle.link_core.specs.Activities.{Page, word_of}
-use Rattle.link_core.specs.Order.{Own, Did, Spoke, Rested, Stand, May, next, IsExplained}
-use Rattle.link_core.specs.Machine.{IsRun, history}
+use Rattle.link_core.specs.Order.{Own, Did, Spoke, Rested, Stand, next, IsExplained}
 use Rattle.link_core.proofs.MachineRun.{IsGood, good_next, meant_next, rows_at, run_after}
-use Rattle.display_backend.specs.Machine.{Rows, Moves, first_rows}
 use Rattle.display_backend.specs.Work.{Work, End, display, reading, OnPage}
 use Rattle.display_backend.proofs.Sound.{sound, first_good}
 use Rattle.pv_world.specs.Marked.{Item, own}

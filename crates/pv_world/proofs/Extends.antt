@@ -1,10 +1,9 @@
 -- What a step makes of a world's history.
-use Rattle.std.proofs.Common.{◌≡◌, ℕ, ◌<◌, ◌==◌, ◌||◌, Bool, true, false, cond, List, [], ◌∷◌, ◌++◌, Option, Some, None, refl, sym, subst, ◌∙◌, ap, eq-eqb}
+use Rattle.std.proofs.Common.{◌≡◌, ℕ, ◌<◌, ◌==◌, ◌||◌, true, cond, List, [], ◌∷◌, ◌++◌, Option, Some, None, refl, sym, subst, ◌∙◌, ap, eq-eqb}
 use Rattle.std.specs.List.{AllByRecursion}
 use Rattle.pv_words.specs.declared.access.Access.{Access}
 use Rattle.pv_words.specs.declared.access.Access.TheVariants as access
 use Rattle.pv_words.specs.declared.entry.Entry.{Entry}
-use Rattle.pv_words.specs.declared.entry.Entry.TheVariants as entry
 use Rattle.pv_words.specs.declared.place.Place.{Place}
 use Rattle.pv_words.specs.declared.place.Place.TheVariants.{Cell, Grant}
 use Rattle.pv_words.specs.declared.place.DevId.{DevId}
@@ -12,20 +11,18 @@ use Rattle.pv_words.specs.declared.device.Said.{Said}
 use Rattle.pv_words.specs.declared.device.Said.TheVariants as said
 use Rattle.pv_words.specs.declared.setup.DeviceSetup.{DeviceSetup}
 use Rattle.pv_words.specs.Along.{after, Along, after-append, Along-append}
-use Rattle.pv_words.specs.Memory.{Memory, Answers, Finds, IsLawful, IsTrueOf, access_of, memory_after, place_of, put, remembered, changed_by, without, written, zeros}
+use Rattle.pv_words.specs.Memory.{Memory, Answers, Finds, IsLawful, IsTrueOf, access_of, memory_after, place_of, remembered, changed_by, without, written, zeros}
 use Rattle.pv_words.specs.Place.{InRange, same_place}
 use Rattle.pv_words.specs.Plan.{Makes, Want, Note, aim_of, wanted}
-use Rattle.link_core.specs.Activities.{Page, word_of}
-use Rattle.link_core.specs.Order.{Own, Did, Spoke, Rested, Stand, Steps, steps_of, next, May, IsExplained, MayStep}
+use Rattle.link_core.specs.Order.{Own, Did, Stand, Steps, steps_of, next, May, IsExplained, MayStep}
 use Rattle.link_core.proofs.MachineRun.{IsGood, good_after, meant_next, may_step}
 use Rattle.display_backend.specs.Display.{stand_of}
-use Rattle.display_backend.specs.Machine.{Rows, Event}
 use Rattle.display_backend.specs.Work.{Work, End, display, reading, OnPage}
 use Rattle.display_backend.proofs.Sound.{sound, first_good}
 use Rattle.pv_world.specs.declared.world.Placed.{Placed}
-use Rattle.pv_world.specs.Marked.{Item, Entered, Idle, entries, own, entry_of, items_of}
+use Rattle.pv_world.specs.Marked.{Item, entries, own, entry_of, items_of}
 use Rattle.pv_world.specs.History.{IsHistory, Belongs, IsExplainedIn, first_stand, is_declared, ring_page}
-use Rattle.pv_world.specs.World.{Stands, IsPlacedIn, setups}
+use Rattle.pv_world.specs.World.{Stands}
 use Rattle.pv_world.proofs.Items.{entries_append, own_append, own_step}
 
 -- fronts

@@ -1,5 +1,5 @@
 -- What a store of a domain makes of a world's history.
-use Rattle.std.proofs.Common.{◌≡◌, ℕ, ◌<◌, List, [], ◌∷◌, ◌++◌, Option, Some, None, refl, sym, subst, ◌∙◌, ap}
+use Rattle.std.proofs.Common.{◌≡◌, ℕ, List, [], ◌∷◌, ◌++◌, Option, Some, None, sym, subst, ◌∙◌, ap}
 use Rattle.std.proofs.lemmas.List.{append-nil}
 use Rattle.std.specs.List.{AllByRecursion}
 use Rattle.pv_words.specs.declared.access.Access.{Access}
@@ -10,8 +10,7 @@ use Rattle.pv_words.specs.declared.setup.DeviceSetup.{DeviceSetup}
 use Rattle.pv_words.specs.Along.{after, after-append, Along-append}
 use Rattle.pv_words.specs.Memory.{Memory, Answers, IsLawful, IsTrueOf, access_of, memory_after, remembered, written, zeros}
 use Rattle.pv_words.specs.Place.{InRange}
-use Rattle.pv_words.specs.Plan.{Makes}
-use Rattle.link_core.specs.Order.{Own, Stand, IsExplained, next}
+use Rattle.link_core.specs.Order.{Own, IsExplained, next}
 use Rattle.display_backend.specs.Display.{stand_of}
 use Rattle.display_backend.specs.Work.{display}
 use Rattle.pv_world.specs.declared.world.Placed.{Placed}
@@ -19,7 +18,7 @@ use Rattle.pv_world.specs.Marked.{Item, entries, own}
 use Rattle.pv_world.specs.History.{IsHistory, Belongs, IsExplainedIn, first_stand}
 use Rattle.pv_world.specs.World.{Stands, IsPlacedIn, setups, front_store}
 use Rattle.pv_world.proofs.Items.{entries_append, own_append}
-use Rattle.pv_world.proofs.Extends.{all_append, all_weaker, in_range_from, frames_after, grants_after, words_after}
+use Rattle.pv_world.proofs.Extends.{all_append, all_weaker, in_range_from, words_after}
 
 -- a store of a domain is nothing that a device does
 own_front : (d : ℕ) (m : List Item) (at : Place) (v : ℕ) → own d (m ++ front_store at v ∷ []) ≡ own d m

@@ -3,7 +3,6 @@ use Rattle.std.proofs.Common.{◌≡◌, ℕ, ◌==◌, Bool, true, false, cond,
 use Rattle.pv_words.specs.declared.access.Access.{Access}
 use Rattle.pv_words.specs.declared.entry.Entry.{Entry}
 use Rattle.pv_words.specs.declared.entry.Entry.TheVariants as entry
-use Rattle.pv_words.specs.declared.entry.End.TheVariants as end
 use Rattle.pv_words.specs.declared.place.DevId.{DevId}
 use Rattle.pv_words.specs.declared.device.Said.{Said}
 use Rattle.pv_words.specs.declared.device.Said.TheVariants as said

@@ -1,19 +1,18 @@
 -- From single steps to a device that is served.
-use Rattle.std.proofs.Common.{◌≡◌, ℕ, ◌<◌, Bool, true, false, List, [], ◌∷◌, ◌++◌, length, Option, Some, None, Result, Ok, Err, refl, sym, subst, ◌∙◌, ap, append_assoc}
+use Rattle.std.proofs.Common.{◌≡◌, ℕ, Bool, true, false, List, [], ◌∷◌, ◌++◌, Option, Some, Result, Ok, Err, sym, subst, ◌∙◌, ap, append_assoc}
 use Rattle.std.proofs.lemmas.List.{append-nil}
 use Rattle.pv_words.specs.declared.access.Access.{Access}
 use Rattle.pv_words.specs.declared.entry.Entry.{Entry}
 use Rattle.pv_words.specs.declared.journal.Stop.{Stop}
 use Rattle.pv_words.specs.declared.journal.Stop.TheVariants.{JournalFull, OutOfMemory}
 use Rattle.pv_words.specs.declared.place.Place.{Place}
-use Rattle.pv_words.specs.declared.place.DevId.{DevId}
 use Rattle.pv_words.specs.declared.device.Said.{Said}
 use Rattle.pv_words.specs.declared.setup.DeviceSetup.{DeviceSetup}
 use Rattle.pv_world.specs.declared.world.Placed.{Placed}
 use Rattle.pv_world.specs.Marked.{Item, Entered, Idle, entries, items_of, IsStepOf, AreSteps}
-use Rattle.pv_world.specs.Record.{Records, EntersFront, IsAtLimit, is_busy}
+use Rattle.pv_world.specs.Record.{Records, IsAtLimit}
 use Rattle.pv_world.specs.History.{IsHistory}
-use Rattle.pv_world.specs.World.{Stands, Standing, StopsIn, IsFull, HasCause, Advanced, Served}
+use Rattle.pv_world.specs.World.{Stands, StopsIn, HasCause, Advanced, Served}
 use Rattle.pv_world.proofs.Items.{entries_append, busy_steps, idle_mark, front_steps, steps_append}
 use Rattle.pv_world.proofs.Extends.{history_front}
 

@@ -1,4 +1,4 @@
-use Rattle.std.proofs.Common.{None, refl, ap, ◌∙◌, sym}
+use Rattle.std.proofs.Common.{None, ap}
 use Rattle.pv_words.specs.Plan.{mapped}
 use Rattle.link_core.specs.Order.{Between, During}
 use Rattle.link_core.specs.Link.{answer_left}

@@ -1,11 +1,11 @@
-use Rattle.std.proofs.Common.{◌≡◌, Some, None, refl, ap, ◌∙◌, sym, subst}
-use Rattle.link_core.specs.Order.{Order, Act, Between, MayChoose}
+use Rattle.std.proofs.Common.{refl, subst}
+use Rattle.link_core.specs.Order.{Order, MayChoose}
 use Rattle.link_core.proofs.Steps.{steps_said, steps_rest}
 use Rattle.pv_words.specs.declared.device.Said.TheVariants as said
 use Rattle.pv_words.specs.declared.device.State.TheVariants as state
 use Rattle.display_backend.specs.declared.display.Connection.TheVariants as connection
 use Rattle.display_backend.specs.Display.{stand_of, work_of}
-use Rattle.display_backend.specs.Work.{Work, End, display, choice, settled, said_at, Shut, Left}
+use Rattle.display_backend.specs.Work.{Work, End, display, settled, said_at, Shut, Left}
 use Rattle.display_backend.proofs.Choices.{chosen}
 use Rattle.display_backend.proofs.Works.{stands_between}
 use Rattle.display_backend.proofs.display.Display.begin.Goals as goal

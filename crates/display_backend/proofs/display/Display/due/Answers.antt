@@ -1,4 +1,4 @@
-use Rattle.std.proofs.Common.{◌∙◌, ⊎_elim, ap, sym}
+use Rattle.std.proofs.Common.{◌∙◌, ⊎_elim}
 use Rattle.display_backend.specs.declared.display.Activity.TheVariants as activity
 use Rattle.display_backend.specs.declared.display.Connection.TheVariants as connection
 use Rattle.display_backend.specs.Display.{stand_of, work_of}

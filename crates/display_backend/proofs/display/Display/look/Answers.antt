@@ -1,9 +1,9 @@
-use Rattle.std.proofs.Common.{◌≡◌, Some, None, refl, ap, ◌∙◌, sym}
-use Rattle.pv_words.specs.Plan.{mapped, Finished}
-use Rattle.link_core.specs.Order.{Between, During}
+use Rattle.std.proofs.Common.{◌≡◌, Some, None, refl, ap, ◌∙◌}
+use Rattle.pv_words.specs.Plan.{Finished}
+use Rattle.link_core.specs.Order.{Between}
 use Rattle.link_core.specs.Link.{page_of, rsp_of}
 use Rattle.link_core.specs.Activities.{look_plan}
-use Rattle.link_core.proofs.Steps.{turn_ends, turn_goes_on}
+use Rattle.link_core.proofs.Steps.{turn_ends}
 use Rattle.display_backend.specs.Display.{stand_of, work_of}
 use Rattle.display_backend.specs.Work.{display, Saw, settled, said_at, after_look}
 use Rattle.ring_words.specs.declared.Looked.TheVariants as looked

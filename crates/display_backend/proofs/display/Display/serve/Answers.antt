@@ -1,13 +1,12 @@
-use Rattle.std.proofs.Common.{◌≡◌, Some, None, refl, ap, ◌∙◌, sym, arith}
+use Rattle.std.proofs.Common.{◌∙◌, sym, arith}
 use Rattle.pv_words.specs.Plan.{mapped}
 use Rattle.link_core.specs.Activities.{look_plan}
 use Rattle.link_core.specs.Link.{page_of, rsp_of, take_left, answer_left, sleep_left}
-use Rattle.link_core.specs.Order.{Act, Between}
 use Rattle.link_core.proofs.Steps.{steps_between, steps_rest}
 use Rattle.display_backend.specs.declared.display.Connection.TheVariants as connection
 use Rattle.display_backend.specs.declared.display.Round.TheVariants as round
 use Rattle.display_backend.specs.Display.{stand_of, work_of}
-use Rattle.display_backend.specs.Work.{display, choice, Saw, Took, Answered, Slept, with_hand}
+use Rattle.display_backend.specs.Work.{display, Saw, Took, Answered, Slept, with_hand}
 use Rattle.display_backend.proofs.Choices.{chosen, hand_answers, left_takes, in_its_round, round_looks, round_sleeps, may_chosen}
 use Rattle.display_backend.proofs.Works.{stands_between}
 use Rattle.display_backend.proofs.display.Display.serve.Goals as goal

@@ -1,13 +1,12 @@
-use Rattle.std.proofs.Common.{◌≡◌, refl, ap, ◌∙◌, sym, subst}
+use Rattle.std.proofs.Common.{ap, sym, subst}
 use Rattle.pv_words.specs.Plan.{mapped}
 use Rattle.link_core.specs.Link.{take_left, answer_left, sleep_left}
-use Rattle.link_core.specs.Order.{Stand, Between, During, MayStep, MayChoose, Steps}
+use Rattle.link_core.specs.Order.{MayStep, Steps}
 use Rattle.link_core.proofs.Steps.{steps_during}
 use Rattle.display_backend.specs.declared.display.Activity.{Activity}
-use Rattle.display_backend.specs.declared.display.Activity.TheVariants as activity
 use Rattle.display_backend.specs.Activity.{is_between}
 use Rattle.display_backend.specs.Display.{stand_of, work_of, stand_in}
-use Rattle.display_backend.specs.Work.{Work, End, display, choice, Took, Answered, Slept}
+use Rattle.display_backend.specs.Work.{display, Took, Answered, Slept}
 use Rattle.display_backend.proofs.Choices.{may_mapped}
 use Rattle.display_backend.proofs.display.Display.step.Goals as goal
 

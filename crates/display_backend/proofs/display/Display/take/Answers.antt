@@ -1,4 +1,4 @@
-use Rattle.std.proofs.Common.{Some, refl, ap, ◌∙◌, sym}
+use Rattle.std.proofs.Common.{Some, ap}
 use Rattle.pv_words.specs.Plan.{mapped}
 use Rattle.pv_words.specs.declared.device.Said.TheVariants as said
 use Rattle.displ_wire.specs.declared.Request.{Request}

@@ -1,4 +1,4 @@
-use Rattle.std.proofs.Common.{refl, sym}
+use Rattle.std.proofs.Common.{refl}
 use Rattle.pv_world.proofs.Extends.{may_next, extend}
 use Rattle.pv_world.proofs.Serving.{recorded}
 use Rattle.pv_world.proofs.world.Placed.advance.Goals as goal

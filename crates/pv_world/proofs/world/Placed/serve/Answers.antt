@@ -1,4 +1,4 @@
-use Rattle.std.proofs.Common.{Bool, true, false, Ok, subst, sym, ◌∙◌, ◌++◌}
+use Rattle.std.proofs.Common.{Bool, Ok, subst, sym, ◌∙◌, ◌++◌}
 use Rattle.std.proofs.lemmas.Result.{err_from_is_err_and}
 use Rattle.pv_world.specs.World.{Advanced}
 use Rattle.pv_world.proofs.Serving.{goes_on, comes_to_rest, is_stopped}

@@ -3,6 +3,7 @@ use Rattle.std.specs.Prelude.{◌≡◌, ℕ, Option, Some, None}
 use Rattle.pv_words.specs.declared.place.Place.{Place}
 use Rattle.pv_words.specs.declared.access.Access.{Access}
 use Rattle.pv_words.specs.declared.access.Access.TheVariants as access
+use Rattle.pv_words.specs.declared.grant.Hold.{Hold}
 
 -- an access without the word that it finds
 pub data Want : Type 0 where
@@ -32,8 +33,16 @@ seen_by (access.Clear at mask seen) = seen
 
 -- what an access is for
 pub data Note : Type 0 where
-  -- a word of a page that the device holds as a ring
+  -- a word of a page that the device holds as a ring, or a domain's own word
   Plain : Note
+  -- the exchange that is to begin a mapping of this reference
+  Begins : ℕ → Note
+  -- the load of the frame of the mapping of this reference that was just begun
+  Frames : ℕ → Note
+  -- the clear that takes a mapping back whose frame its domain doesn't have
+  Undoes : Note
+  -- the clear that ends this hold
+  Ends : Hold → Note
 
 -- an activity: over, with a result, or an access, what it is for, and what follows each word that it may find
 pub data Plan (A : Type 0) : Type 0 where

@@ -17,13 +17,13 @@ use Rattle.scenario_text.specs.Scenario.{Scenario}
 use Rattle.pv_world.specs.declared.world.Placed.{Placed}
 use Rattle.pv_world.specs.Marked.{Item, Entered, Idle, entries}
 use Rattle.pv_world.specs.History.{IsHistory, is_declared}
-use Rattle.pv_world.specs.World.{Stands, Stored, ServedBy, StopsIn, HasCause, IsFull, setups, front_store}
+use Rattle.pv_world.specs.World.{Stored, ServedBy, HasCause, setups, front_store}
 use Rattle.pv_world.specs.Record.{IsAtLimit}
 use Rattle.pv_world.proofs.Consequences.{machine_runs, kept}
 use Rattle.pv_world.proofs.Extends.{history_front, in_range_from}
 use Rattle.pv_world.proofs.Items.{entries_append, steps_append}
 use Rattle.scenario_run.specs.Follows.{Follows, FollowsTo, IsBegun, IsRow, IsPartOf}
-use Rattle.scenario_run.specs.Legal.{IsLegal, IsLegalTo, IsFullFor, IsTrueJournal}
+use Rattle.scenario_run.specs.Legal.{IsLegalTo, IsFullFor, IsTrueJournal}
 use Rattle.scenario_run.specs.Played.{Played, StopsAt, IsFullIn, HasCauseIn, CanPlay}
 
 module _ {W : Type 0} (word : W → Place → ℕ) (fs gs : W → ℕ → ℕ) (frames grants : ℕ → ℕ) where

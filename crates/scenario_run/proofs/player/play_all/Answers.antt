@@ -8,12 +8,10 @@ use Rattle.pv_words.specs.Sizes.{frames_by, grants_by}
 use Rattle.scenario_text.specs.declared.statement.Statement.{Statement}
 use Rattle.scenario_text.specs.declared.statement.Statement.TheVariants.{Put}
 use Rattle.scenario_text.specs.Playable.{IsPlayed}
-use Rattle.scenario_text.specs.Scenario.{Scenario}
-use Rattle.pv_world.specs.Marked.{Item}
 use Rattle.pv_world.specs.World.{setups, device_of, memory_of}
 use Rattle.pv_world.specs.History.{IsHistory}
 use Rattle.scenario_run.specs.Follows.{Follows}
-use Rattle.scenario_run.specs.Played.{StopsAt, CanPlay}
+use Rattle.scenario_run.specs.Played.{StopsAt}
 use Rattle.scenario_run.proofs.Plays.{all_at, can_play, stops_legal, stops_full, follows_push, front_is, true_journal}
 use Rattle.scenario_run.proofs.player.play_all.Goals as goal
 

@@ -7,7 +7,7 @@ use Rattle.scenario_text.specs.Reading.{scenario_of}
 use Rattle.scenario_run.specs.Legal.{IsLegal, IsLegalTo, IsFullFor}
 use Rattle.scenario_cli.specs.declared.status.Status.{Status}
 use Rattle.scenario_cli.specs.declared.status.Status.TheVariants as status
-use Rattle.scenario_cli.specs.Ending.{EndsFor, HasPlayed, IsJournalFor, IsRead, IsTrueFor}
+use Rattle.scenario_cli.specs.Ending.{EndsFor, HasPlayed, IsRead, IsTrueFor}
 
 legal_is_true : (octets : List ℕ) (es : List Entry) (s : Scenario) → scenario_of octets ≡ ok s → IsLegal s es → IsTrueFor octets es
 legal_is_true octets es s reads legal = record { scenario = s; reads = reads; marked = legal.marked; true_journal = legal.so_far }

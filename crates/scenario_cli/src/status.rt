@@ -1,7 +1,7 @@
 //! How a command ended.
 
-ghost use Rattle.std.specs.Prelude.{◌≡◌, IsTrue, ◌↔◌};
-ghost use Rattle.scenario_cli.specs.Numbers.{number_of};
+ghost use Rattle.std.specs.Prelude.{◌≡◌};
+ghost use Rattle.scenario_cli.specs.Numbers.{is_written, number_of};
 
 use scenario_text::ScriptFault;
 use std::fmt::{self, Display, Formatter};
@@ -49,7 +49,9 @@ impl Status {
     }
 
     /// Whether the whole output was written.
-    pub fn has_output(self) -> bool {
+    pub fn has_output(self) -> bool
+        ensures { result ≡ is_written self }
+    {
         matches!(self, Status::Ok | Status::JournalFull)
     }
 }

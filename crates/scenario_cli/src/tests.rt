@@ -7,9 +7,9 @@ use std::alloc::AllocError;
 use std::mem::size_of;
 use std::test::Fail;
 
-// A page with one request, whose operation is the low half of this word.
 const DOMAIN_AND_DISPLAY: &str = "domain 1 wild 1 0\ndisplay 1 1 1\n";
 
+// One SET_CONFIG of zeros.
 const ONE_REQUEST: &str =
     "domain 1 wild 1 0\ndisplay 1 1 1\nput 1 0 3 1\nput 1 0 16 0x00040001\nput 1 0 0 1\nserve 1\n";
 

@@ -41,9 +41,8 @@ fn play_text<K: Sink>(alloc: Global, text: &[u8], sink: &mut K, journal: &mut Jo
     }
 }
 
-/// Does what the words ask for: with `run`, it reads a script to its end, plays it into the journal, and then writes
-/// the report, line by line. No source and no sink makes it stay inside less than the pages that the devices were
-/// granted: whatever the result, the journal is true.
+/// Does what the words ask for: with `run`, it reads a script to its end, plays it into the journal, and then writes the
+/// report, one line at a time. With `Usage`, `Script`, `ReadFault` and `TooLong` nothing is played or written.
 #[tactic(auto, using(crate::proofs::Playing::has_played))]
 pub fn run<S: Source, K: Sink>(
     alloc: Global,

@@ -67,13 +67,13 @@ written_same m n (access.Store at v) q e = ap (λ x. cond (same_place at q) v x)
 written_same m n (access.Cas at old new seen) q e = ap (λ x. cond (seen == old) (cond (same_place at q) new x) x) e
 written_same m n (access.Clear at mask seen) q e = ap (λ x. cond (same_place at q) (without seen mask) x) e
 
-finds_same : (m n : Memory) (a : Access) → m (place_of a) ≡ n (place_of a) → Finds m a → Finds n a
+pub finds_same : (m n : Memory) (a : Access) → m (place_of a) ≡ n (place_of a) → Finds m a → Finds n a
 finds_same m n (access.Load at v) e f = f ∙ e
 finds_same m n (access.Store at v) e f = tt
 finds_same m n (access.Cas at old new seen) e f = f ∙ e
 finds_same m n (access.Clear at mask seen) e f = f ∙ e
 
-aimed : (a : Access) → place_of a ≡ aim_of (wanted a)
+pub aimed : (a : Access) → place_of a ≡ aim_of (wanted a)
 aimed (access.Load at v) = refl
 aimed (access.Store at v) = refl
 aimed (access.Cas at old new seen) = refl

@@ -35,7 +35,7 @@ abbrev pub IsNoState : Said → Type 0
 IsNoState (said.State s) = ⊥
 IsNoState other = Unit {0}
 
--- an entry is an access of a domain, or a declared device's
+-- an entry is an access of a domain, what a domain is told, or a declared device's
 abbrev pub Belongs : List DeviceSetup → Entry → Type 0
 Belongs devices (entry.Front dom a) = Unit {0}
 Belongs devices (entry.Back dev a) = is_declared devices dev.0 ≡ true
@@ -46,7 +46,7 @@ Belongs devices (entry.Wake dev) = ⊥
 Belongs devices (entry.Host dev e) = ⊥
 Belongs devices (entry.Refused dev r) = ⊥
 Belongs devices (entry.Node dev p k v) = ⊥
-Belongs devices (entry.Told dom t) = ⊥
+Belongs devices (entry.Told dom t) = Unit {0}
 
 -- the device's entries are its order of work
 abbrev pub IsExplainedIn : List Item → DeviceSetup → Type 0

@@ -1,4 +1,5 @@
 pub mod History
 pub mod Marked
+pub mod Owner
 pub mod Record
 pub mod World

@@ -7,11 +7,12 @@ use Rattle.pv_words.specs.declared.journal.Stop.TheVariants.{JournalFull, OutOfM
 use Rattle.pv_words.specs.declared.place.Place.{Place}
 use Rattle.pv_words.specs.declared.setup.DeviceSetup.{DeviceSetup}
 use Rattle.pv_words.specs.Along.{after}
-use Rattle.pv_words.specs.Memory.{memory_after}
+use Rattle.pv_words.specs.Memory.{memory_after, place_of}
 use Rattle.pv_words.specs.Place.{InRange, domain_of}
 use Rattle.link_core.specs.Order.{next}
 use Rattle.display_backend.specs.Display.{stand_of}
 use Rattle.display_backend.specs.Work.{display}
+use Rattle.pv_words.specs.declared.access.Access.{Access}
 use Rattle.pv_words.specs.declared.access.Access.TheVariants as access
 use Rattle.pv_words.specs.declared.entry.Entry.TheVariants as entry
 use Rattle.pv_world.specs.declared.world.Placed.{Placed}
@@ -86,9 +87,17 @@ memory_of w = w.memory
 abbrev pub device_of : {W : Type 0} → World W → Option Placed
 device_of w = w.device
 
--- what a domain enters where it stores a word
+-- what a domain enters where it makes an access
+abbrev pub front_access : Access → Item
+front_access a = Entered (entry.Front (record { 0 = domain_of (place_of a) }) a)
+
+-- where it stores a word
 abbrev pub front_store : Place → ℕ → Item
-front_store at v = Entered (entry.Front (record { 0 = domain_of at }) (access.Store at v))
+front_store at v = front_access (access.Store at v)
+
+-- where it exchanges one
+abbrev pub front_swap : Place → ℕ → ℕ → ℕ → Item
+front_swap at old new seen = front_access (access.Cas at old new seen)
 
 -- a new world: no entry, all words 0, as many frames and grants as declared, and each device's domain has its ring's page
 pub record IsNew {W : Type 0} (word : W → Place → ℕ) (frames_of grants_of : W → ℕ → ℕ) (frames grants : ℕ → ℕ) (memory : W) (devices : List DeviceSetup) : Type 0 where
@@ -103,6 +112,13 @@ Stored word fs gs frames grants memory device at v es m (Ok x) =
     Stands word fs gs frames grants memory device (m ++ front_store at v ∷ []) × (entries (m ++ front_store at v ∷ []) ≡ es)
 Stored word fs gs frames grants memory device at v es m (Err stop) =
     IsHistory frames grants (setups device) (m ++ front_store at v ∷ []) × ((entries m ≡ es) × IsAtLimit stop es)
+
+-- a word was exchanged where it was `old`, or there was no room for the entry
+abbrev pub Exchanged : {W : Type 0} (word : W → Place → ℕ) (frames_of grants_of : W → ℕ → ℕ) (frames grants : ℕ → ℕ) (memory : W) (device : Option Placed) (at : Place) (old new : ℕ) (es : List Entry) (m : List Item) {A : Type 0} → Result A Stop → Type 0
+Exchanged word fs gs frames grants memory device at old new es m (Ok x) =
+    (seen : ℕ) × Stands word fs gs frames grants memory device (m ++ front_swap at old new seen ∷ []) × (entries (m ++ front_swap at old new seen ∷ []) ≡ es)
+Exchanged word fs gs frames grants memory device at old new es m (Err stop) =
+    (seen : ℕ) × IsHistory frames grants (setups device) (m ++ front_swap at old new seen ∷ []) × (entries m ≡ es) × IsAtLimit stop es
 
 -- the device was stepped until it was idle, or was stopped
 abbrev pub ServedBy : {W : Type 0} (word : W → Place → ℕ) (frames_of grants_of : W → ℕ → ℕ) (frames grants : ℕ → ℕ) (memory : W) (device : Option Placed) (d : ℕ) (es : List Entry) (m : List Item) {A : Type 0} → Result A Stop → Type 0

@@ -35,9 +35,13 @@ is_with_words_only (entry.Node _ _ _ _) = true
 is_with_words_only (entry.Said _ _) = false
 is_with_words_only (entry.Told _ _) = false
 
+-- whether an entry has a line
+abbrev pub has_line : Entry → Bool → Bool
+has_line e with_words = with_words || not (is_with_words_only e)
+
 -- the line of an entry, empty where it has none
 unfoldable pub line : Entry → Bool → List ℕ
-line e with_words = if with_words || not (is_with_words_only e) then line_of_fields (entry_fields e) else []
+line e with_words = if has_line e with_words then line_of_fields (entry_fields e) else []
 
 -- the lines of the entries, one after another
 abbrev pub text : List Entry → Bool → List ℕ

@@ -10,4 +10,4 @@ mod hosts;
 mod report;
 
 pub use builder::{Line, MAX_LINE_LEN};
-pub use report::line_of;
+pub use report::{has_line, line_of};

@@ -1,8 +1,8 @@
 //! The line of an entry.
 
-ghost use Rattle.std.specs.Prelude.{◌≡◌, ◌<◌, ◌≤◌, length};
+ghost use Rattle.std.specs.Prelude.{◌≡◌, ◌<◌, ◌≤◌, [], false, length};
 ghost use Rattle.report_text.specs.Fields.{joined};
-ghost use Rattle.report_text.specs.Report.{entry_fields, is_with_words_only, line};
+ghost use Rattle.report_text.specs.Report.{entry_fields, has_line, is_with_words_only, line};
 
 use crate::accesses::push_access;
 use crate::builder::{Line, MAX_LINE_LEN};
@@ -56,6 +56,17 @@ fn write_entry(out: &mut Line, e: &Entry)
     }
 }
 
+/// Says whether an entry has a line: an access, a wake-up, a host's event and a set node have one only where
+/// `with_words` is true.
+#[inline]
+#[tactic(auto, unfolding(crate::specs::Report::line))]
+pub fn has_line(e: &Entry, with_words: bool) -> bool
+    ensures exact { result ≡ has_line e.now with_words }
+    ensures none { result ≡ false → line e.now with_words ≡ [] }
+{
+    with_words || !is_with_words_only(e)
+}
+
 /// The line of an entry, with its line feed. It is empty where the entry has none: an access, a
 /// wake-up, a host's event and a set node have a line only where `with_words` is true.
 #[tactic(auto, unfolding(crate::specs::Report::line))]
@@ -64,7 +75,7 @@ pub fn line_of(e: &Entry, with_words: bool) -> Line
     ensures length { length result ≤ MAX_LINE_LEN }
 {
     let mut out = Line::new();
-    if with_words || !is_with_words_only(e) {
+    if has_line(e, with_words) {
         write_entry(&mut out, e);
         out.push_text(b"\n");
     }

@@ -6,7 +6,7 @@ ghost use Rattle.report_text.specs.Report.{text};
 
 use pv_ports::{Failed, Sink, write_all};
 use pv_words::Entry;
-use report_text::line_of;
+use report_text::{has_line, line_of};
 
 /// Writes the lines of the entries, one after another, each as a piece of its own; an entry without a line writes
 /// nothing. At an `Err` the sink has got a front of the text.
@@ -22,8 +22,8 @@ pub fn write_report<K: Sink>(
     ensures cause { HasCause (K.faults sink.old) (K.faults sink.new) result }
 {
     for entry in entries {
-        let line = line_of(entry, with_words);
-        if !line.is_empty() {
+        if has_line(entry, with_words) {
+            let line = line_of(entry, with_words);
             write_all(sink, line.as_bytes())?;
         }
     }

@@ -10,14 +10,14 @@ use Rattle.pv_words.specs.declared.place.Place.{Place}
 use Rattle.pv_words.specs.declared.setup.DeviceSetup.{DeviceSetup}
 use Rattle.pv_words.specs.Sizes.{frames_by, grants_by}
 use Rattle.scenario_text.specs.declared.statement.Statement.{Statement}
-use Rattle.scenario_text.specs.declared.statement.Statement.TheVariants.{Put, Serve}
+use Rattle.scenario_text.specs.declared.statement.Statement.TheVariants.{Put, Serve, Swap}
 use Rattle.scenario_text.specs.Lookups.{has_device}
 use Rattle.scenario_text.specs.Playable.{IsPlayed}
 use Rattle.scenario_text.specs.Scenario.{Scenario}
 use Rattle.pv_world.specs.declared.world.Placed.{Placed}
 use Rattle.pv_world.specs.Marked.{Item, Entered, Idle, entries}
 use Rattle.pv_world.specs.History.{IsHistory, is_declared}
-use Rattle.pv_world.specs.World.{Stored, ServedBy, HasCause, setups, front_store}
+use Rattle.pv_world.specs.World.{Exchanged, Stored, ServedBy, HasCause, setups, front_store, front_swap}
 use Rattle.pv_world.specs.Record.{IsAtLimit}
 use Rattle.pv_world.proofs.Consequences.{machine_runs, kept}
 use Rattle.pv_world.proofs.Extends.{history_front, in_range_from}
@@ -40,6 +40,21 @@ module _ {W : Type 0} (word : W → Place → ℕ) (fs gs : W → ℕ → ℕ) (
         so_far = subst (λ (x : List Item). IsHistory frames grants (setups device) x) (sym (append-nil m)) (history_front frames grants (setups device) m (front_store at v ∷ []) h.0);
         entered = ap entries (append-nil m) ∙ h.1.0;
         cause = put_cause (setups device) at v stop m es h.0 h.1.1;
+      }
+
+  swap_cause : (devices : List DeviceSetup) (at : Place) (old new seen : ℕ) (stop : Stop) (m : List Item) (es : List Entry) → IsHistory frames grants devices (m ++ front_swap at old new seen ∷ []) → IsAtLimit stop es → HasCauseIn frames grants devices (Swap at old new) m [] es stop
+  swap_cause devices at old new seen JournalFull m es h limit = record { length_is = limit; due = _; goes_on = h; next = inr (seen, refl) }
+  swap_cause devices at old new seen OutOfMemory m es h limit = tt
+
+  pub swap_played : {A : Type 0} (memory : W) (device : Option Placed) (at : Place) (old new : ℕ) (es : List Entry) (m : List Item) (r : Result A Stop) → Exchanged word fs gs frames grants memory device at old new es m r → Played word fs gs frames grants memory device (Swap at old new) es m r
+  swap_played memory device at old new es m (Ok x) h = (front_swap at old new h.0 ∷ [], (h.0, refl), h.1, h.2)
+  swap_played memory device at old new es m (Err stop) h =
+      record {
+        part = [];
+        of = refl;
+        so_far = subst (λ (x : List Item). IsHistory frames grants (setups device) x) (sym (append-nil m)) (history_front frames grants (setups device) m (front_swap at old new h.0 ∷ []) h.1);
+        entered = ap entries (append-nil m) ∙ h.2;
+        cause = swap_cause (setups device) at old new h.0 stop m es h.1 h.3;
       }
 
   serve_cause : (devices : List DeviceSetup) (dev : DevId) (stop : Stop) (m here : List Item) (es : List Entry) → IsPartOf (Serve dev) here → HasCause frames grants devices dev.0 (m ++ here) es stop → HasCauseIn frames grants devices (Serve dev) m here es stop
@@ -67,6 +82,7 @@ follows_push (s ∷ ss) x m here f row =
 none_begun : (ss : List Statement) → IsBegun ss []
 none_begun [] = refl
 none_begun (Put at v ∷ ss) = refl
+none_begun (Swap at old new ∷ ss) = refl
 none_begun (Serve dev ∷ ss) = tt
 
 -- whatever was played
@@ -154,4 +170,5 @@ all_at P (x ∷ xs) (suc i) d h l = all_at P xs i d h.1 (omega arith)
 pub can_play : (s : Scenario) (f g : ℕ → ℕ) (devices : List DeviceSetup) (x : Statement) → ((d : ℕ) → f d ≡ frames_by s.sizes d) → ((d : ℕ) → g d ≡ grants_by s.sizes d) → devices ≡ s.devices → IsPlayed s x → CanPlay f g devices x
 unfolding has_device
 can_play s f g devices (Put at v) a b e h = in_range_from (frames_by s.sizes) f (grants_by s.sizes) g (λ d. sym (a d)) (λ d. sym (b d)) at h.0
+can_play s f g devices (Swap at old new) a b e h = in_range_from (frames_by s.sizes) f (grants_by s.sizes) g (λ d. sym (a d)) (λ d. sym (b d)) at h.0
 can_play s f g devices (Serve dev) a b e h = subst (λ (ds : List DeviceSetup). is_declared ds dev.0 ≡ true) (sym e) h

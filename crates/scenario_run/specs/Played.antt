@@ -9,7 +9,7 @@ use Rattle.scenario_text.specs.declared.statement.Statement.{Statement}
 use Rattle.pv_world.specs.declared.world.Placed.{Placed}
 use Rattle.pv_world.specs.Marked.{Item, Entered, entries}
 use Rattle.pv_words.specs.Place.{InRange}
-use Rattle.scenario_text.specs.declared.statement.Statement.TheVariants.{Put, Serve}
+use Rattle.scenario_text.specs.declared.statement.Statement.TheVariants.{Put, Serve, Swap}
 use Rattle.pv_world.specs.History.{IsHistory, is_declared}
 use Rattle.pv_world.specs.World.{Stands, setups}
 use Rattle.scenario_run.specs.Follows.{IsRow, IsPartOf}
@@ -41,4 +41,5 @@ Played word fs gs frames grants memory device s es m (Err stop) = StopsAt frames
 -- a statement may be played: its place is in range, its device is declared
 abbrev pub CanPlay : (frames grants : ℕ → ℕ) → List DeviceSetup → Statement → Type 0
 CanPlay frames grants devices (Put at v) = InRange frames grants at
+CanPlay frames grants devices (Swap at old new) = InRange frames grants at
 CanPlay frames grants devices (Serve dev) = is_declared devices dev.0 ≡ true

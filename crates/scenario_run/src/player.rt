@@ -30,6 +30,7 @@ fn play_statement<W: Machine>(
 {
     match statement {
         Statement::Put(place, v) => world.put(*place, *v, journal),
+        Statement::Swap(place, old, new) => world.swap(*place, *old, *new, journal),
         Statement::Serve(dev) => world.serve(*dev, journal),
     }
 }

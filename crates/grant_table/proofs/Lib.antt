@@ -1,0 +1,6 @@
+pub mod Bits
+pub mod Holdings
+pub mod Maps
+pub mod Outcomes
+pub mod Owns
+pub mod Plans

@@ -1,0 +1,86 @@
+-- What maps and ends come to.
+use Rattle.std.proofs.Common.{◌≡◌, ℕ, ◌%◌, ◌/◌, ◌==◌, ◌&&◌, ◌||◌, Bool, true, false, not, cond, nat_lt, bit_and, List, [], ◌∷◌, Option, Some, None, is_some, Result, Ok, Err, refl, sym, ◌∙◌, ap, arith}
+use Rattle.std.proofs.lemmas.Bool.{false≢true}
+use Rattle.std.proofs.lemmas.Bool.Decides.{nat_tests}
+use Rattle.pv_words.specs.declared.grant.Hold.{Hold}
+use Rattle.pv_words.specs.declared.grant.Mode.{Mode}
+use Rattle.pv_words.specs.declared.grant.Mode.TheVariants.{Read, Write}
+use Rattle.pv_words.specs.declared.grant.GrantRefusal.{GrantRefusal}
+use Rattle.pv_words.specs.declared.grant.GrantRefusal.TheVariants.{NoEntry, Moved, NotPermitted, OtherDomain, ReadOnly, InUse}
+use Rattle.pv_words.specs.Held.{permits}
+use Rattle.pv_words.specs.Memory.{without}
+use Rattle.pv_words.specs.Plan.{Finished}
+use Rattle.grant_table.specs.declared.owner.Owned.{Owned}
+use Rattle.grant_table.specs.declared.owner.Owned.TheVariants.{Ended, Busy}
+use Rattle.grant_table.specs.declared.owner.Owned.TheVariants as owned
+use Rattle.grant_table.specs.Flags.{refusal_of, has, used}
+use Rattle.grant_table.specs.Mapping.{hold_of, undo_plan, frame_plan, with_flags, flags_plan}
+use Rattle.grant_table.specs.Owning.{ended_at}
+use Rattle.grant_table.specs.Laws.{RefusesExactly, MapsExactly, EndsExactly, GrantsExactly, outcome, won, closed, Means}
+use Rattle.grant_table.proofs.Bits.{test_280, test_284, without_used}
+
+-- the tests of a flags' word one after another, and all of them at once
+chain : (word : ℕ) (one whole foreign spare free : Bool) → is_some (cond (not one || not whole) (Some (NotPermitted word)) (cond (not foreign) (Some (OtherDomain word)) (cond (not spare) (Some (ReadOnly word)) (cond (not free) (Some (InUse word)) None)))) ≡ not (one && (foreign && (spare && (whole && free))))
+chain word false whole foreign spare free = refl
+chain word true false false spare free = refl
+chain word true false true false free = refl
+chain word true false true true free = refl
+chain word true true false spare free = refl
+chain word true true true false free = refl
+chain word true true true true false = refl
+chain word true true true true true = refl
+
+pub refuses_exactly : RefusesExactly
+refuses_exactly word Read =
+    chain word (word % 4 == 1) (bit_and word 256 == 0) (word / 65536 == 0) true (bit_and word 24 == 0)
+    ∙ ap (λ t. not ((word % 4 == 1) && ((word / 65536 == 0) && t))) (sym (test_280 word))
+refuses_exactly word Write =
+    chain word (word % 4 == 1) (bit_and word 256 == 0) (word / 65536 == 0) (bit_and word 4 == 0) (bit_and word 24 == 0)
+    ∙ ap (λ t. not ((word % 4 == 1) && ((word / 65536 == 0) && t))) (ap (λ t. (bit_and word 4 == 0) && t) (sym (test_280 word)) ∙ sym (test_284 word))
+
+module _ (frames dom gref : ℕ) (mode : Mode) (word seen frame last : ℕ) where
+  named : (b : Bool) → won (outcome (cond b (Finished (Ok (hold_of dom gref mode frame))) (undo_plan dom gref mode frame)) (last ∷ [])) ≡ cond b (Some (hold_of dom gref mode frame)) None
+  named true = refl
+  named false = refl
+
+  begun : (b : Bool) → won (outcome (cond b (frame_plan frames dom gref mode) (Finished (Err (Moved word seen)))) (frame ∷ last ∷ [])) ≡ cond (b && nat_lt frame frames) (Some (hold_of dom gref mode frame)) None
+  begun true = named (nat_lt frame frames)
+  begun false = refl
+
+  asked : (r : Option GrantRefusal) → won (outcome (with_flags frames dom gref mode word r) (seen ∷ frame ∷ last ∷ [])) ≡ cond (not (is_some r) && ((seen == word) && nat_lt frame frames)) (Some (hold_of dom gref mode frame)) None
+  asked None = begun (seen == word)
+  asked (Some r) = refl
+
+  entered : (b : Bool) → won (outcome (cond b (flags_plan frames dom gref mode) (Finished (Err (NoEntry gref)))) (word ∷ seen ∷ frame ∷ last ∷ [])) ≡ cond (b && (not (is_some (refusal_of word mode)) && ((seen == word) && nat_lt frame frames))) (Some (hold_of dom gref mode frame)) None
+  entered true = asked (refusal_of word mode)
+  entered false = refl
+
+not_not : (b c : Bool) → b ≡ not c → not b ≡ c
+not_not b true e = ap not e
+not_not b false e = ap not e
+
+pub maps_exactly : MapsExactly
+maps_exactly frames grants dom gref mode word seen frame last =
+    entered frames dom gref mode word seen frame last (nat_lt gref grants)
+    ∙ ap (λ t. cond (nat_lt gref grants && (t && ((seen == word) && nat_lt frame frames))) (Some (hold_of dom gref mode frame)) None) (not_not (is_some (refusal_of word mode)) (permits word mode) (refuses_exactly word mode))
+
+-- the in-use bits of the word seen, and whether it is the word that was asked for
+ending : (word seen : ℕ) (busy same : Bool) → has seen used ≡ busy → (seen == without word used) ≡ same → (busy ≡ true → same ≡ true → ⊥) → Means (cond busy (Busy seen) (cond same Ended (owned.Moved word seen))) seen (cond same 0 seen)
+ending word seen true true b s clash = absurd (clash refl refl)
+ending word seen true false b s clash = (b, (refl, refl))
+ending word seen false true b s clash = (b, refl)
+ending word seen false false b s clash = (b, (refl, refl))
+
+pub ends_exactly : EndsExactly
+ends_exactly word seen =
+    ending word seen (has seen used) (seen == without word used) refl refl (λ busy same.
+        let equal : seen ≡ without word used = grind (arith, nat_tests) in
+        let none : bit_and seen 24 ≡ 0 = ap (λ x. bit_and x 24) equal ∙ without_used word in
+        let free : (bit_and seen 24 == 0) ≡ true = grind (arith, nat_tests) in
+        false≢true (sym (ap not free) ∙ busy))
+
+pub grants_exactly : GrantsExactly
+grants_exactly Read Read = refl
+grants_exactly Read Write = refl
+grants_exactly Write Read = refl
+grants_exactly Write Write = refl

@@ -1,0 +1,15 @@
+use Rattle.std.proofs.Common.{refl}
+use Rattle.grant_table.specs.MapLeft.{map_left, dom_of, is_over}
+use Rattle.grant_table.proofs.map.MapStep.new.Goals as goal
+
+pub returns-clause-whole : goal.returns-clause-whole
+unfolding map_left
+returns-clause-whole c = λ frames grants. refl
+
+pub returns-clause-dom : goal.returns-clause-dom
+unfolding dom_of
+returns-clause-dom c = refl
+
+pub returns-clause-begins : goal.returns-clause-begins
+unfolding is_over
+returns-clause-begins c = refl

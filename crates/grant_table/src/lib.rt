@@ -1,0 +1,14 @@
+//! Grant entries, version 1 of the grant table (`xen/include/public/grant_table.h`), one access at a time: what
+//! a device does to hold a page of a domain, and what the domain does to grant it.
+#![tactic(auto)]
+
+pub mod laws;
+pub mod map;
+pub mod owner;
+
+pub use laws::{ends_exactly, grants_exactly, holds_exactly, maps_exactly};
+pub use map::{MapStep, unmap};
+pub use owner::{Owned, OwnerStep};
+
+#[cfg(test)]
+mod tests;

@@ -1,0 +1,195 @@
+//! A device maps a grant entry, and unmaps it.
+
+ghost use Rattle.std.specs.Prelude.{◌≡◌, ◌<◌, ℕ, false, Some, None, is_some};
+ghost use Rattle.pv_words.specs.Held.{in_use};
+ghost use Rattle.pv_words.specs.Plan.{wanted};
+ghost use Rattle.grant_table.specs.Flags.{refusal_of};
+ghost use Rattle.grant_table.specs.Mapping.{unmap_want};
+
+use pv_words::{Access, DomId, Frame, GrantRef, GrantRefusal, Half, Hold, Mode, Place, Turn, Words};
+
+/// A bit of the flags: the grant is read-only.
+const READ_ONLY: u32 = 4;
+
+/// The in-use bits of the flags: 8 reading, 16 writing.
+const READING: u32 = 8;
+
+const WRITING: u32 = 16;
+
+/// A bit of the flags: a part of a page is granted.
+const SUB_PAGE: u32 = 256;
+
+// What a map does next.
+#[derive(Clone, Copy)]
+enum MapStage {
+    // It loads the flags.
+    Start,
+    // It sets the in-use bits in these flags.
+    Begin(u16),
+    // It loads the frame.
+    Name,
+    // It clears the in-use bits, since the domain has no such frame.
+    Undo(u32),
+    Over(Result<Hold, GrantRefusal>),
+}
+
+/// A map of one grant entry: how far it has come. Each step makes the next access.
+#[derive(Drop)]
+pub struct MapStep {
+    dom: DomId,
+    gref: GrantRef,
+    mode: Mode,
+    stage: MapStage,
+}
+
+// The in-use bits of a mapping.
+fn bits_of(mode: Mode) -> u32
+    ensures exact { result ≡ in_use mode }
+    ensures small { result < 32 }
+{
+    match mode {
+        Mode::Read => READING,
+        Mode::Write => READING | WRITING,
+    }
+}
+
+// Why a flags' word refuses to be mapped. One that doesn't has domid 0, so that it is the flags alone.
+fn refusal_of(word: u32, mode: Mode) -> Option<GrantRefusal>
+    ensures exact { result ≡ refusal_of word mode }
+    ensures small { result ≡ None → word < 65536 }
+{
+    if word % 4 != 1 || word & SUB_PAGE != 0 {
+        return Some(GrantRefusal::NotPermitted(word));
+    }
+    if word / 65536 != 0 {
+        return Some(GrantRefusal::OtherDomain(word));
+    }
+    let writes = match mode {
+        Mode::Read => false,
+        Mode::Write => true,
+    };
+    if writes && word & READ_ONLY != 0 {
+        return Some(GrantRefusal::ReadOnly(word));
+    }
+    if word & (READING | WRITING) != 0 {
+        return Some(GrantRefusal::InUse(word));
+    }
+    None
+}
+
+impl MapStep {
+    ghost use Rattle.pv_words.specs.Plan.{MayGo, Makes};
+    ghost use Rattle.grant_table.specs.declared.map.MapStage.TheVariants as stage;
+    ghost use Rattle.grant_table.specs.Mapping.{map_plan, Advances, HoldsByAccess};
+    ghost use Rattle.grant_table.specs.MapLeft.{map_left, dom_of, is_over};
+
+    /// A map of this entry of the domain's grant table, before its first access.
+    pub fn new(dom: DomId, gref: GrantRef, mode: Mode) -> MapStep
+        ensures whole { (frames grants : ℕ) → map_left frames grants result ≡ map_plan frames grants dom.0 gref.0 mode }
+        ensures dom { dom_of result ≡ dom.0 }
+        ensures begins { is_over result ≡ false }
+    {
+        MapStep {
+            dom,
+            gref,
+            mode,
+            stage: MapStage::Start,
+        }
+    }
+
+    // The map is done.
+    fn ends(&mut self, access: Option<Access>, end: Result<Hold, GrantRefusal>) -> Turn<Result<Hold, GrantRefusal>>
+        ensures access { result.access ≡ access }
+        ensures done { result.done ≡ Some end }
+        ensures left { self.new ≡ record { dom = self.old.dom; gref = self.old.gref; mode = self.old.mode; stage = stage.Over end } }
+    {
+        self.stage = MapStage::Over(end);
+        Turn {
+            access,
+            done: Some(end),
+        }
+    }
+
+    /// Makes the next access of the map. Done is the page that is held from then on, or why it was refused, by the
+    /// first reason that applies. A reference that the grant table doesn't have is refused without an access; a map
+    /// that is done answers the same again, without one.
+    pub fn step<W: Words>(&mut self, words: &mut W) -> Turn<Result<Hold, GrantRefusal>>
+        requires { MayGo (W.may words.old) (map_left (W.frames_of words.old (dom_of self.old)) (W.grants_of words.old (dom_of self.old)) self.old) }
+        ensures advances { Advances (map_left (W.frames_of words.old (dom_of self.old)) (W.grants_of words.old (dom_of self.old)) self.old) result.access result.done (map_left (W.frames_of words.old (dom_of self.old)) (W.grants_of words.old (dom_of self.old)) self.new) }
+        ensures made { Makes W.makes words.old result.access words.new }
+        ensures dom { dom_of self.new ≡ dom_of self.old }
+        ensures over { is_over self.new ≡ is_some result.done }
+        ensures held { is_over self.old ≡ false → HoldsByAccess result.access result.done }
+    {
+        let flags = Place::Grant(self.dom, self.gref, Half::Flags);
+        match self.stage {
+            MapStage::Start => {
+                if self.gref.0 >= words.grants(self.dom) {
+                    return self.ends(None, Err(GrantRefusal::NoEntry(self.gref.0)));
+                }
+                let word = words.load(flags);
+                let access = Access::Load(flags, word);
+                if let Some(refusal) = refusal_of(word, self.mode) {
+                    return self.ends(Some(access), Err(refusal));
+                }
+                self.stage = MapStage::Begin(word as u16);
+                Turn {
+                    access: Some(access),
+                    done: None,
+                }
+            }
+            MapStage::Begin(word) => {
+                let old = word as u32;
+                let new = old + bits_of(self.mode);
+                let seen = words.swap_if(flags, old, new);
+                let access = Access::Cas(flags, old, new, seen);
+                if seen != old {
+                    return self.ends(Some(access), Err(GrantRefusal::Moved(old, seen)));
+                }
+                self.stage = MapStage::Name;
+                Turn {
+                    access: Some(access),
+                    done: None,
+                }
+            }
+            MapStage::Name => {
+                let frames = words.frames(self.dom);
+                let at = Place::Grant(self.dom, self.gref, Half::FrameNo);
+                let frame = words.load(at);
+                let access = Access::Load(at, frame);
+                if frame < frames {
+                    let hold = Hold {
+                        dom: self.dom,
+                        gref: self.gref,
+                        frame: Frame(frame),
+                        mode: self.mode,
+                    };
+                    return self.ends(Some(access), Ok(hold));
+                }
+                self.stage = MapStage::Undo(frame);
+                Turn {
+                    access: Some(access),
+                    done: None,
+                }
+            }
+            MapStage::Undo(frame) => {
+                let mask = bits_of(self.mode);
+                let seen = words.clear(flags, mask);
+                self.ends(Some(Access::Clear(flags, mask, seen)), Err(GrantRefusal::BadFrame(frame)))
+            }
+            MapStage::Over(end) => self.ends(None, end),
+        }
+    }
+}
+
+/// Ends a hold: the in-use bits that its mapping set are cleared. Answers the access.
+pub fn unmap<W: Words>(hold: &Hold, words: &mut W) -> Access
+    requires { W.may words.old (unmap_want hold.now) }
+    ensures clears { wanted result ≡ unmap_want hold.now }
+    ensures made { W.makes words.old result words.new }
+{
+    let at = Place::Grant(hold.dom, hold.gref, Half::Flags);
+    let mask = bits_of(hold.mode);
+    let seen = words.clear(at, mask);
+    Access::Clear(at, mask, seen)
+}

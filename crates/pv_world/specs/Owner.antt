@@ -1,0 +1,118 @@
+-- What a domain enters for a grant entry of its own: the accesses of a permit or an end, and then what it is told.
+use Rattle.std.specs.Prelude.{◌≡◌, ℕ, ◌⊎◌, Bool, true, false, List, [], ◌∷◌, ◌++◌, length, Option, Some, None, Result, Ok, Err, is_none}
+use Rattle.pv_words.specs.declared.access.Access.{Access}
+use Rattle.pv_words.specs.declared.entry.Entry.{Entry}
+use Rattle.pv_words.specs.declared.entry.Entry.TheVariants as entry
+use Rattle.pv_words.specs.declared.entry.Told.{Told}
+use Rattle.pv_words.specs.declared.entry.Told.TheVariants as told
+use Rattle.pv_words.specs.declared.journal.Stop.{Stop}
+use Rattle.pv_words.specs.declared.journal.Stop.TheVariants.{JournalFull, OutOfMemory}
+use Rattle.pv_words.specs.declared.place.DomId.{DomId}
+use Rattle.pv_words.specs.declared.place.GrantRef.{GrantRef}
+use Rattle.pv_words.specs.declared.place.Half.{Half}
+use Rattle.pv_words.specs.declared.place.Place.{Place}
+use Rattle.pv_words.specs.declared.place.Place.TheVariants.{Grant}
+use Rattle.pv_words.specs.declared.setup.DeviceSetup.{DeviceSetup}
+use Rattle.pv_words.specs.Plan.{Plan, Finished, Want, Note, Fits, Goes, IsUnfinished, aim_of}
+use Rattle.grant_table.specs.declared.owner.Owned.{Owned}
+use Rattle.grant_table.specs.declared.owner.Owned.TheVariants as owned
+use Rattle.grant_table.specs.OwnerLeft.{permit_left, end_left}
+use Rattle.pv_world.specs.declared.owner.Owning.{Owning}
+use Rattle.pv_world.specs.declared.owner.Owning.TheVariants as owning
+use Rattle.pv_world.specs.declared.world.Placed.{Placed}
+use Rattle.pv_world.specs.Marked.{Item, Entered, entries}
+use Rattle.pv_world.specs.History.{IsHistory}
+use Rattle.pv_world.specs.Record.{IsAtLimit}
+use Rattle.pv_world.specs.World.{Stands, front_access, setups}
+
+-- what is left of a permit or an end
+abbrev pub left_of : Owning → Plan Owned
+left_of (owning.Permits o) = permit_left o
+left_of (owning.Ends o) = end_left o
+
+-- an access to the entry
+abbrev pub OnEntry : (dom gref : ℕ) → Want → Note → Type 0
+OnEntry dom gref want note = (h : Half) × (aim_of want ≡ Grant (record { 0 = dom }) (record { 0 = gref }) h)
+
+-- what the domain is told: nothing where the entry was opened
+abbrev pub told_of : GrantRef → Owned → Option Told
+told_of gref owned.Opened = None
+told_of gref (owned.AlreadyOpen word) = Some (told.OpenRefused gref word)
+told_of gref owned.Ended = Some (told.Ended gref)
+told_of gref (owned.Busy word) = Some (told.Busy gref word)
+told_of gref (owned.Moved word seen) = Some (told.Moved gref word seen)
+
+abbrev pub told_items : DomId → Option Told → List Item
+told_items dom None = []
+told_items dom (Some t) = Entered (entry.Told dom t) ∷ []
+
+-- accesses of a domain lead from plan to plan
+abbrev pub Leads : Plan Owned → List Item → Plan Owned → Type 0
+Leads p [] q = p ≡ q
+Leads p (i ∷ is) q = (a : Access) × (k : Plan Owned) × (i ≡ front_access a) × Goes p a k × Leads k is q
+
+-- the whole of a permit or an end, of which this was the plan
+pub record IsDone (dom : DomId) (gref : GrantRef) (plan : Plan Owned) (here : List Item) : Type 0 where
+  pub made : List Item
+  pub owned : Owned
+  pub leads : Leads plan made (Finished owned)
+  pub then_told : here ≡ made ++ told_items dom (told_of gref owned)
+
+-- some of its accesses
+pub record IsUnderWay (plan : Plan Owned) (here : List Item) : Type 0 where
+  pub left : Plan Owned
+  pub leads : Leads plan here left
+
+-- the journal is full, and with one entry more it would be a further part of the permit or end, or the whole of it
+pub record IsFullAt (frames grants : ℕ → ℕ) (devices : List DeviceSetup) (dom : DomId) (gref : GrantRef) (plan : Plan Owned) (m part : List Item) (es : List Entry) : Type 0 where
+  pub length_is : length es ≡ 8388608
+  pub due : Entry
+  pub goes_on : IsHistory frames grants devices (m ++ (part ++ Entered due ∷ []))
+  pub next : IsUnderWay plan (part ++ Entered due ∷ []) ⊎ IsDone dom gref plan (part ++ Entered due ∷ [])
+
+abbrev pub HasCauseAt : (frames grants : ℕ → ℕ) (devices : List DeviceSetup) (dom : DomId) (gref : GrantRef) (plan : Plan Owned) (m part : List Item) (es : List Entry) → Stop → Type 0
+HasCauseAt frames grants devices dom gref plan m part es JournalFull = IsFullAt frames grants devices dom gref plan m part es
+HasCauseAt frames grants devices dom gref plan m part es OutOfMemory = Unit {0}
+
+-- it was stopped after some of its accesses
+pub record StopsOwning (frames grants : ℕ → ℕ) (devices : List DeviceSetup) (dom : DomId) (gref : GrantRef) (plan : Plan Owned) (stop : Stop) (m : List Item) (es : List Entry) : Type 0 where
+  pub part : List Item
+  pub of : IsUnderWay plan part
+  pub so_far : IsHistory frames grants devices (m ++ part)
+  pub entered : entries (m ++ part) ≡ es
+  pub cause : HasCauseAt frames grants devices dom gref plan m part es stop
+
+-- a permit or an end was made, or was stopped
+abbrev pub Owns : {W : Type 0} (word : W → Place → ℕ) (frames_of grants_of : W → ℕ → ℕ) (frames grants : ℕ → ℕ) (memory : W) (device : Option Placed) (dom : DomId) (gref : GrantRef) (plan : Plan Owned) (es : List Entry) (m : List Item) {A : Type 0} → Result A Stop → Type 0
+Owns word fs gs frames grants memory device dom gref plan es m (Ok x) =
+    (here : List Item) × IsDone dom gref plan here × Stands word fs gs frames grants memory device (m ++ here) × (entries (m ++ here) ≡ es)
+Owns word fs gs frames grants memory device dom gref plan es m (Err stop) = StopsOwning frames grants (setups device) dom gref plan stop m es
+
+-- accesses were made, and this is left; or it was made whole, or was stopped
+abbrev pub OwnsOn : {W : Type 0} (word : W → Place → ℕ) (frames_of grants_of : W → ℕ → ℕ) (frames grants : ℕ → ℕ) (memory : W) (device : Option Placed) (dom : DomId) (gref : GrantRef) (plan left : Plan Owned) (es : List Entry) (m : List Item) → Result Bool Stop → Type 0
+OwnsOn word fs gs frames grants memory device dom gref plan left es m (Ok true) =
+    (here : List Item) × Leads plan here left × IsUnfinished left × Stands word fs gs frames grants memory device (m ++ here) × (entries (m ++ here) ≡ es)
+OwnsOn word fs gs frames grants memory device dom gref plan left es m (Ok false) =
+    (here : List Item) × IsDone dom gref plan here × Stands word fs gs frames grants memory device (m ++ here) × (entries (m ++ here) ≡ es)
+OwnsOn word fs gs frames grants memory device dom gref plan left es m (Err stop) = StopsOwning frames grants (setups device) dom gref plan stop m es
+
+-- what is entered of one step: its access, and what is told of its result
+abbrev pub access_items : Option Access → List Item
+access_items None = []
+access_items (Some a) = front_access a ∷ []
+
+abbrev pub news_of : GrantRef → Option Owned → Option Told
+news_of gref None = None
+news_of gref (Some o) = told_of gref o
+
+-- the access found no room, or what is told found none
+abbrev pub EntersTurn : DomId → GrantRef → Option Access → Option Owned → List Entry → List Entry → Result Bool Stop → Type 0
+EntersTurn dom gref a o old new (Ok more) =
+    (new ≡ old ++ (entries (access_items a) ++ entries (told_items dom (news_of gref o)))) × (more ≡ is_none o)
+EntersTurn dom gref a o old new (Err stop) =
+    ((new ≡ old) × IsAtLimit stop new)
+    ⊎ ((t : Told) × (news_of gref o ≡ Some t) × (new ≡ old ++ entries (access_items a)) × IsAtLimit stop new)
+
+-- each access of what is left, whatever it finds, goes to the entry
+abbrev pub KeepsToEntry : (dom gref : ℕ) → Plan Owned → Type 0
+KeepsToEntry dom gref plan = Fits (OnEntry dom gref) (λ _. Unit {0}) plan

@@ -247,6 +247,7 @@ impl<W: Machine> World<W> {
         ensures owns { (frames grants : ℕ → ℕ) (m : List Item) →
             Stands W.word W.frames_of W.grants_of frames grants (memory_of self.old) (device_of self.old) m → entries m ≡ journal.old.entries →
             Owns W.word W.frames_of W.grants_of frames grants (memory_of self.new) (device_of self.new) dom gref (left_of owning) journal.new.entries m result }
+        ensures grants { W.grants_of (memory_of self.new) dom.0 ≡ W.grants_of (memory_of self.old) dom.0 }
         ensures same { device_of self.new ≡ device_of self.old }
     {
         let mut owning = owning;
@@ -268,6 +269,7 @@ impl<W: Machine> World<W> {
         ensures owns { (frames grants : ℕ → ℕ) (m : List Item) →
             Stands W.word W.frames_of W.grants_of frames grants (memory_of self.old) (device_of self.old) m → entries m ≡ journal.old.entries →
             Owns W.word W.frames_of W.grants_of frames grants (memory_of self.new) (device_of self.new) dom gref (permit_plan dom.0 gref.0 frame.0 mode) journal.new.entries m result }
+        ensures grants { W.grants_of (memory_of self.new) dom.0 ≡ W.grants_of (memory_of self.old) dom.0 }
         ensures devices { setups (device_of self.new) ≡ setups (device_of self.old) }
     {
         let step = OwnerStep::permit(dom, gref, frame, mode);
@@ -280,6 +282,7 @@ impl<W: Machine> World<W> {
         ensures owns { (frames grants : ℕ → ℕ) (m : List Item) →
             Stands W.word W.frames_of W.grants_of frames grants (memory_of self.old) (device_of self.old) m → entries m ≡ journal.old.entries →
             Owns W.word W.frames_of W.grants_of frames grants (memory_of self.new) (device_of self.new) dom gref (end_plan dom.0 gref.0) journal.new.entries m result }
+        ensures grants { W.grants_of (memory_of self.new) dom.0 ≡ W.grants_of (memory_of self.old) dom.0 }
         ensures devices { setups (device_of self.new) ≡ setups (device_of self.old) }
     {
         let step = OwnerStep::end(dom, gref);

@@ -1,5 +1,5 @@
 -- From single statements to whole scenarios.
-use Rattle.std.proofs.Common.{◌≡◌, ℕ, zero, suc, ◌+◌, ◌<◌, ◌⊎◌, inl, inr, List, [], ◌∷◌, ◌++◌, length, take, drop, get_or, Option, Result, Ok, Err, true, refl, sym, subst, ◌∙◌, ap, append_assoc, arith}
+use Rattle.std.proofs.Common.{◌≡◌, ℕ, zero, suc, ◌+◌, ◌<◌, ◌≤◌, ◌⊎◌, inl, inr, List, [], ◌∷◌, ◌++◌, length, take, drop, get_or, Option, Result, Ok, Err, true, refl, sym, subst, ◌∙◌, ap, append_assoc, arith}
 use Rattle.std.proofs.lemmas.List.{append-nil, take-append-drop, take_more, drop_more}
 use Rattle.std.specs.List.{AllByRecursion}
 use Rattle.pv_words.specs.declared.entry.Entry.{Entry}
@@ -8,21 +8,22 @@ use Rattle.pv_words.specs.declared.journal.Stop.TheVariants.{JournalFull, OutOfM
 use Rattle.pv_words.specs.declared.place.DevId.{DevId}
 use Rattle.pv_words.specs.declared.place.Place.{Place}
 use Rattle.pv_words.specs.declared.setup.DeviceSetup.{DeviceSetup}
-use Rattle.pv_words.specs.Sizes.{frames_by, grants_by}
+use Rattle.pv_words.specs.Sizes.{AreSizes, frames_by, grants_by}
+use Rattle.pv_words.proofs.Blocks.{frames_by-le, grants_by-le}
 use Rattle.scenario_text.specs.declared.statement.Statement.{Statement}
-use Rattle.scenario_text.specs.declared.statement.Statement.TheVariants.{Put, Serve, Swap}
+use Rattle.scenario_text.specs.declared.statement.Statement.TheVariants.{Put, Swap, Open, End, Serve}
 use Rattle.scenario_text.specs.Lookups.{has_device}
 use Rattle.scenario_text.specs.Playable.{IsPlayed}
 use Rattle.scenario_text.specs.Scenario.{Scenario}
 use Rattle.pv_world.specs.declared.world.Placed.{Placed}
 use Rattle.pv_world.specs.Marked.{Item, Entered, Idle, entries}
-use Rattle.pv_world.specs.History.{IsHistory, is_declared}
+use Rattle.pv_world.specs.History.{IsHistory, IsExplainedIn, is_declared}
 use Rattle.pv_world.specs.World.{Exchanged, Stored, ServedBy, HasCause, setups, front_store, front_swap}
 use Rattle.pv_world.specs.Record.{IsAtLimit}
 use Rattle.pv_world.proofs.Consequences.{machine_runs, kept}
 use Rattle.pv_world.proofs.Extends.{history_front, in_range_from}
 use Rattle.pv_world.proofs.Items.{entries_append, steps_append}
-use Rattle.scenario_run.specs.Follows.{Follows, FollowsTo, IsBegun, IsRow, IsPartOf}
+use Rattle.scenario_run.specs.Follows.{Follows, FollowsTo, IsBegun, IsRow, IsPartOf, opening, closing}
 use Rattle.scenario_run.specs.Legal.{IsLegalTo, IsFullFor, IsTrueJournal}
 use Rattle.scenario_run.specs.Played.{Played, StopsAt, IsFullIn, HasCauseIn, CanPlay}
 
@@ -83,6 +84,8 @@ none_begun : (ss : List Statement) → IsBegun ss []
 none_begun [] = refl
 none_begun (Put at v ∷ ss) = refl
 none_begun (Swap at old new ∷ ss) = refl
+none_begun (Open o ∷ ss) = record { number = 0; front = []; last = []; split = refl; done = refl; under_way = record { left = opening o 0; leads = refl }; within = inr (refl, refl) }
+none_begun (End e ∷ ss) = record { number = 0; front = []; last = []; split = refl; done = refl; under_way = record { left = closing e 0; leads = refl }; within = inr (refl, refl) }
 none_begun (Serve dev ∷ ss) = tt
 
 -- whatever was played
@@ -93,6 +96,19 @@ true_journal s m es e h =
       history = h;
       machine_run = machine_runs (frames_by s.sizes) (grants_by s.sizes) s.devices m h;
       kept = kept (frames_by s.sizes) (grants_by s.sizes) s.devices m h;
+    }
+
+none_explained : (devices : List DeviceSetup) → AllByRecursion (IsExplainedIn []) devices
+none_explained [] = tt
+none_explained (d ∷ ds) = (tt, none_explained ds)
+
+-- before the first statement
+pub nothing_played : (s : Scenario) (es : List Entry) → es ≡ [] → IsLegalTo s es
+nothing_played s es e =
+    record {
+      marked = [];
+      so_far = true_journal s [] es (sym e) (record { lawful = tt; belongs = tt; explained = none_explained s.devices });
+      follows = record { done = []; left = s.statements; followed = []; part = []; statements = refl; items = refl; follows = refl; begun = none_begun s.statements };
     }
 
 module _ (s : Scenario) (i : ℕ) (x : Statement) (inside : i < length s.statements) (item : x ≡ get_or s.statements i x) where
@@ -167,8 +183,21 @@ all_at P [] i d h l = absurd (omega arith)
 all_at P (x ∷ xs) zero d h l = h.0
 all_at P (x ∷ xs) (suc i) d h l = all_at P xs i d h.1 (omega arith)
 
-pub can_play : (s : Scenario) (f g : ℕ → ℕ) (devices : List DeviceSetup) (x : Statement) → ((d : ℕ) → f d ≡ frames_by s.sizes d) → ((d : ℕ) → g d ≡ grants_by s.sizes d) → devices ≡ s.devices → IsPlayed s x → CanPlay f g devices x
+few_grants : (s : Scenario) (d : ℕ) → AreSizes s.sizes → grants_by s.sizes d ≤ 16384
+few_grants s d h = omega (arith, grants_by-le s.sizes d, h.grants)
+
+few_frames : (s : Scenario) (d : ℕ) → AreSizes s.sizes → frames_by s.sizes d ≤ 16384
+few_frames s d h = omega (arith, frames_by-le s.sizes d, h.frames)
+
+pub can_play : (s : Scenario) (f g : ℕ → ℕ) (devices : List DeviceSetup) (x : Statement) → ((d : ℕ) → f d ≡ frames_by s.sizes d) → ((d : ℕ) → g d ≡ grants_by s.sizes d) → devices ≡ s.devices → AreSizes s.sizes → IsPlayed s x → CanPlay f g devices x
 unfolding has_device
-can_play s f g devices (Put at v) a b e h = in_range_from (frames_by s.sizes) f (grants_by s.sizes) g (λ d. sym (a d)) (λ d. sym (b d)) at h.0
-can_play s f g devices (Swap at old new) a b e h = in_range_from (frames_by s.sizes) f (grants_by s.sizes) g (λ d. sym (a d)) (λ d. sym (b d)) at h.0
-can_play s f g devices (Serve dev) a b e h = subst (λ (ds : List DeviceSetup). is_declared ds dev.0 ≡ true) (sym e) h
+can_play s f g devices (Put at v) a b e z h = in_range_from (frames_by s.sizes) f (grants_by s.sizes) g (λ d. sym (a d)) (λ d. sym (b d)) at h.0
+can_play s f g devices (Swap at old new) a b e z h = in_range_from (frames_by s.sizes) f (grants_by s.sizes) g (λ d. sym (a d)) (λ d. sym (b d)) at h.0
+can_play s f g devices (Open o) a b e z h =
+    let grants = few_grants s o.dom.0 z in
+    let frames = few_frames s o.dom.0 z in
+    (rw (b o.dom.0) h.1, omega (arith, h.1, grants), omega (arith, h.2, frames))
+can_play s f g devices (End c) a b e z h =
+    let grants = few_grants s c.dom.0 z in
+    (rw (b c.dom.0) h.1, omega (arith, h.1, grants))
+can_play s f g devices (Serve dev) a b e z h = subst (λ (ds : List DeviceSetup). is_declared ds dev.0 ≡ true) (sym e) h

@@ -1,20 +1,56 @@
 -- What entries a statement makes, and that a journal follows statements.
-use Rattle.std.specs.Prelude.{◌≡◌, ℕ, List, [], ◌∷◌, ◌++◌}
+use Rattle.std.specs.Prelude.{◌≡◌, ℕ, zero, suc, ◌+◌, ◌<◌, ◌⊎◌, List, [], ◌∷◌, ◌++◌}
+use Rattle.pv_words.specs.declared.place.DomId.{DomId}
+use Rattle.pv_words.specs.declared.place.GrantRef.{GrantRef}
+use Rattle.pv_words.specs.Plan.{Plan}
+use Rattle.grant_table.specs.declared.owner.Owned.{Owned}
+use Rattle.grant_table.specs.Owning.{permit_plan, end_plan}
+use Rattle.scenario_text.specs.declared.statement.Opening.{Opening}
+use Rattle.scenario_text.specs.declared.statement.Closing.{Closing}
 use Rattle.scenario_text.specs.declared.statement.Statement.{Statement}
-use Rattle.scenario_text.specs.declared.statement.Statement.TheVariants.{Put, Serve, Swap}
+use Rattle.scenario_text.specs.declared.statement.Statement.TheVariants.{Put, Swap, Open, End, Serve}
 use Rattle.pv_world.specs.Marked.{Item, Idle, AreSteps}
+use Rattle.pv_world.specs.Owner.{IsDone, IsUnderWay}
 use Rattle.pv_world.specs.World.{front_store, front_swap}
 
--- put: one store of the word's domain. swap: one exchange of it. serve: the device's steps, and a mark where it was idle
+-- the permit of each grant that a statement opens, and the end of each that it ends, by number
+abbrev pub opening : Opening → ℕ → Plan Owned
+opening o n = permit_plan o.dom.0 (o.gref.0 + n) (o.frame.0 + n) o.mode
+
+abbrev pub closing : Closing → ℕ → Plan Owned
+closing e n = end_plan e.dom.0 (e.gref.0 + n)
+
+-- the first n of them, one after another
+abbrev pub EachDone : DomId → GrantRef → (ℕ → Plan Owned) → ℕ → List Item → Type 0
+EachDone dom gref plans zero here = here ≡ []
+EachDone dom gref plans (suc n) here =
+    (front : List Item) × (last : List Item) × (here ≡ front ++ last) × EachDone dom gref plans n front × IsDone dom (record { 0 = gref.0 + n }) (plans n) last
+
+-- some of them, and of the next one perhaps a part
+pub record EachTo (dom : DomId) (gref : GrantRef) (plans : ℕ → Plan Owned) (count : ℕ) (here : List Item) : Type 0 where
+  pub number : ℕ
+  pub front : List Item
+  pub last : List Item
+  pub split : here ≡ front ++ last
+  pub done : EachDone dom gref plans number front
+  pub under_way : IsUnderWay (plans number) last
+  pub within : (number < count) ⊎ ((number ≡ 0) × (last ≡ []))
+
+-- put: one store of the word's domain. swap: one exchange of it. open, end: each grant is opened or ended. serve: the
+-- device's steps, and a mark where it was idle
 abbrev pub IsRow : Statement → List Item → Type 0
 IsRow (Put at v) here = here ≡ front_store at v ∷ []
 IsRow (Swap at old new) here = (seen : ℕ) × (here ≡ front_swap at old new seen ∷ [])
+IsRow (Open o) here = EachDone o.dom o.gref (opening o) o.count here
+IsRow (End e) here = EachDone e.dom e.gref (closing e) e.count here
 IsRow (Serve dev) here = (steps : List Item) × AreSteps dev.0 steps × (here ≡ steps ++ Idle dev.0 ∷ [])
 
 -- a part of these, from their beginning
 abbrev pub IsPartOf : Statement → List Item → Type 0
 IsPartOf (Put at v) here = here ≡ []
 IsPartOf (Swap at old new) here = here ≡ []
+IsPartOf (Open o) here = EachTo o.dom o.gref (opening o) o.count here
+IsPartOf (End e) here = EachTo e.dom e.gref (closing e) e.count here
 IsPartOf (Serve dev) here = AreSteps dev.0 here
 
 -- the entries of each statement, one after another

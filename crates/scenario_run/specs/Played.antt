@@ -1,5 +1,5 @@
 -- What one statement makes of a world.
-use Rattle.std.specs.Prelude.{◌≡◌, ℕ, true, ◌⊎◌, List, [], ◌∷◌, ◌++◌, length, Option, Result, Ok, Err}
+use Rattle.std.specs.Prelude.{◌≡◌, ℕ, ◌+◌, ◌≤◌, true, ◌⊎◌, List, [], ◌∷◌, ◌++◌, length, Option, Result, Ok, Err}
 use Rattle.pv_words.specs.declared.entry.Entry.{Entry}
 use Rattle.pv_words.specs.declared.journal.Stop.{Stop}
 use Rattle.pv_words.specs.declared.journal.Stop.TheVariants.{JournalFull, OutOfMemory}
@@ -9,7 +9,7 @@ use Rattle.scenario_text.specs.declared.statement.Statement.{Statement}
 use Rattle.pv_world.specs.declared.world.Placed.{Placed}
 use Rattle.pv_world.specs.Marked.{Item, Entered, entries}
 use Rattle.pv_words.specs.Place.{InRange}
-use Rattle.scenario_text.specs.declared.statement.Statement.TheVariants.{Put, Serve, Swap}
+use Rattle.scenario_text.specs.declared.statement.Statement.TheVariants.{Put, Swap, Open, End, Serve}
 use Rattle.pv_world.specs.History.{IsHistory, is_declared}
 use Rattle.pv_world.specs.World.{Stands, setups}
 use Rattle.scenario_run.specs.Follows.{IsRow, IsPartOf}
@@ -38,8 +38,11 @@ Played word fs gs frames grants memory device s es m (Ok x) =
     (here : List Item) × IsRow s here × Stands word fs gs frames grants memory device (m ++ here) × (entries (m ++ here) ≡ es)
 Played word fs gs frames grants memory device s es m (Err stop) = StopsAt frames grants (setups device) s stop m es
 
--- a statement may be played: its place is in range, its device is declared
+-- a statement may be played: its place and its grants are in range, its device is declared
 abbrev pub CanPlay : (frames grants : ℕ → ℕ) → List DeviceSetup → Statement → Type 0
 CanPlay frames grants devices (Put at v) = InRange frames grants at
 CanPlay frames grants devices (Swap at old new) = InRange frames grants at
+CanPlay frames grants devices (Open o) =
+    (o.gref.0 + o.count ≤ grants o.dom.0) × (o.gref.0 + o.count ≤ 16384) × (o.frame.0 + o.count ≤ 16384)
+CanPlay frames grants devices (End e) = (e.gref.0 + e.count ≤ grants e.dom.0) × (e.gref.0 + e.count ≤ 16384)
 CanPlay frames grants devices (Serve dev) = is_declared devices dev.0 ≡ true

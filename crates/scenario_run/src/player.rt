@@ -5,15 +5,54 @@ ghost use Rattle.pv_words.specs.declared.journal.Stop.TheVariants as stop;
 ghost use Rattle.pv_words.specs.Place.{InRange};
 ghost use Rattle.pv_words.specs.Sizes.{frames_by, grants_by};
 ghost use Rattle.scenario_text.specs.Playable.{IsPlayable};
+ghost use Rattle.scenario_text.specs.declared.statement.Statement.TheVariants as statement;
 ghost use Rattle.pv_world.specs.Marked.{Item, entries};
 ghost use Rattle.pv_world.specs.World.{Standing, Stands, device_of, memory_of, setups};
 ghost use Rattle.scenario_run.specs.Legal.{IsLegal, IsLegalTo, IsFullFor};
 ghost use Rattle.scenario_run.specs.Played.{Played, CanPlay};
 
-use pv_words::{Journal, ListWords, Machine, Stop};
+use pv_words::{Frame, GrantRef, Journal, ListWords, Machine, Stop};
 use pv_world::World;
-use scenario_text::{Script, Statement};
+use scenario_text::{Closing, Opening, Script, Statement};
 use std::alloc::Global;
+
+// Opens grants of a domain, one after another.
+fn open<W: Machine>(
+    world: &mut World<W>,
+    opening: &Opening,
+    journal: &mut Journal,
+) -> Result<(), Stop>
+    requires playable { CanPlay (W.frames_of (memory_of world.old)) (W.grants_of (memory_of world.old)) (setups (device_of world.old)) (statement.Open opening.now) }
+    ensures played { (frames grants : ℕ → ℕ) (m : List Item) →
+        Stands W.word W.frames_of W.grants_of frames grants (memory_of world.old) (device_of world.old) m → entries m ≡ journal.old.entries →
+        Played W.word W.frames_of W.grants_of frames grants (memory_of world.new) (device_of world.new) (statement.Open opening.now) journal.new.entries m result }
+    ensures devices { setups (device_of world.new) ≡ setups (device_of world.old) }
+{
+    for k in 0..opening.count {
+        let gref = GrantRef(opening.gref.0 + k);
+        let frame = Frame(opening.frame.0 + k);
+        world.permit(opening.dom, gref, frame, opening.mode, journal)?;
+    }
+    Ok(())
+}
+
+// Ends grants of a domain, one after another.
+fn end<W: Machine>(
+    world: &mut World<W>,
+    closing: &Closing,
+    journal: &mut Journal,
+) -> Result<(), Stop>
+    requires playable { CanPlay (W.frames_of (memory_of world.old)) (W.grants_of (memory_of world.old)) (setups (device_of world.old)) (statement.End closing.now) }
+    ensures played { (frames grants : ℕ → ℕ) (m : List Item) →
+        Stands W.word W.frames_of W.grants_of frames grants (memory_of world.old) (device_of world.old) m → entries m ≡ journal.old.entries →
+        Played W.word W.frames_of W.grants_of frames grants (memory_of world.new) (device_of world.new) (statement.End closing.now) journal.new.entries m result }
+    ensures devices { setups (device_of world.new) ≡ setups (device_of world.old) }
+{
+    for k in 0..closing.count {
+        world.end_grant(closing.dom, GrantRef(closing.gref.0 + k), journal)?;
+    }
+    Ok(())
+}
 
 // Plays one statement.
 fn play_statement<W: Machine>(
@@ -31,6 +70,8 @@ fn play_statement<W: Machine>(
     match statement {
         Statement::Put(place, v) => world.put(*place, *v, journal),
         Statement::Swap(place, old, new) => world.swap(*place, *old, *new, journal),
+        Statement::Open(opening) => open(world, opening, journal),
+        Statement::End(closing) => end(world, closing, journal),
         Statement::Serve(dev) => world.serve(*dev, journal),
     }
 }

@@ -7,7 +7,7 @@ use Rattle.pv_words.specs.declared.place.DomId.{DomId}
 use Rattle.pv_words.specs.declared.place.DevId.{DevId}
 use Rattle.pv_words.specs.declared.setup.DomainSize.{DomainSize}
 use Rattle.pv_words.specs.declared.setup.DeviceSetup.{DeviceSetup}
-use Rattle.pv_words.specs.Sizes.{frames_by}
+use Rattle.pv_words.specs.Sizes.{frames_by, grants_by}
 use Rattle.scenario_text.specs.declared.argument.Number.{Number}
 use Rattle.scenario_text.specs.declared.fault.FaultKind.TheVariants.{Undeclared}
 use Rattle.scenario_text.specs.Flaws.{or_flaw}
@@ -39,28 +39,28 @@ new_domain_gives sizes c x same =
     let passed = test_failed (is_some (size_of dom.0.0.value sizes)) _ (record { 0 = dom.0.0.value }, dom.0.1) x dom.2 in
     rw (← passed.1) (between_gives 1 4 c dom.0 dom.1)
 
--- a domain that is found has its frames
-found_frames : (dom : ℕ) (sizes : List DomainSize) (size : DomainSize) → find (λ s. s.dom.0 == dom) sizes ≡ Some size → (size.dom.0 ≡ dom) × (frames_by sizes dom ≡ size.frames)
-found_frames dom [] size same = cc
-found_frames dom (s ∷ ss) size same =
+-- a domain that is found has its frames and its grants
+found_sizes : (dom : ℕ) (sizes : List DomainSize) (size : DomainSize) → find (λ s. s.dom.0 == dom) sizes ≡ Some size → (size.dom.0 ≡ dom) × (frames_by sizes dom ≡ size.frames) × (grants_by sizes dom ≡ size.grants)
+found_sizes dom [] size same = cc
+found_sizes dom (s ∷ ss) size same =
     elim (cases_Bool (s.dom.0 == dom)) [
       | inl passes ↦
           let found : Some s ≡ Some size = rw passes at same in
           let one : s ≡ size = cc in
-          rw (← one, passes) (eqb-true s.dom.0 dom passes, refl)
+          rw (← one, passes) (eqb-true s.dom.0 dom passes, refl, refl)
       | inr fails ↦
           let found : find (λ s. s.dom.0 == dom) ss ≡ Some size = rw fails at same in
-          rw fails (found_frames dom ss size found)
+          rw fails (found_sizes dom ss size found)
     ]
 
-pub size_gives : (sizes : List DomainSize) (c : Cursor) (x : DomainSize × Cursor) → size_at sizes c ≡ Ok x → frames_by sizes x.0.dom.0 ≡ x.0.frames
+pub size_gives : (sizes : List DomainSize) (c : Cursor) (x : DomainSize × Cursor) → size_at sizes c ≡ Ok x → (frames_by sizes x.0.dom.0 ≡ x.0.frames) × (grants_by sizes x.0.dom.0 ≡ x.0.grants)
 unfolding size_at size_of
 size_gives sizes c x same =
     let dom = bind_ok (between_at 1 4 c) _ x same in
     let size = bind_ok (or_flaw (size_of dom.0.0.value sizes) dom.0.0.column Undeclared) _ x dom.2 in
-    let found = found_frames dom.0.0.value sizes size.0 (or_flaw_ok (size_of dom.0.0.value sizes) _ _ size.0 size.1) in
+    let found = found_sizes dom.0.0.value sizes size.0 (or_flaw_ok (size_of dom.0.0.value sizes) _ _ size.0 size.1) in
     let one : (size.0, dom.0.1) ≡ x = cc in
-    rw (← one, found.0) found.1
+    rw (← one, found.0) (found.1, found.2)
 
 -- what is found is one of them
 found_keeps : (P : DomainSize → Type 0) (dom : ℕ) (sizes : List DomainSize) (size : DomainSize) → AllByRecursion P sizes → find (λ s. s.dom.0 == dom) sizes ≡ Some size → P size

@@ -22,3 +22,7 @@ test_failed false e x y same = (refl, cc)
 pub or_flaw_ok : {A : Type 0} (o : Option A) (column : ℕ) (kind : FaultKind) (x : A) → or_flaw o column kind ≡ Ok x → o ≡ Some x
 or_flaw_ok None column kind x same = cc
 or_flaw_ok (Some y) column kind x same = cc
+
+-- a result has one value
+pub ok_one : {A E : Type 0} (r : Result A E) (x y : A) → r ≡ Ok x → r ≡ Ok y → x ≡ y
+ok_one r x y first second = cc

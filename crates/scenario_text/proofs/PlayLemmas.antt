@@ -1,7 +1,8 @@
 -- Every scenario that is read is playable.
-use Rattle.std.proofs.Common.{◌≡◌, ℕ, ◌+◌, ◌<◌, ◌≤◌, ◌^◌, ◌++◌, ◌==◌, Bool, true, false, not, ◌&&◌, List, [], ◌∷◌, Option, Some, None, Result, Ok, Err, refl, ap, subst, arith, length, inl, inr}
+use Rattle.std.proofs.Common.{◌≡◌, ℕ, ◌+◌, ◌-◌, min, ◌<◌, ◌≤◌, ◌^◌, ◌++◌, ◌==◌, Bool, true, false, not, ◌&&◌, List, [], ◌∷◌, Option, Some, None, Result, Ok, Err, refl, ap, subst, arith, length, inl, inr}
 use Rattle.std.specs.Prelude.{sum_by, codes, IfSome}
 use Rattle.std.specs.List.{AllByRecursion}
+use Rattle.std.proofs.Math.Nat.{min-le_left, min-le_right}
 use Rattle.std.proofs.lemmas.Bool.{cases_Bool}
 use Rattle.std.proofs.lemmas.List.{length_push}
 use Rattle.std.proofs.lemmas.List.Elements.{All-nil, All-push}
@@ -10,10 +11,11 @@ use Rattle.pv_words.specs.declared.setup.DomainSize.{DomainSize}
 use Rattle.pv_words.specs.declared.setup.DeviceSetup.{DeviceSetup}
 use Rattle.pv_words.specs.declared.setup.Kind.TheVariants.{Wild}
 use Rattle.pv_words.specs.declared.setup.DeviceKind.TheVariants as kinds
-use Rattle.pv_words.specs.declared.place.Place.TheVariants.{Cell}
-use Rattle.pv_words.specs.Sizes.{frames_by}
+use Rattle.pv_words.specs.declared.place.Place.TheVariants.{Cell, Grant}
+use Rattle.pv_words.specs.declared.place.Half.TheVariants.{Flags}
+use Rattle.pv_words.specs.Sizes.{frames_by, grants_by}
 use Rattle.scenario_text.specs.declared.statement.Statement.{Statement}
-use Rattle.scenario_text.specs.declared.statement.Statement.TheVariants.{Put, Serve}
+use Rattle.scenario_text.specs.declared.statement.Statement.TheVariants.{Put, Swap, Open, End, Serve}
 use Rattle.scenario_text.specs.declared.draft.Item.{Item}
 use Rattle.scenario_text.specs.declared.draft.Item.TheVariants as items
 use Rattle.scenario_text.specs.declared.item.Command.{Command}
@@ -23,16 +25,16 @@ use Rattle.scenario_text.specs.declared.fault.FaultKind.TheVariants.{UnknownStat
 use Rattle.scenario_text.specs.Flaws.{or_flaw}
 use Rattle.scenario_text.specs.Tokens.{Token, tokens}
 use Rattle.scenario_text.specs.Cursors.{Cursor, first_of}
-use Rattle.scenario_text.specs.Arguments.{between_at, below_at, keyword_at}
+use Rattle.scenario_text.specs.Arguments.{between_at, below_at, keyword_at, half_at, mode_at}
 use Rattle.scenario_text.specs.Lookups.{has_device, frames_left, grants_left, new_domain_at, size_at, new_device_at, device_at}
 use Rattle.scenario_text.specs.Declarations.{domain_at, display_at}
-use Rattle.scenario_text.specs.Statements.{put_at, serve_at}
+use Rattle.scenario_text.specs.Statements.{put_at, put_grant_at, swap_at, open_at, end_at, serve_at}
 use Rattle.scenario_text.specs.Scenario.{Scenario, nothing, with_item}
 use Rattle.scenario_text.specs.Items.{is_empty_list, is_declaration, command_of, command_at, arguments_at, unless_more, item_from, item_of}
 use Rattle.scenario_text.specs.Lines.{code_of, lines}
 use Rattle.scenario_text.specs.Reading.{line_item, at_line, scenario_from, scenario_of}
 use Rattle.scenario_text.specs.Playable.{IsPlayed, IsPlayable}
-use Rattle.scenario_text.proofs.OkLemmas.{bind_ok, test_failed}
+use Rattle.scenario_text.proofs.OkLemmas.{bind_ok, test_failed, ok_one}
 use Rattle.scenario_text.proofs.GivenLemmas.{between_gives, below_gives, new_domain_gives, size_gives, size_keeps, new_device_gives, device_gives}
 
 -- with one more element, and with a weaker fact of each
@@ -149,7 +151,7 @@ domain_fits s c x none same =
 found_room : (s : Scenario) (c : Cursor) (x : DomainSize × Cursor) → IsKept s → size_at s.sizes c ≡ Ok x → 0 < frames_by s.sizes x.0.dom.0
 found_room s c x kept same =
     let filled = size_keeps (λ (z : DomainSize). 1 ≤ z.frames) s.sizes c x kept.filled same in
-    rw (size_gives s.sizes c x same) filled
+    rw (size_gives s.sizes c x same).0 filled
 
 device_fits : (s : Scenario) (c : Cursor) (x : Item × Cursor) → IsKept s → is_empty_list s.statements ≡ true → display_at s c ≡ Ok x → Fits s x.0
 unfolding display_at
@@ -175,10 +177,76 @@ put_fits s c x same =
     let f = below_gives size.0.0.frames size.0.1 frame.0 frame.1 in
     let w = below_gives 1024 frame.0.1 word.0 word.1 in
     let v = below_gives (2 ^ 32) word.0.1 value.0 value.1 in
-    let inside : frame.0.0.value < frames_by s.sizes size.0.0.dom.0 = rw has f in
+    let inside : frame.0.0.value < frames_by s.sizes size.0.0.dom.0 = rw has.0 f in
     let item : Item = items.Step (Put (Cell size.0.0.dom (record { 0 = frame.0.0.value }) word.0.0.value) value.0.0.value) in
     let one : (item, value.0.1) ≡ x = cc in
     subst (λ (y : Item × Cursor). Fits s y.0) {x = (item, value.0.1)} one ((inside, w), v)
+
+put_grant_fits : (s : Scenario) (c : Cursor) (x : Item × Cursor) → put_grant_at s c ≡ Ok x → Fits s x.0
+unfolding put_grant_at
+put_grant_fits s c x same =
+    let size = bind_ok (size_at s.sizes c) _ x same in
+    let gref = bind_ok (below_at size.0.0.grants size.0.1) _ x size.2 in
+    let half = bind_ok (half_at gref.0.1) _ x gref.2 in
+    let value = bind_ok (below_at (2 ^ 32) half.0.1) _ x half.2 in
+    let has = size_gives s.sizes c size.0 size.1 in
+    let g = below_gives size.0.0.grants size.0.1 gref.0 gref.1 in
+    let v = below_gives (2 ^ 32) half.0.1 value.0 value.1 in
+    let inside : gref.0.0.value < grants_by s.sizes size.0.0.dom.0 = rw has.1 g in
+    let item : Item = items.Step (Put (Grant size.0.0.dom (record { 0 = gref.0.0.value }) half.0.0) value.0.0.value) in
+    let one : (item, value.0.1) ≡ x = cc in
+    subst (λ (y : Item × Cursor). Fits s y.0) {x = (item, value.0.1)} one (inside, v)
+
+swap_fits : (s : Scenario) (c : Cursor) (x : Item × Cursor) → swap_at s c ≡ Ok x → Fits s x.0
+unfolding swap_at
+swap_fits s c x same =
+    let size = bind_ok (size_at s.sizes c) _ x same in
+    let gref = bind_ok (below_at size.0.0.grants size.0.1) _ x size.2 in
+    let old = bind_ok (below_at (2 ^ 32) gref.0.1) _ x gref.2 in
+    let new = bind_ok (below_at (2 ^ 32) old.0.1) _ x old.2 in
+    let has = size_gives s.sizes c size.0 size.1 in
+    let g = below_gives size.0.0.grants size.0.1 gref.0 gref.1 in
+    let o = below_gives (2 ^ 32) gref.0.1 old.0 old.1 in
+    let n = below_gives (2 ^ 32) old.0.1 new.0 new.1 in
+    let inside : gref.0.0.value < grants_by s.sizes size.0.0.dom.0 = rw has.1 g in
+    let item : Item = items.Step (Swap (Grant size.0.0.dom (record { 0 = gref.0.0.value }) Flags) old.0.0.value new.0.0.value) in
+    let one : (item, new.0.1) ≡ x = cc in
+    subst (λ (y : Item × Cursor). Fits s y.0) {x = (item, new.0.1)} one (inside, o, n)
+
+open_fits : (s : Scenario) (c : Cursor) (x : Item × Cursor) → open_at s c ≡ Ok x → Fits s x.0
+unfolding open_at
+open_fits s c x same =
+    let size = bind_ok (size_at s.sizes c) _ x same in
+    let gref = bind_ok (below_at size.0.0.grants size.0.1) _ x size.2 in
+    let frame = bind_ok (below_at size.0.0.frames gref.0.1) _ x gref.2 in
+    let mode = bind_ok (mode_at frame.0.1) _ x frame.2 in
+    let grants : ℕ = size.0.0.grants - gref.0.0.value in
+    let frames : ℕ = size.0.0.frames - frame.0.0.value in
+    let count = bind_ok (between_at 1 (min grants frames) mode.0.1) _ x mode.2 in
+    let has = size_gives s.sizes c size.0 size.1 in
+    let g = below_gives size.0.0.grants size.0.1 gref.0 gref.1 in
+    let f = below_gives size.0.0.frames gref.0.1 frame.0 frame.1 in
+    let n = between_gives 1 (min grants frames) mode.0.1 count.0 count.1 in
+    let of_grants : gref.0.0.value + count.0.0.value ≤ grants_by s.sizes size.0.0.dom.0 = rw has.1 (omega (arith, min-le_left grants frames)) in
+    let of_frames : frame.0.0.value + count.0.0.value ≤ frames_by s.sizes size.0.0.dom.0 = rw has.0 (omega (arith, min-le_right grants frames)) in
+    let item : Item = items.Step (Open (record { dom = size.0.0.dom; gref = record { 0 = gref.0.0.value }; frame = record { 0 = frame.0.0.value }; mode = mode.0.0; count = count.0.0.value })) in
+    let one : (item, count.0.1) ≡ x = ok_one (Ok (item, count.0.1)) (item, count.0.1) x refl count.2 in
+    subst (λ (y : Item × Cursor). Fits s y.0) {x = (item, count.0.1)} one (n.0, of_grants, of_frames)
+
+end_fits : (s : Scenario) (c : Cursor) (x : Item × Cursor) → end_at s c ≡ Ok x → Fits s x.0
+unfolding end_at
+end_fits s c x same =
+    let size = bind_ok (size_at s.sizes c) _ x same in
+    let gref = bind_ok (below_at size.0.0.grants size.0.1) _ x size.2 in
+    let grants : ℕ = size.0.0.grants - gref.0.0.value in
+    let count = bind_ok (between_at 1 grants gref.0.1) _ x gref.2 in
+    let has = size_gives s.sizes c size.0 size.1 in
+    let g = below_gives size.0.0.grants size.0.1 gref.0 gref.1 in
+    let n = between_gives 1 grants gref.0.1 count.0 count.1 in
+    let of_grants : gref.0.0.value + count.0.0.value ≤ grants_by s.sizes size.0.0.dom.0 = rw has.1 (omega arith) in
+    let item : Item = items.Step (End (record { dom = size.0.0.dom; gref = record { 0 = gref.0.0.value }; count = count.0.0.value })) in
+    let one : (item, count.0.1) ≡ x = ok_one (Ok (item, count.0.1)) (item, count.0.1) x refl count.2 in
+    subst (λ (y : Item × Cursor). Fits s y.0) {x = (item, count.0.1)} one (n.0, of_grants)
 
 serve_fits : (s : Scenario) (c : Cursor) (x : Item × Cursor) → serve_at s c ≡ Ok x → Fits s x.0
 unfolding serve_at
@@ -205,6 +273,10 @@ unfolding arguments_at
 arguments_fit commands.Domain s c x kept early same = domain_fits s c x (none_stated (is_empty_list s.statements) early) same
 arguments_fit commands.Display s c x kept early same = device_fits s c x kept (none_stated (is_empty_list s.statements) early) same
 arguments_fit commands.Put s c x kept early same = put_fits s c x same
+arguments_fit commands.PutGrant s c x kept early same = put_grant_fits s c x same
+arguments_fit commands.Swap s c x kept early same = swap_fits s c x same
+arguments_fit commands.Open s c x kept early same = open_fits s c x same
+arguments_fit commands.End s c x kept early same = end_fits s c x same
 arguments_fit commands.Serve s c x kept early same = serve_fits s c x same
 
 no_more : {A : Type 0} (o : Option (Token × Cursor)) (x y : A) → unless_more o x ≡ Ok y → x ≡ y

@@ -1,6 +1,10 @@
 -- The tokens behind a line's first one: numbers and words.
-use Rattle.std.specs.Prelude.{ℕ, nat_lt, nat_le, ◌&&◌, List, Result, Ok, Err, if◌then◌else◌}
+use Rattle.std.specs.Prelude.{ℕ, nat_lt, nat_le, ◌&&◌, List, [], ◌∷◌, Option, Some, None, Result, Ok, Err, codes, if◌then◌else◌}
 use Rattle.std.specs.Str.{bytes_eq}
+use Rattle.pv_words.specs.declared.grant.Mode.{Mode}
+use Rattle.pv_words.specs.declared.grant.Mode.TheVariants.{Read, Write}
+use Rattle.pv_words.specs.declared.place.Half.{Half}
+use Rattle.pv_words.specs.declared.place.Half.TheVariants.{Flags, FrameNo}
 use Rattle.scenario_text.specs.declared.fault.Flaw.{Flaw}
 use Rattle.scenario_text.specs.declared.fault.FaultKind.TheVariants.{BadNumber, OutOfRange, BadWord}
 use Rattle.scenario_text.specs.declared.argument.Number.{Number}
@@ -32,3 +36,31 @@ unfoldable pub keyword_at : List ℕ → Cursor → Result Cursor Flaw
 keyword_at word c = do
   t ← next_of c
   if bytes_eq t.0.octets word then Ok t.1 else Err (flaw t.0.column BadWord)
+
+-- what a word of a list names
+abbrev pub named : {A : Type 0} → List ℕ → List (List ℕ × A) → Option A
+named octets [] = None
+named octets (n ∷ ns) = if bytes_eq octets n.0 then Some n.1 else named octets ns
+
+-- what one of a list's words names
+abbrev pub named_at : {A : Type 0} → List (List ℕ × A) → Cursor → Result (A × Cursor) Flaw
+named_at list c = do
+  t ← next_of c
+  x ← or_flaw (named t.0.octets list) t.0.column BadWord
+  Ok (x, t.1)
+
+-- the words for the halves of a grant entry
+abbrev pub halves : List (List ℕ × Half)
+halves = (codes "flags", Flags) ∷ (codes "frame", FrameNo) ∷ []
+
+-- a half of a grant entry
+unfoldable pub half_at : Cursor → Result (Half × Cursor) Flaw
+half_at c = named_at halves c
+
+-- the words for what a grant permits
+abbrev pub modes : List (List ℕ × Mode)
+modes = (codes "rw", Write) ∷ (codes "ro", Read) ∷ []
+
+-- what a grant permits
+unfoldable pub mode_at : Cursor → Result (Mode × Cursor) Flaw
+mode_at c = named_at modes c

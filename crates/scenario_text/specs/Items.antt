@@ -1,26 +1,23 @@
 -- What a line holds, under what the lines before it declared.
 use Rattle.std.specs.Prelude.{ℕ, Bool, true, false, ◌&&◌, not, List, [], ◌∷◌, Option, Some, None, Result, Ok, Err, codes, if◌then◌else◌}
-use Rattle.std.specs.Str.{bytes_eq}
 use Rattle.scenario_text.specs.declared.draft.Item.{Item}
 use Rattle.scenario_text.specs.declared.fault.Flaw.{Flaw}
 use Rattle.scenario_text.specs.declared.fault.FaultKind.TheVariants.{UnknownStatement, ExtraWord, Late}
 use Rattle.scenario_text.specs.declared.item.Command.{Command}
-use Rattle.scenario_text.specs.declared.item.Command.TheVariants.{Domain, Display, Put, Serve}
+use Rattle.scenario_text.specs.declared.item.Command.TheVariants.{Domain, Display, Put, PutGrant, Swap, Open, End, Serve}
 use Rattle.scenario_text.specs.Flaws.{flaw, ◌>>=◌, or_flaw}
 use Rattle.scenario_text.specs.Tokens.{Token, tokens}
 use Rattle.scenario_text.specs.Cursors.{Cursor, first_of}
+use Rattle.scenario_text.specs.Arguments.{named}
 use Rattle.scenario_text.specs.Declarations.{domain_at, display_at}
-use Rattle.scenario_text.specs.Statements.{put_at, serve_at}
+use Rattle.scenario_text.specs.Statements.{put_at, put_grant_at, swap_at, open_at, end_at, serve_at}
 use Rattle.scenario_text.specs.Scenario.{Scenario}
 
 -- the first tokens of lines, and what they name
 abbrev pub names : List (List ℕ × Command)
-names = (codes "put", Put) ∷ (codes "serve", Serve) ∷ (codes "domain", Domain) ∷ (codes "display", Display) ∷ []
-
--- what one of those names
-abbrev pub named : List ℕ → List (List ℕ × Command) → Option Command
-named octets [] = None
-named octets (n ∷ ns) = if bytes_eq octets n.0 then Some n.1 else named octets ns
+names =
+    (codes "put", Put) ∷ (codes "putg", PutGrant) ∷ (codes "swap", Swap) ∷ (codes "open", Open) ∷ (codes "end", End)
+    ∷ (codes "serve", Serve) ∷ (codes "domain", Domain) ∷ (codes "display", Display) ∷ []
 
 -- what a token names, as the first of a line
 unfoldable pub command_of : List ℕ → Option Command
@@ -31,6 +28,10 @@ abbrev pub is_declaration : Command → Bool
 is_declaration Domain = true
 is_declaration Display = true
 is_declaration Put = false
+is_declaration PutGrant = false
+is_declaration Swap = false
+is_declaration Open = false
+is_declaration End = false
 is_declaration Serve = false
 
 -- whether there is nothing in a list
@@ -49,6 +50,10 @@ unfoldable pub arguments_at : Command → Scenario → Cursor → Result (Item �
 arguments_at Domain so_far c = domain_at so_far c
 arguments_at Display so_far c = display_at so_far c
 arguments_at Put so_far c = put_at so_far c
+arguments_at PutGrant so_far c = put_grant_at so_far c
+arguments_at Swap so_far c = swap_at so_far c
+arguments_at Open so_far c = open_at so_far c
+arguments_at End so_far c = end_at so_far c
 arguments_at Serve so_far c = serve_at so_far c
 
 -- no token may be left over

@@ -1,13 +1,14 @@
 -- Statements, behind their first token.
-use Rattle.std.specs.Prelude.{◌^◌, Result, Ok}
-use Rattle.pv_words.specs.declared.place.Place.TheVariants.{Cell}
+use Rattle.std.specs.Prelude.{◌-◌, ◌^◌, min, Result, Ok}
+use Rattle.pv_words.specs.declared.place.Place.TheVariants.{Cell, Grant}
+use Rattle.pv_words.specs.declared.place.Half.TheVariants.{Flags}
 use Rattle.scenario_text.specs.declared.draft.Item.{Item}
 use Rattle.scenario_text.specs.declared.draft.Item.TheVariants.{Step}
-use Rattle.scenario_text.specs.declared.statement.Statement.TheVariants.{Put, Serve}
+use Rattle.scenario_text.specs.declared.statement.Statement.TheVariants.{Put, Swap, Open, End, Serve}
 use Rattle.scenario_text.specs.declared.fault.Flaw.{Flaw}
 use Rattle.scenario_text.specs.Flaws.{◌>>=◌}
 use Rattle.scenario_text.specs.Cursors.{Cursor}
-use Rattle.scenario_text.specs.Arguments.{below_at}
+use Rattle.scenario_text.specs.Arguments.{between_at, below_at, half_at, mode_at}
 use Rattle.scenario_text.specs.Lookups.{size_at, device_at}
 use Rattle.scenario_text.specs.Scenario.{Scenario}
 
@@ -19,6 +20,43 @@ put_at so_far c = do
   word ← below_at 1024 frame.1
   value ← below_at (2 ^ 32) word.1
   Ok (Step (Put (Cell size.0.dom (record { 0 = frame.0.value }) word.0.value) value.0.value), value.1)
+
+-- putg D G H V: value V at half H of grant entry G of domain D
+unfoldable pub put_grant_at : Scenario → Cursor → Result (Item × Cursor) Flaw
+put_grant_at so_far c = do
+  size ← size_at so_far.sizes c
+  gref ← below_at size.0.grants size.1
+  half ← half_at gref.1
+  value ← below_at (2 ^ 32) half.1
+  Ok (Step (Put (Grant size.0.dom (record { 0 = gref.0.value }) half.0) value.0.value), value.1)
+
+-- swap D G OLD NEW: NEW in place of OLD at the flags of grant entry G of domain D
+unfoldable pub swap_at : Scenario → Cursor → Result (Item × Cursor) Flaw
+swap_at so_far c = do
+  size ← size_at so_far.sizes c
+  gref ← below_at size.0.grants size.1
+  old ← below_at (2 ^ 32) gref.1
+  new ← below_at (2 ^ 32) old.1
+  Ok (Step (Swap (Grant size.0.dom (record { 0 = gref.0.value }) Flags) old.0.value new.0.value), new.1)
+
+-- open D G F M N: N grants of domain D from G on, for its frames from F on, in mode M. N is 1 or more, and no more than
+-- there are grants from G on, and frames from F on.
+unfoldable pub open_at : Scenario → Cursor → Result (Item × Cursor) Flaw
+open_at so_far c = do
+  size ← size_at so_far.sizes c
+  gref ← below_at size.0.grants size.1
+  frame ← below_at size.0.frames gref.1
+  mode ← mode_at frame.1
+  count ← between_at 1 (min (size.0.grants - gref.0.value) (size.0.frames - frame.0.value)) mode.1
+  Ok (Step (Open (record { dom = size.0.dom; gref = record { 0 = gref.0.value }; frame = record { 0 = frame.0.value }; mode = mode.0; count = count.0.value })), count.1)
+
+-- end D G N: N grants of domain D from G on. N is 1 or more, and no more than there are grants from G on.
+unfoldable pub end_at : Scenario → Cursor → Result (Item × Cursor) Flaw
+end_at so_far c = do
+  size ← size_at so_far.sizes c
+  gref ← below_at size.0.grants size.1
+  count ← between_at 1 (size.0.grants - gref.0.value) gref.1
+  Ok (Step (End (record { dom = size.0.dom; gref = record { 0 = gref.0.value }; count = count.0.value })), count.1)
 
 -- serve N: device N
 unfoldable pub serve_at : Scenario → Cursor → Result (Item × Cursor) Flaw

@@ -3,11 +3,12 @@
 ghost use Rattle.std.specs.Prelude.{◌≡◌, ◌<◌, ◌≤◌, IfOk};
 ghost use Rattle.scenario_text.specs.Flaws.{Gives};
 ghost use Rattle.scenario_text.specs.Cursors.{cursor, seen};
-ghost use Rattle.scenario_text.specs.Arguments.{number_at, between_at, below_at, keyword_at};
+ghost use Rattle.scenario_text.specs.Arguments.{number_at, between_at, below_at, keyword_at, named, halves, half_at, modes, mode_at};
 
 use crate::fault::{FaultKind, Flaw};
 use crate::number::number_of;
 use crate::words::Words;
+use pv_words::{Half, Mode};
 
 /// A number of a line, and the column of its token.
 #[derive(Clone, Copy, Debug)]
@@ -82,5 +83,61 @@ pub fn keyword<'a>(words: Words<'a>, keyword: &[u8]) -> Result<Words<'a>, Flaw>
             column: word.column,
             kind: FaultKind::BadWord,
         })
+    }
+}
+
+/// The half of a grant entry that this word names.
+fn half_of(octets: &[u8]) -> Option<Half>
+    ensures { result ≡ named octets.now halves }
+{
+    if octets == b"flags".as_slice() {
+        Some(Half::Flags)
+    } else if octets == b"frame".as_slice() {
+        Some(Half::FrameNo)
+    } else {
+        None
+    }
+}
+
+/// The next token as the word for a half of a grant entry.
+#[tactic(auto, unfolding(crate::specs::Arguments::half_at))]
+pub fn half<'a>(words: Words<'a>) -> Result<(Half, Words<'a>), Flaw>
+    ensures { Gives seen result (half_at (cursor words.entry)) }
+{
+    let (word, words) = words.next()?;
+    match half_of(word.octets) {
+        Some(half) => Ok((half, words)),
+        None => Err(Flaw {
+            column: word.column,
+            kind: FaultKind::BadWord,
+        }),
+    }
+}
+
+/// The mode of a grant that this word names.
+fn mode_of(octets: &[u8]) -> Option<Mode>
+    ensures { result ≡ named octets.now modes }
+{
+    if octets == b"rw".as_slice() {
+        Some(Mode::Write)
+    } else if octets == b"ro".as_slice() {
+        Some(Mode::Read)
+    } else {
+        None
+    }
+}
+
+/// The next token as the word for what a grant permits.
+#[tactic(auto, unfolding(crate::specs::Arguments::mode_at))]
+pub fn mode<'a>(words: Words<'a>) -> Result<(Mode, Words<'a>), Flaw>
+    ensures { Gives seen result (mode_at (cursor words.entry)) }
+{
+    let (word, words) = words.next()?;
+    match mode_of(word.octets) {
+        Some(mode) => Ok((mode, words)),
+        None => Err(Flaw {
+            column: word.column,
+            kind: FaultKind::BadWord,
+        }),
     }
 }

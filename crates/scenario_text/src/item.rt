@@ -9,7 +9,7 @@ ghost use Rattle.scenario_text.specs.Items.{command_of, is_declaration, command_
 use crate::declaration::{display, domain};
 use crate::draft::{Draft, Item};
 use crate::fault::{FaultKind, Flaw};
-use crate::statement::{put, serve};
+use crate::statement::{end, open, put, put_grant, serve, swap};
 use crate::words::{Word, Words};
 
 /// What the first token of a line names.
@@ -18,6 +18,10 @@ pub enum Command {
     Domain,
     Display,
     Put,
+    PutGrant,
+    Swap,
+    Open,
+    End,
     Serve,
 }
 
@@ -28,6 +32,14 @@ fn command_of(octets: &[u8]) -> Option<Command>
 {
     if octets == b"put".as_slice() {
         Some(Command::Put)
+    } else if octets == b"putg".as_slice() {
+        Some(Command::PutGrant)
+    } else if octets == b"swap".as_slice() {
+        Some(Command::Swap)
+    } else if octets == b"open".as_slice() {
+        Some(Command::Open)
+    } else if octets == b"end".as_slice() {
+        Some(Command::End)
     } else if octets == b"serve".as_slice() {
         Some(Command::Serve)
     } else if octets == b"domain".as_slice() {
@@ -45,7 +57,12 @@ fn is_declaration(command: Command) -> bool
 {
     match command {
         Command::Domain | Command::Display => true,
-        Command::Put | Command::Serve => false,
+        Command::Put
+        | Command::PutGrant
+        | Command::Swap
+        | Command::Open
+        | Command::End
+        | Command::Serve => false,
     }
 }
 
@@ -80,6 +97,10 @@ fn arguments<'a>(
         Command::Domain => domain(so_far, words),
         Command::Display => display(so_far, words),
         Command::Put => put(so_far, words),
+        Command::PutGrant => put_grant(so_far, words),
+        Command::Swap => swap(so_far, words),
+        Command::Open => open(so_far, words),
+        Command::End => end(so_far, words),
         Command::Serve => serve(so_far, words),
     }
 }

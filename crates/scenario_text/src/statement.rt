@@ -4,20 +4,54 @@ ghost use Rattle.std.specs.Prelude.{◌≡◌};
 ghost use Rattle.scenario_text.specs.Flaws.{Gives};
 ghost use Rattle.scenario_text.specs.Cursors.{cursor, seen};
 ghost use Rattle.scenario_text.specs.Scenario.{drafted};
-ghost use Rattle.scenario_text.specs.Statements.{put_at, serve_at};
+ghost use Rattle.scenario_text.specs.Statements.{put_at, put_grant_at, swap_at, open_at, end_at, serve_at};
 
-use crate::argument::below;
+use crate::argument::{below, between, half, mode};
 use crate::draft::{Draft, Item};
 use crate::fault::Flaw;
 use crate::lookup::{declared_device, declared_domain};
 use crate::words::Words;
-use pv_words::{DevId, Frame, Place};
+use pv_words::{DevId, DomId, Frame, GrantRef, Half, Mode, Place};
+
+/// Grants that a domain opens to the backend: consecutive grant entries, for consecutive frames. The domain
+/// has all these entries and frames.
+#[derive(Clone, Copy, Debug, PartialEq, Eq)]
+pub struct Opening {
+    /// The domain that opens them.
+    pub dom: DomId,
+    /// The first grant.
+    pub gref: GrantRef,
+    /// The frame of the first grant.
+    pub frame: Frame,
+    /// What they permit.
+    pub mode: Mode,
+    /// How many grants, at least 1.
+    pub count: u32,
+}
+
+/// Grants that a domain ends: consecutive grant entries, which the domain has.
+#[derive(Clone, Copy, Debug, PartialEq, Eq)]
+pub struct Closing {
+    /// The domain that ends them.
+    pub dom: DomId,
+    /// The first grant.
+    pub gref: GrantRef,
+    /// How many grants, at least 1.
+    pub count: u32,
+}
 
 /// A statement of a scenario.
 #[derive(Clone, Copy, Debug, PartialEq, Eq)]
 pub enum Statement {
-    /// Store this value at this place, a word of a page.
+    /// Store this value at this place, a word of a page or a half of a grant entry.
     Put(Place, u32),
+    /// Store the second value at this place, the flags of a grant entry, where it holds the first one. It is
+    /// one atomic compare and exchange.
+    Swap(Place, u32, u32),
+    /// Open these grants.
+    Open(Opening),
+    /// End these grants.
+    End(Closing),
     /// Let this device work until it is idle.
     Serve(DevId),
 }
@@ -36,6 +70,74 @@ pub fn put<'a>(so_far: &Draft, words: Words<'a>) -> Result<(Item, Words<'a>), Fl
     let (value, words) = below(words, 1 << 32)?;
     let place = Place::Cell(size.dom, Frame(frame.value as u32), word.value as u16);
     Ok((Item::Step(Statement::Put(place, value.value as u32)), words))
+}
+
+/// `putg D G H V`: store V at half H, `flags` or `frame`, of grant entry G of domain D.
+#[tactic(auto, unfolding(crate::specs::Statements::put_grant_at))]
+pub fn put_grant<'a>(so_far: &Draft, words: Words<'a>) -> Result<(Item, Words<'a>), Flaw>
+    ensures { Gives seen result (put_grant_at (drafted so_far.now) (cursor words.entry)) }
+{
+    let (size, words) = declared_domain(&so_far.sizes, words)?;
+    let (gref, words) = below(words, u64::from(size.grants))?;
+    let (half, words) = half(words)?;
+    let (value, words) = below(words, 1 << 32)?;
+    let place = Place::Grant(size.dom, GrantRef(gref.value as u32), half);
+    Ok((Item::Step(Statement::Put(place, value.value as u32)), words))
+}
+
+/// `swap D G OLD NEW`: exchange the flags of grant entry G of domain D, where they are OLD, for NEW.
+#[tactic(auto, unfolding(crate::specs::Statements::swap_at))]
+pub fn swap<'a>(so_far: &Draft, words: Words<'a>) -> Result<(Item, Words<'a>), Flaw>
+    ensures { Gives seen result (swap_at (drafted so_far.now) (cursor words.entry)) }
+{
+    let (size, words) = declared_domain(&so_far.sizes, words)?;
+    let (gref, words) = below(words, u64::from(size.grants))?;
+    let (old, words) = below(words, 1 << 32)?;
+    let (new, words) = below(words, 1 << 32)?;
+    let place = Place::Grant(size.dom, GrantRef(gref.value as u32), Half::Flags);
+    let statement = Statement::Swap(place, old.value as u32, new.value as u32);
+    Ok((Item::Step(statement), words))
+}
+
+/// `open D G F M N`: open the N grants from G on of domain D, for its frames from F on, in mode M, which is
+/// `rw` or `ro`. The domain has all these grants and frames.
+#[tactic(auto, unfolding(crate::specs::Statements::open_at))]
+pub fn open<'a>(so_far: &Draft, words: Words<'a>) -> Result<(Item, Words<'a>), Flaw>
+    ensures { Gives seen result (open_at (drafted so_far.now) (cursor words.entry)) }
+{
+    let (size, words) = declared_domain(&so_far.sizes, words)?;
+    let (gref, words) = below(words, u64::from(size.grants))?;
+    let (frame, words) = below(words, u64::from(size.frames))?;
+    let (mode, words) = mode(words)?;
+    let gref = GrantRef(gref.value as u32);
+    let frame = Frame(frame.value as u32);
+    let room = (size.grants - gref.0).min(size.frames - frame.0);
+    let (count, words) = between(words, 1, room)?;
+    let opening = Opening {
+        dom: size.dom,
+        gref,
+        frame,
+        mode,
+        count: count.value as u32,
+    };
+    Ok((Item::Step(Statement::Open(opening)), words))
+}
+
+/// `end D G N`: end the N grants from G on of domain D, which has them all.
+#[tactic(auto, unfolding(crate::specs::Statements::end_at))]
+pub fn end<'a>(so_far: &Draft, words: Words<'a>) -> Result<(Item, Words<'a>), Flaw>
+    ensures { Gives seen result (end_at (drafted so_far.now) (cursor words.entry)) }
+{
+    let (size, words) = declared_domain(&so_far.sizes, words)?;
+    let (gref, words) = below(words, u64::from(size.grants))?;
+    let gref = GrantRef(gref.value as u32);
+    let (count, words) = between(words, 1, size.grants - gref.0)?;
+    let closing = Closing {
+        dom: size.dom,
+        gref,
+        count: count.value as u32,
+    };
+    Ok((Item::Step(Statement::End(closing)), words))
 }
 
 /// `serve N`: let device N work until it is idle.

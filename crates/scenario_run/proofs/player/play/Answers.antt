@@ -1,6 +1,7 @@
 use Rattle.std.proofs.Common.{List, ◌∙◌, ap}
 use Rattle.pv_words.specs.declared.setup.DomainSize.{DomainSize}
 use Rattle.pv_words.specs.Sizes.{frames_by, grants_by}
+use Rattle.scenario_run.proofs.Plays.{nothing_played}
 use Rattle.scenario_run.proofs.player.play.Goals as goal
 
 pub play_all-requires-clause-new : goal.play_all-requires-clause-new
@@ -12,3 +13,6 @@ play_all-requires-clause-new c =
       words_are = λ q. c.in-Ok.ensures.zero q;
       rooms = rw c.devices.ensures c.requires.playable.rooms;
     })
+
+pub returns-in_default-clause-stopped : goal.returns-in_default-clause-stopped
+returns-in_default-clause-stopped c = nothing_played c.args.script.now c.args.journal.now.entries c.requires.empty

@@ -16,7 +16,7 @@ owning-preserved g c =
     record {
       live = more.0;
       keeps = more.1;
-      range = subst (λ (n : ℕ). c.args.gref.0 < n) (sym c.own_turn.ensures.range) c.owning.invariant.range;
+      grants = c.own_turn.ensures.range ∙ c.owning.invariant.grants;
       same = c.own_turn.ensures.same ∙ c.owning.invariant.same;
       steps = λ frames grants m st e.
           owns_on g.W.Machine.word g.W.Words.frames_of g.W.Words.grants_of frames grants (memory_of c.owning.self) (memory_of c.own_turn.new.self) (device_of c.owning.self) (device_of c.own_turn.new.self) c.args.dom c.args.gref (left_of c.args.owning) (left_of c.owning.owning) (left_of c.own_turn.new.owning) c.owning.journal.entries c.own_turn.new.journal.entries m (c.owning.invariant.steps frames grants m st e)

@@ -111,6 +111,31 @@ fn more_requests_than_slots(rt: HostRuntime) -> Result<(), Fail> {
 }
 
 #[test]
+fn grants_are_opened_and_ended(rt: HostRuntime) -> Result<(), Fail> {
+    let outcome = run_script(
+        rt.alloc(),
+        "domain 1 wild 2 2\nopen 1 0 0 rw 1\nopen 1 0 1 ro 1\nend 1 0 1\nputg 1 0 flags 9\nend 1 0 1\n",
+    )?;
+    assert_eq!(rt; outcome.status, Status::Ok);
+    assert_eq!(rt;
+        outcome.sink.as_slice(),
+        b"grant 1 0 refused 1\ngrant 1 0 ended\ngrant 1 0 busy 9\n".as_slice()
+    );
+    Ok(())
+}
+
+#[test]
+fn an_exchange_of_another_word_changes_nothing(rt: HostRuntime) -> Result<(), Fail> {
+    let outcome = run_script(
+        rt.alloc(),
+        "domain 1 wild 2 2\nopen 1 0 1 ro 1\nswap 1 0 5 0\nend 1 0 1\n",
+    )?;
+    assert_eq!(rt; outcome.status, Status::Ok);
+    assert_eq!(rt; outcome.sink.as_slice(), b"grant 1 0 ended\n".as_slice());
+    Ok(())
+}
+
+#[test]
 fn words_that_are_no_command(rt: HostRuntime) -> Result<(), Fail> {
     let alloc = rt.alloc();
     for text in ["", "run run", "soak 0", "walk"] {

@@ -1,5 +1,5 @@
 -- A domain's permits and ends, from single accesses.
-use Rattle.std.proofs.Common.{◌≡◌, ℕ, ◌<◌, ◌==◌, ◌⊎◌, inl, inr, Bool, true, false, cond, List, [], ◌∷◌, ◌++◌, length, Option, Some, None, Result, Ok, Err, is_none, refl, sym, subst, ◌∙◌, ap, append_assoc}
+use Rattle.std.proofs.Common.{◌≡◌, ℕ, ◌<◌, ◌==◌, ◌⊎◌, inl, inr, Bool, true, false, cond, List, [], ◌∷◌, ◌++◌, Option, Some, None, Result, Ok, Err, refl, sym, subst, ◌∙◌, ap, append_assoc}
 use Rattle.std.proofs.lemmas.List.{append-nil}
 use Rattle.std.specs.List.{AllByRecursion}
 use Rattle.pv_words.specs.declared.access.Access.{Access}
@@ -27,7 +27,7 @@ use Rattle.grant_table.specs.Owning.{permit_plan, name_plan, open_plan, end_plan
 use Rattle.pv_world.specs.declared.world.Placed.{Placed}
 use Rattle.pv_world.specs.Marked.{Item, Entered, entries, own}
 use Rattle.pv_world.specs.History.{IsHistory, Belongs, IsExplainedIn, first_stand}
-use Rattle.pv_world.specs.Owner.{Leads, IsDone, IsUnderWay, IsFullAt, HasCauseAt, StopsOwning, Owns, OwnsOn, EntersTurn, KeepsToEntry, news_of, told_of, told_items}
+use Rattle.pv_world.specs.Owner.{Leads, IsDone, IsUnderWay, HasCauseAt, StopsOwning, Owns, OwnsOn, EntersTurn, KeepsToEntry, told_of, told_items}
 use Rattle.pv_world.specs.Record.{IsAtLimit}
 use Rattle.pv_world.specs.World.{Stands, IsPlacedIn, front_access, setups}
 use Rattle.pv_world.proofs.Items.{entries_append, own_append}
@@ -192,9 +192,9 @@ module _ {W : Type 0} (word : W → Place → ℕ) (fs gs : W → ℕ → ℕ) (
         goes_on = subst (λ (y : List Item). IsHistory frames grants devices y) (append_assoc m here (part ++ Entered h.due ∷ []) ∙ ap (λ (y : List Item). m ++ y) joined) h.goes_on;
         next = subst (λ (y : List Item). IsUnderWay p y ⊎ IsDone dom gref p y) joined (later_next h.next);
       } where
-      later_next : (IsUnderWay q (part ++ Entered h.due ∷ []) ⊎ IsDone dom gref q (part ++ Entered h.due ∷ [])) → IsUnderWay p (here ++ (part ++ Entered h.due ∷ [])) ⊎ IsDone dom gref p (here ++ (part ++ Entered h.due ∷ []))
-      later_next (inl u) = inl (under_way_after p q here (part ++ Entered h.due ∷ []) leads u)
-      later_next (inr d) = inr (done_after dom gref p q here (part ++ Entered h.due ∷ []) leads d)
+        later_next : (IsUnderWay q (part ++ Entered h.due ∷ []) ⊎ IsDone dom gref q (part ++ Entered h.due ∷ [])) → IsUnderWay p (here ++ (part ++ Entered h.due ∷ [])) ⊎ IsDone dom gref p (here ++ (part ++ Entered h.due ∷ []))
+        later_next (inl u) = inl (under_way_after p q here (part ++ Entered h.due ∷ []) leads u)
+        later_next (inr d) = inr (done_after dom gref p q here (part ++ Entered h.due ∷ []) leads d)
   later_cause devices dom gref p q OutOfMemory m here part es leads h = tt
 
   -- a step after the steps so far

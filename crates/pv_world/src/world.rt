@@ -11,8 +11,8 @@ use crate::owner::{Owning, news, place};
 use display_backend::{Display, Step};
 use grant_table::{Owned, OwnerStep};
 use pv_words::{
-    Access, DevId, DeviceSetup, DomId, End, Entry, Frame, GrantRef, JOURNAL_LIMIT, Journal, Machine,
-    Mode, Place, Said, Stop, Turn,
+    Access, DevId, DeviceSetup, DomId, End, Entry, Frame, GrantRef, JOURNAL_LIMIT, Journal,
+    Machine, Mode, Place, Said, Stop, Turn,
 };
 
 /// A device, and what was declared of it.
@@ -277,7 +277,12 @@ impl<W: Machine> World<W> {
     }
 
     /// A domain ends a grant of its own, and is told what became of it. After a Stop the entries so far stand.
-    pub fn end_grant(&mut self, dom: DomId, gref: GrantRef, journal: &mut Journal) -> Result<(), Stop>
+    pub fn end_grant(
+        &mut self,
+        dom: DomId,
+        gref: GrantRef,
+        journal: &mut Journal,
+    ) -> Result<(), Stop>
         requires { gref.0 < W.grants_of (memory_of self.old) dom.0 }
         ensures owns { (frames grants : ℕ → ℕ) (m : List Item) →
             Stands W.word W.frames_of W.grants_of frames grants (memory_of self.old) (device_of self.old) m → entries m ≡ journal.old.entries →

@@ -1,4 +1,4 @@
-use Rattle.std.proofs.Common.{◌≡◌, ℕ, ◌<◌, Bool, Ok, subst, sym, ap, ◌∙◌}
+use Rattle.std.proofs.Common.{Bool, Ok, subst, ap, ◌∙◌}
 use Rattle.std.proofs.lemmas.Result.{err_from_is_err_and}
 use Rattle.pv_world.specs.Owner.{OwnsOn, left_of}
 use Rattle.pv_world.specs.World.{device_of, memory_of}

@@ -1,4 +1,4 @@
-use Rattle.std.proofs.Common.{◌≡◌, ℕ, ◌-◌, ◌<◌, length, List, Ok, true}
+use Rattle.std.proofs.Common.{◌≡◌, ℕ, ◌-◌, length, List, Ok, true}
 use Rattle.pv_words.specs.Plan.{IsUnfinished}
 use Rattle.pv_world.specs.Marked.{Item, entries}
 use Rattle.pv_world.specs.Owner.{KeepsToEntry, OwnsOn, left_of}

@@ -1,5 +1,5 @@
 -- What a device holds after the accesses of a map.
-use Rattle.std.proofs.Common.{◌≡◌, ◌≢◌, ℕ, ◌+◌, ◌==◌, ◌&&◌, Bool, true, false, not, cond, nat_lt, List, [], ◌∷◌, ◌++◌, Option, Some, None, is_some, Result, Ok, Err, refl, sym, ◌∙◌, ap, arith}
+use Rattle.std.proofs.Common.{◌≡◌, ℕ, ◌+◌, ◌==◌, ◌&&◌, Bool, true, false, not, cond, nat_lt, List, [], ◌∷◌, ◌++◌, Option, Some, None, is_some, Result, Ok, Err, refl, sym, ◌∙◌, ap, arith}
 use Rattle.std.proofs.lemmas.Bool.Decides.{nat_tests}
 use Rattle.pv_words.specs.declared.place.Place.TheVariants.{Cell, Grant}
 use Rattle.pv_words.specs.declared.place.Half.TheVariants.{Flags, FrameNo}
@@ -13,7 +13,7 @@ use Rattle.pv_words.specs.declared.grant.GrantRefusal.TheVariants.{NoEntry, Move
 use Rattle.pv_words.specs.Along.{after}
 use Rattle.pv_words.specs.Held.{Begun, Holds, holding, in_use, permits, begins, unheld}
 use Rattle.pv_words.specs.Held as pv
-use Rattle.pv_words.specs.Plan.{Plan, Finished, Load, Swap, Clear, wanted, seen_by}
+use Rattle.pv_words.specs.Plan.{Finished, Load, Swap, Clear, wanted, seen_by}
 use Rattle.grant_table.specs.Flags.{flags_place, frame_place, refusal_of}
 use Rattle.grant_table.specs.Mapping.{hold_of, undo_plan, frame_plan, with_flags, flags_plan}
 use Rattle.grant_table.specs.Laws.{HoldsExactly, Runs, with_result}
@@ -68,16 +68,17 @@ begins_none : (gref old new seen : ℕ) → (seen == old) ≡ false → begins g
 begins_none gref old new seen e =
     ap (λ t. cond (t && ((new == old + 8) && permits old Read)) (Some (record { gref = gref; mode = Read })) (cond (t && ((new == old + 24) && permits old Write)) (Some (record { gref = gref; mode = Write })) None)) e
 
+begins_is : (gref old new seen : ℕ) (read write : Bool) → ((seen == old) && ((new == old + 8) && permits old Read)) ≡ read → ((seen == old) && ((new == old + 24) && permits old Write)) ≡ write → begins gref old new seen ≡ cond read (Some (record { gref = gref; mode = Read })) (cond write (Some (record { gref = gref; mode = Write })) None)
+begins_is gref old new seen read write r w = rw r (rw w refl)
+
 begins_mode : (gref word seen : ℕ) (mode : Mode) → (seen == word) ≡ true → permits word mode ≡ true → begins gref word (word + in_use mode) seen ≡ Some (record { gref = gref; mode = mode })
 begins_mode gref word seen Read same ok =
-    let test : ((seen == word) && ((word + 8 == word + 8) && permits word Read)) ≡ true = rw same (rw ok (grind (arith, nat_tests))) in
-    ap (λ t. cond t (Some (record { gref = gref; mode = Read })) (cond ((seen == word) && ((word + 8 == word + 24) && permits word Write)) (Some (record { gref = gref; mode = Write })) None)) test
+    let is : (word + 8 == word + 8) ≡ true = grind (arith, nat_tests) in
+    begins_is gref word (word + 8) seen true ((seen == word) && ((word + 8 == word + 24) && permits word Write)) (rw same (rw is ok)) refl
 begins_mode gref word seen Write same ok =
     let apart : (word + 24 == word + 8) ≡ false = grind (arith, nat_tests) in
-    let other : ((seen == word) && ((word + 24 == word + 8) && permits word Read)) ≡ false = rw same (rw apart refl) in
-    let test : ((seen == word) && ((word + 24 == word + 24) && permits word Write)) ≡ true = rw same (rw ok (grind (arith, nat_tests))) in
-    ap (λ t. cond t (Some (record { gref = gref; mode = Read })) (cond ((seen == word) && ((word + 24 == word + 24) && permits word Write)) (Some (record { gref = gref; mode = Write })) None)) other
-    ∙ ap (λ t. cond t (Some (record { gref = gref; mode = Write })) None) test
+    let is : (word + 24 == word + 24) ≡ true = grind (arith, nat_tests) in
+    begins_is gref word (word + 24) seen false true (rw same (rw apart refl)) (rw same (rw is ok))
 
 permitted : (b : Bool) → false ≡ not b → b ≡ true
 permitted true e = refl

@@ -1,5 +1,5 @@
 -- What each access of a map leads to.
-use Rattle.std.proofs.Common.{◌≡◌, ◌≢◌, ℕ, ◌+◌, ◌<◌, ◌≤◌, ◌==◌, Bool, true, false, cond, nat_lt, Option, Some, None, Result, Ok, Err, refl, sym, ◌∙◌, ap, arith}
+use Rattle.std.proofs.Common.{◌≡◌, ◌≢◌, ℕ, ◌+◌, ◌<◌, ◌≤◌, ◌==◌, true, false, cond, nat_lt, Some, None, Result, Ok, Err, refl, sym, ◌∙◌, ap, arith}
 use Rattle.std.proofs.lemmas.Bool.Decides.{nat_tests}
 use Rattle.pv_words.specs.declared.access.Access.TheVariants as access
 use Rattle.pv_words.specs.declared.grant.Hold.{Hold}
@@ -7,11 +7,11 @@ use Rattle.pv_words.specs.declared.grant.Mode.{Mode}
 use Rattle.pv_words.specs.declared.grant.GrantRefusal.{GrantRefusal}
 use Rattle.pv_words.specs.declared.grant.GrantRefusal.TheVariants.{NoEntry, Moved, BadFrame}
 use Rattle.pv_words.specs.Held.{in_use}
-use Rattle.pv_words.specs.Plan.{Plan, Finished, Make, Load, Swap, Clear, Plain, Begins, Frames, Undoes}
+use Rattle.pv_words.specs.Plan.{Finished, Make, Load, Swap, Clear, Plain, Begins, Frames, Undoes}
 use Rattle.grant_table.specs.declared.map.MapStage.{MapStage}
 use Rattle.grant_table.specs.declared.map.MapStage.TheVariants as stage
 use Rattle.grant_table.specs.Flags.{flags_place, frame_place, refusal_of}
-use Rattle.grant_table.specs.Mapping.{map_plan, flags_plan, with_flags, begin_plan, with_seen, frame_plan, with_frame, undo_plan, hold_of, Advances}
+use Rattle.grant_table.specs.Mapping.{flags_plan, with_flags, begin_plan, with_seen, frame_plan, with_frame, undo_plan, hold_of, Advances}
 use Rattle.grant_table.specs.MapLeft.{map_rest}
 use Rattle.grant_table.proofs.Plans.{goes_from}
 

@@ -1,8 +1,7 @@
 -- What maps and ends come to.
-use Rattle.std.proofs.Common.{◌≡◌, ℕ, ◌%◌, ◌/◌, ◌==◌, ◌&&◌, ◌||◌, Bool, true, false, not, cond, nat_lt, bit_and, List, [], ◌∷◌, Option, Some, None, is_some, Result, Ok, Err, refl, sym, ◌∙◌, ap, arith}
+use Rattle.std.proofs.Common.{◌≡◌, ℕ, ◌%◌, ◌/◌, ◌==◌, ◌&&◌, ◌||◌, Bool, true, false, not, cond, nat_lt, bit_and, [], ◌∷◌, Option, Some, None, is_some, Ok, Err, refl, sym, ◌∙◌, ap, arith}
 use Rattle.std.proofs.lemmas.Bool.{false≢true}
 use Rattle.std.proofs.lemmas.Bool.Decides.{nat_tests}
-use Rattle.pv_words.specs.declared.grant.Hold.{Hold}
 use Rattle.pv_words.specs.declared.grant.Mode.{Mode}
 use Rattle.pv_words.specs.declared.grant.Mode.TheVariants.{Read, Write}
 use Rattle.pv_words.specs.declared.grant.GrantRefusal.{GrantRefusal}
@@ -10,13 +9,11 @@ use Rattle.pv_words.specs.declared.grant.GrantRefusal.TheVariants.{NoEntry, Move
 use Rattle.pv_words.specs.Held.{permits}
 use Rattle.pv_words.specs.Memory.{without}
 use Rattle.pv_words.specs.Plan.{Finished}
-use Rattle.grant_table.specs.declared.owner.Owned.{Owned}
 use Rattle.grant_table.specs.declared.owner.Owned.TheVariants.{Ended, Busy}
 use Rattle.grant_table.specs.declared.owner.Owned.TheVariants as owned
 use Rattle.grant_table.specs.Flags.{refusal_of, has, used}
 use Rattle.grant_table.specs.Mapping.{hold_of, undo_plan, frame_plan, with_flags, flags_plan}
-use Rattle.grant_table.specs.Owning.{ended_at}
-use Rattle.grant_table.specs.Laws.{RefusesExactly, MapsExactly, EndsExactly, GrantsExactly, outcome, won, closed, Means}
+use Rattle.grant_table.specs.Laws.{RefusesExactly, MapsExactly, EndsExactly, GrantsExactly, outcome, won, Means}
 use Rattle.grant_table.proofs.Bits.{test_280, test_284, without_used}
 
 -- the tests of a flags' word one after another, and all of them at once
@@ -74,10 +71,10 @@ ending word seen false false b s clash = (b, (refl, refl))
 pub ends_exactly : EndsExactly
 ends_exactly word seen =
     ending word seen (has seen used) (seen == without word used) refl refl (λ busy same.
-        let equal : seen ≡ without word used = grind (arith, nat_tests) in
-        let none : bit_and seen 24 ≡ 0 = ap (λ x. bit_and x 24) equal ∙ without_used word in
-        let free : (bit_and seen 24 == 0) ≡ true = grind (arith, nat_tests) in
-        false≢true (sym (ap not free) ∙ busy))
+    let equal : seen ≡ without word used = grind (arith, nat_tests) in
+    let none : bit_and seen 24 ≡ 0 = ap (λ x. bit_and x 24) equal ∙ without_used word in
+    let free : (bit_and seen 24 == 0) ≡ true = grind (arith, nat_tests) in
+    false≢true (sym (ap not free) ∙ busy))
 
 pub grants_exactly : GrantsExactly
 grants_exactly Read Read = refl

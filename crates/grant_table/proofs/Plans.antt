@@ -1,7 +1,7 @@
 -- A plan of which the next access is known.
-use Rattle.std.proofs.Common.{◌≡◌, ℕ, Option, Some, None, Result, sym, subst}
+use Rattle.std.proofs.Common.{◌≡◌, ℕ, Option, Result, sym, subst}
 use Rattle.pv_words.specs.declared.access.Access.{Access}
-use Rattle.pv_words.specs.Plan.{Plan, Finished, Make, Want, Note, Goes, Turns, IsUnfinished, MayGo}
+use Rattle.pv_words.specs.Plan.{Plan, Finished, Make, Want, Note, Goes, Turns, MayGo}
 use Rattle.pv_words.specs.declared.grant.Hold.{Hold}
 use Rattle.pv_words.specs.declared.grant.GrantRefusal.{GrantRefusal}
 use Rattle.grant_table.specs.Mapping.{Advances, HoldsByAccess}
@@ -12,9 +12,9 @@ goes_from {A} p want note k a new e h = subst (λ (x : Plan A). Goes x a new) (s
 pub may_from : {A : Type 0} (may : Want → Type 0) (p : Plan A) (want : Want) (note : Note) (k : ℕ → Plan A) → p ≡ Make want note k → MayGo may p → may want
 may_from {A} may p want note k e h = subst (λ (x : Plan A). MayGo may x) e h
 
--- a step that was done, whose results are known by equations
-pub advances_done : {A : Type 0} (p : Plan A) (access x : Option Access) (over : Option A) (end : A) (new : Plan A) → access ≡ x → over ≡ Some end → new ≡ Finished end → Advances p x (Some end) (Finished end) → Advances p access over new
-advances_done p access x over end new a d n h = rw a (rw d (rw n h))
+-- a step whose results are known by equations
+pub advances_as : {A : Type 0} (p : Plan A) (access x : Option Access) (over y : Option A) (new q : Plan A) → access ≡ x → over ≡ y → new ≡ q → Advances p x y q → Advances p access over new
+advances_as p access x over y new q a d n h = rw a (rw d (rw n h))
 
 pub turns_as : {A : Type 0} (p : Plan A) (access x : Option Access) (over y : Option A) (new q : Plan A) → access ≡ x → over ≡ y → new ≡ q → Turns p x y q → Turns p access over new
 turns_as p access x over y new q a d n h = rw a (rw d (rw n h))

@@ -6,7 +6,7 @@ use Rattle.pv_words.specs.declared.grant.Mode.{Mode}
 use Rattle.pv_words.specs.declared.grant.Mode.TheVariants.{Read, Write}
 use Rattle.pv_words.specs.declared.grant.GrantRefusal.{GrantRefusal}
 use Rattle.pv_words.specs.Along.{after}
-use Rattle.pv_words.specs.Held.{Holds, holding, in_use, permits, unheld}
+use Rattle.pv_words.specs.Held.{holding, in_use, permits, unheld}
 use Rattle.pv_words.specs.Memory.{without}
 use Rattle.pv_words.specs.Plan.{Plan, Finished, Make, wanted, seen_by}
 use Rattle.grant_table.specs.declared.owner.Owned.{Owned}
@@ -43,7 +43,7 @@ abbrev pub MapsExactly : Type 0
 MapsExactly =
     (frames grants dom gref : ℕ) (mode : Mode) (word seen frame last : ℕ)
     → won (outcome (map_plan frames grants dom gref mode) (word ∷ seen ∷ frame ∷ last ∷ []))
-      ≡ (if succeeds frames grants gref mode word seen frame then Some (hold_of dom gref mode frame) else None)
+    ≡ (if succeeds frames grants gref mode word seen frame then Some (hold_of dom gref mode frame) else None)
 
 -- these accesses are a plan's, from the first to the last, and it comes to this result
 abbrev pub Runs : {A : Type 0} → Plan A → List Access → A → Type 0
@@ -57,8 +57,8 @@ abbrev pub with_result : List Hold → Result Hold GrantRefusal → List Hold
 with_result held (Ok h) = held ++ h ∷ []
 with_result held (Err r) = held
 
--- A map makes a device that held no page by this entry for this mode hold one page more where it succeeds, and
--- nothing more or less where it is refused.
+-- By a map a device that holds no page yet by this entry for this mode holds one page more where it succeeds, and what
+-- it held before where it is refused, also where the mapping was begun and taken back.
 abbrev pub HoldsExactly : Type 0
 HoldsExactly =
     (frames : ℕ → ℕ) (grants dom gref : ℕ) (mode : Mode) (held : List Hold) (made : List Access) (r : Result Hold GrantRefusal)

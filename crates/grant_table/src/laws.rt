@@ -8,25 +8,21 @@ ghost use Rattle.grant_table.specs.Laws.{RefusesExactly, MapsExactly, HoldsExact
 pub fn maps_exactly()
     ensures refused { RefusesExactly }
     ensures held { MapsExactly }
-{
-}
+{}
 
-/// By the accesses of a map a device holds one page more where it comes to a hold, that hold; and what it held before
-/// where the map is refused.
+/// By the accesses of a map a device that holds no page yet by the same entry for the same mode holds one page more
+/// where the map succeeds, and what it held before where it is refused.
 pub fn holds_exactly()
     ensures { HoldsExactly }
-{
-}
+{}
 
-/// An end answers Ended exactly where its exchange freed the entry, and Busy exactly where its exchange saw an in-use
-/// bit; but where it answers Ended, the word is as it was.
+/// An end answers Ended exactly where its exchange frees the entry, in which it saw no in-use bit, and Busy exactly
+/// where it saw one. With any other answer than Ended the flags' word is as the exchange saw it.
 pub fn ends_exactly()
     ensures { EndsExactly }
-{
-}
+{}
 
 /// A grant for reading and writing permits both, one for reading alone permits reading.
 pub fn grants_exactly()
     ensures { GrantsExactly }
-{
-}
+{}

@@ -6,7 +6,9 @@ ghost use Rattle.pv_words.specs.Plan.{wanted};
 ghost use Rattle.grant_table.specs.Flags.{refusal_of};
 ghost use Rattle.grant_table.specs.Mapping.{unmap_want};
 
-use pv_words::{Access, DomId, Frame, GrantRef, GrantRefusal, Half, Hold, Mode, Place, Turn, Words};
+use pv_words::{
+    Access, DomId, Frame, GrantRef, GrantRefusal, Half, Hold, Mode, Place, Turn, Words,
+};
 
 /// A bit of the flags: the grant is read-only.
 const READ_ONLY: u32 = 4;
@@ -80,7 +82,7 @@ fn refusal_of(word: u32, mode: Mode) -> Option<GrantRefusal>
 impl MapStep {
     ghost use Rattle.pv_words.specs.Plan.{MayGo, Makes};
     ghost use Rattle.grant_table.specs.declared.map.MapStage.TheVariants as stage;
-    ghost use Rattle.grant_table.specs.Mapping.{map_plan, Advances, HoldsByAccess};
+    ghost use Rattle.grant_table.specs.Mapping.{map_plan, hold_of, Advances, HoldsByAccess};
     ghost use Rattle.grant_table.specs.MapLeft.{map_left, dom_of, is_over};
 
     /// A map of this entry of the domain's grant table, before its first access.
@@ -97,8 +99,37 @@ impl MapStep {
         }
     }
 
+    // The hold that it comes to.
+    fn hold(&self, frame: u32) -> Hold
+        ensures { result ≡ hold_of self.now.dom.0 self.now.gref.0 self.now.mode frame }
+    {
+        Hold {
+            dom: self.dom,
+            gref: self.gref,
+            frame: Frame(frame),
+            mode: self.mode,
+        }
+    }
+
+    // The map goes on.
+    fn goes_on(&mut self, access: Access, next: MapStage) -> Turn<Result<Hold, GrantRefusal>>
+        ensures access { result.access ≡ Some access }
+        ensures done { result.done ≡ None }
+        ensures left { self.new ≡ record { dom = self.old.dom; gref = self.old.gref; mode = self.old.mode; stage = next } }
+    {
+        self.stage = next;
+        Turn {
+            access: Some(access),
+            done: None,
+        }
+    }
+
     // The map is done.
-    fn ends(&mut self, access: Option<Access>, end: Result<Hold, GrantRefusal>) -> Turn<Result<Hold, GrantRefusal>>
+    fn ends(
+        &mut self,
+        access: Option<Access>,
+        end: Result<Hold, GrantRefusal>,
+    ) -> Turn<Result<Hold, GrantRefusal>>
         ensures access { result.access ≡ access }
         ensures done { result.done ≡ Some end }
         ensures left { self.new ≡ record { dom = self.old.dom; gref = self.old.gref; mode = self.old.mode; stage = stage.Over end } }
@@ -110,9 +141,12 @@ impl MapStep {
         }
     }
 
-    /// Makes the next access of the map. Done is the page that is held from then on, or why it was refused, by the
-    /// first reason that applies. A reference that the grant table doesn't have is refused without an access; a map
-    /// that is done answers the same again, without one.
+    /// Makes the next access of the map: it loads the flags, exchanges them for the same with the in-use bits of the
+    /// mode, and loads the frame. Done is the page, which is held from then on, or why it was refused:
+    /// NoEntry where the domain has no such entry, and then there is no access; by the flags' word that was loaded
+    /// NotPermitted, OtherDomain, ReadOnly or InUse, the first that applies in this order; Moved where the exchange saw
+    /// another word; BadFrame where the domain has no such frame. A refusal leaves the flags as they were: before
+    /// BadFrame the bits that were set are cleared again. A map that is done answers the same again, without an access.
     pub fn step<W: Words>(&mut self, words: &mut W) -> Turn<Result<Hold, GrantRefusal>>
         requires { MayGo (W.may words.old) (map_left (W.frames_of words.old (dom_of self.old)) (W.grants_of words.old (dom_of self.old)) self.old) }
         ensures advances { Advances (map_left (W.frames_of words.old (dom_of self.old)) (W.grants_of words.old (dom_of self.old)) self.old) result.access result.done (map_left (W.frames_of words.old (dom_of self.old)) (W.grants_of words.old (dom_of self.old)) self.new) }
@@ -129,13 +163,9 @@ impl MapStep {
                 }
                 let word = words.load(flags);
                 let access = Access::Load(flags, word);
-                if let Some(refusal) = refusal_of(word, self.mode) {
-                    return self.ends(Some(access), Err(refusal));
-                }
-                self.stage = MapStage::Begin(word as u16);
-                Turn {
-                    access: Some(access),
-                    done: None,
+                match refusal_of(word, self.mode) {
+                    Some(refusal) => self.ends(Some(access), Err(refusal)),
+                    None => self.goes_on(access, MapStage::Begin(word as u16)),
                 }
             }
             MapStage::Begin(word) => {
@@ -143,39 +173,30 @@ impl MapStep {
                 let new = old + bits_of(self.mode);
                 let seen = words.swap_if(flags, old, new);
                 let access = Access::Cas(flags, old, new, seen);
-                if seen != old {
-                    return self.ends(Some(access), Err(GrantRefusal::Moved(old, seen)));
-                }
-                self.stage = MapStage::Name;
-                Turn {
-                    access: Some(access),
-                    done: None,
+                if seen == old {
+                    self.goes_on(access, MapStage::Name)
+                } else {
+                    self.ends(Some(access), Err(GrantRefusal::Moved(old, seen)))
                 }
             }
             MapStage::Name => {
-                let frames = words.frames(self.dom);
                 let at = Place::Grant(self.dom, self.gref, Half::FrameNo);
                 let frame = words.load(at);
                 let access = Access::Load(at, frame);
-                if frame < frames {
-                    let hold = Hold {
-                        dom: self.dom,
-                        gref: self.gref,
-                        frame: Frame(frame),
-                        mode: self.mode,
-                    };
-                    return self.ends(Some(access), Ok(hold));
-                }
-                self.stage = MapStage::Undo(frame);
-                Turn {
-                    access: Some(access),
-                    done: None,
+                if frame < words.frames(self.dom) {
+                    let hold = self.hold(frame);
+                    self.ends(Some(access), Ok(hold))
+                } else {
+                    self.goes_on(access, MapStage::Undo(frame))
                 }
             }
             MapStage::Undo(frame) => {
                 let mask = bits_of(self.mode);
                 let seen = words.clear(flags, mask);
-                self.ends(Some(Access::Clear(flags, mask, seen)), Err(GrantRefusal::BadFrame(frame)))
+                self.ends(
+                    Some(Access::Clear(flags, mask, seen)),
+                    Err(GrantRefusal::BadFrame(frame)),
+                )
             }
             MapStage::Over(end) => self.ends(None, end),
         }

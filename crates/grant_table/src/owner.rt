@@ -18,7 +18,8 @@ const IN_USE: u32 = 24;
 pub enum Owned {
     /// It grants the frame now.
     Opened,
-    /// It wasn't free: the flags' word that was found. Its flags are as they were.
+    /// It wasn't free: the flags' word that was found, which is as it was. Where the exchange found it, and not the load
+    /// before, the entry has the new frame.
     AlreadyOpen(u32),
     /// It is free now.
     Ended,
@@ -67,7 +68,11 @@ fn granting(mode: Mode) -> u32
 fn opened_at(seen: u32) -> Owned
     ensures { result ≡ opened_at seen }
 {
-    if seen == 0 { Owned::Opened } else { Owned::AlreadyOpen(seen) }
+    if seen == 0 {
+        Owned::Opened
+    } else {
+        Owned::AlreadyOpen(seen)
+    }
 }
 
 // What an end answers, which loaded this word, and whose exchange saw the other.
@@ -77,7 +82,11 @@ fn ended_at(word: u32, seen: u32) -> Owned
     if seen & IN_USE != 0 {
         return Owned::Busy(seen);
     }
-    if seen == word & (IN_USE ^ 0xFFFF_FFFF) { Owned::Ended } else { Owned::Moved(word, seen) }
+    if seen == word & (IN_USE ^ 0xFFFF_FFFF) {
+        Owned::Ended
+    } else {
+        Owned::Moved(word, seen)
+    }
 }
 
 impl OwnerStep {

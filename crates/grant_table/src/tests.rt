@@ -1,4 +1,3 @@
-ghost use Rattle.std.specs.Prelude.{Unit};
 ghost use Rattle.std.proofs.Common.{refl};
 
 use super::*;
@@ -115,9 +114,22 @@ fn hold(mode: Mode) -> Hold {
 
 #[test]
 fn maps_what_is_granted(rt: HostRuntime) {
-    for (flags, mode, after) in [(1, Mode::Read, 9), (1, Mode::Write, 25), (5, Mode::Read, 13), (97, Mode::Write, 121)] {
-        let mut entry = Entry { flags, frame: 2, other: None };
-        assert_eq!(rt; mapped(&mut entry, 3, mode), Some(Ok(hold(mode))), "of {flags}");
+    for (flags, mode, after) in [
+        (1, Mode::Read, 9),
+        (1, Mode::Write, 25),
+        (5, Mode::Read, 13),
+        (97, Mode::Write, 121),
+    ] {
+        let mut entry = Entry {
+            flags,
+            frame: 2,
+            other: None,
+        };
+        assert_eq!(rt;
+            mapped(&mut entry, 3, mode),
+            Some(Ok(hold(mode))),
+            "of {flags}"
+        );
         assert_eq!(rt; entry.flags, after, "of {flags}");
     }
 }
@@ -134,7 +146,11 @@ fn refuses_what_is_not(rt: HostRuntime) {
         (9, Mode::Read, GrantRefusal::InUse(9)),
         (17, Mode::Write, GrantRefusal::InUse(17)),
     ] {
-        let mut entry = Entry { flags, frame: 2, other: None };
+        let mut entry = Entry {
+            flags,
+            frame: 2,
+            other: None,
+        };
         assert_eq!(rt; mapped(&mut entry, 3, mode), Some(Err(want)), "of {flags}");
         assert_eq!(rt; entry.flags, flags, "of {flags}");
     }
@@ -142,12 +158,25 @@ fn refuses_what_is_not(rt: HostRuntime) {
 
 #[test]
 fn refuses_without_the_flags(rt: HostRuntime) {
-    let mut entry = Entry { flags: 1, frame: 4, other: None };
-    assert_eq!(rt; mapped(&mut entry, 8, Mode::Read), Some(Err(GrantRefusal::NoEntry(8))));
-    assert_eq!(rt; mapped(&mut entry, 7, Mode::Write), Some(Err(GrantRefusal::BadFrame(4))));
+    let mut entry = Entry {
+        flags: 1,
+        frame: 4,
+        other: None,
+    };
+    assert_eq!(rt;
+        mapped(&mut entry, 8, Mode::Read),
+        Some(Err(GrantRefusal::NoEntry(8)))
+    );
+    assert_eq!(rt;
+        mapped(&mut entry, 7, Mode::Write),
+        Some(Err(GrantRefusal::BadFrame(4)))
+    );
     assert_eq!(rt; entry.flags, 1);
     entry.other = Some(5);
-    assert_eq!(rt; mapped(&mut entry, 3, Mode::Read), Some(Err(GrantRefusal::Moved(1, 5))));
+    assert_eq!(rt;
+        mapped(&mut entry, 3, Mode::Read),
+        Some(Err(GrantRefusal::Moved(1, 5)))
+    );
     assert_eq!(rt; entry.flags, 5);
     maps_exactly();
     holds_exactly();
@@ -155,17 +184,30 @@ fn refuses_without_the_flags(rt: HostRuntime) {
 
 #[test]
 fn grants_and_ends(rt: HostRuntime) {
-    let mut entry = Entry { flags: 0, frame: 0, other: None };
+    let mut entry = Entry {
+        flags: 0,
+        frame: 0,
+        other: None,
+    };
     assert_eq!(rt; permitted(&mut entry, Mode::Read), Some(Owned::Opened));
     assert_eq!(rt; (entry.flags, entry.frame), (5, 2));
-    assert_eq!(rt; permitted(&mut entry, Mode::Write), Some(Owned::AlreadyOpen(5)));
-    assert_eq!(rt; mapped(&mut entry, 3, Mode::Read), Some(Ok(hold(Mode::Read))));
+    assert_eq!(rt;
+        permitted(&mut entry, Mode::Write),
+        Some(Owned::AlreadyOpen(5))
+    );
+    assert_eq!(rt;
+        mapped(&mut entry, 3, Mode::Read),
+        Some(Ok(hold(Mode::Read)))
+    );
     assert_eq!(rt; ended(&mut entry), Some(Owned::Busy(13)));
     unmap(&hold(Mode::Read), &mut entry);
     assert_eq!(rt; ended(&mut entry), Some(Owned::Ended));
     assert_eq!(rt; entry.flags, 0);
     entry.other = Some(1);
-    assert_eq!(rt; permitted(&mut entry, Mode::Read), Some(Owned::AlreadyOpen(1)));
+    assert_eq!(rt;
+        permitted(&mut entry, Mode::Read),
+        Some(Owned::AlreadyOpen(1))
+    );
     entry.other = Some(5);
     assert_eq!(rt; ended(&mut entry), Some(Owned::Moved(1, 5)));
     assert_eq!(rt; entry.flags, 5);

@@ -1,11 +1,12 @@
-use Rattle.std.proofs.Common.{◌≡◌, ◌+◌, Some, None, Ok, Err, true, is_some, refl, sym, ◌∙◌, ap, arith}
+use Rattle.std.proofs.Common.{◌+◌, Some, None, Ok, Err, is_some, sym, ◌∙◌, ap, arith}
 use Rattle.std.proofs.lemmas.Bool.{false≢true}
 use Rattle.pv_words.specs.declared.access.Access.TheVariants as access
 use Rattle.pv_words.specs.declared.grant.GrantRefusal.TheVariants.{NoEntry, Moved, BadFrame}
+use Rattle.pv_words.specs.Plan.{Finished}
 use Rattle.grant_table.specs.Flags.{flags_place, frame_place}
-use Rattle.grant_table.specs.Mapping.{hold_of}
+use Rattle.grant_table.specs.Mapping.{begin_plan, frame_plan, undo_plan, hold_of}
 use Rattle.grant_table.specs.MapLeft.{map_left, dom_of, is_over, is_last}
-use Rattle.grant_table.proofs.Plans.{may_from, advances_done, by_access}
+use Rattle.grant_table.proofs.Plans.{may_from, advances_as, by_access}
 use Rattle.grant_table.proofs.Maps.{start_head, start_ends, flags_refuse, flags_permit, begin_head, begin_moved, begin_holds, name_head, name_ends, name_undoes, undo_head, undo_ends, over_ends}
 use Rattle.grant_table.proofs.map.MapStep.step.Goals as goal
 
@@ -15,7 +16,7 @@ returns-then-self-grants-clause-advances g c =
     let m = c.args.self.now in
     let frames = g.W.Words.frames_of c.args.words.now m.dom.0 in
     let grants = g.W.Words.grants_of c.args.words.now m.dom.0 in
-    advances_done (map_left frames grants m) c.ends.result.access None c.ends.result.done (Err (NoEntry m.gref.0)) (map_left frames grants c.ends.new.self) c.ends.ensures.access c.ends.ensures.done (ap (map_left frames grants) c.ends.ensures.left) (start_ends frames grants m.dom.0 m.gref.0 m.mode m.stage c.in-Start.is (omega (arith, c.grants.ensures)))
+    advances_as (map_left frames grants m) c.ends.result.access None c.ends.result.done (Some (Err (NoEntry m.gref.0))) (map_left frames grants c.ends.new.self) (Finished (Err (NoEntry m.gref.0))) c.ends.ensures.access c.ends.ensures.done (ap (map_left frames grants) c.ends.ensures.left) (start_ends frames grants m.dom.0 m.gref.0 m.mode m.stage c.in-Start.is (omega (arith, c.grants.ensures)))
 
 pub returns-then-self-grants-clause-dom : goal.returns-then-self-grants-clause-dom
 unfolding dom_of
@@ -44,7 +45,7 @@ returns-in-Some-clause-advances g c =
     let m = c.args.self.now in
     let frames = g.W.Words.frames_of c.args.words.now m.dom.0 in
     let grants = g.W.Words.grants_of c.args.words.now m.dom.0 in
-    advances_done (map_left frames grants m) c.ends-in-Some.result.access (Some (access.Load (flags_place m.dom.0 m.gref.0) c.load-word.result)) c.ends-in-Some.result.done (Err c.in-Some.refusal) (map_left frames grants c.ends-in-Some.new.self) c.ends-in-Some.ensures.access c.ends-in-Some.ensures.done (ap (map_left frames grants) c.ends-in-Some.ensures.left) (flags_refuse frames grants m.dom.0 m.gref.0 m.mode m.stage c.in-Start.is (omega (arith, c.grants.ensures)) c.load-word.result c.in-Some.refusal (sym c.refusal_of.ensures.exact ∙ c.in-Some.is))
+    advances_as (map_left frames grants m) c.ends-in-Some.result.access (Some (access.Load (flags_place m.dom.0 m.gref.0) c.load-word.result)) c.ends-in-Some.result.done (Some (Err c.in-Some.refusal)) (map_left frames grants c.ends-in-Some.new.self) (Finished (Err c.in-Some.refusal)) c.ends-in-Some.ensures.access c.ends-in-Some.ensures.done (ap (map_left frames grants) c.ends-in-Some.ensures.left) (flags_refuse frames grants m.dom.0 m.gref.0 m.mode m.stage c.in-Start.is (omega (arith, c.grants.ensures)) c.load-word.result c.in-Some.refusal (sym c.refusal_of.ensures.exact ∙ c.in-Some.is))
 
 pub returns-in-Some-clause-dom : goal.returns-in-Some-clause-dom
 unfolding dom_of
@@ -59,24 +60,26 @@ returns-in-Some-clause-held g c =
     let m = c.args.self.now in
     λ _. by_access c.ends-in-Some.result.access (Some (access.Load (flags_place m.dom.0 m.gref.0) c.load-word.result)) c.ends-in-Some.result.done (Some (Err c.in-Some.refusal)) c.ends-in-Some.ensures.access c.ends-in-Some.ensures.done tt
 
-pub returns-in_default-clause-advances : goal.returns-in_default-clause-advances
+pub returns-in-None-clause-advances : goal.returns-in-None-clause-advances
 unfolding map_left dom_of
-returns-in_default-clause-advances g c =
+returns-in-None-clause-advances g c =
     let m = c.args.self.now in
     let frames = g.W.Words.frames_of c.args.words.now m.dom.0 in
     let grants = g.W.Words.grants_of c.args.words.now m.dom.0 in
-    flags_permit frames grants m.dom.0 m.gref.0 m.mode m.stage c.in-Start.is (omega (arith, c.grants.ensures)) c.load-word.result (sym c.refusal_of.ensures.exact ∙ c.in_default.is)
+    advances_as (map_left frames grants m) c.goes_on.result.access (Some (access.Load (flags_place m.dom.0 m.gref.0) c.load-word.result)) c.goes_on.result.done None (map_left frames grants c.goes_on.new.self) (begin_plan frames m.dom.0 m.gref.0 m.mode c.load-word.result) c.goes_on.ensures.access c.goes_on.ensures.done (ap (map_left frames grants) c.goes_on.ensures.left) (flags_permit frames grants m.dom.0 m.gref.0 m.mode m.stage c.in-Start.is (omega (arith, c.grants.ensures)) c.load-word.result (sym c.refusal_of.ensures.exact ∙ c.in-None.is))
 
-pub returns-in_default-clause-dom : goal.returns-in_default-clause-dom
+pub returns-in-None-clause-dom : goal.returns-in-None-clause-dom
 unfolding dom_of
-returns-in_default-clause-dom g c = refl
+returns-in-None-clause-dom g c = ap dom_of c.goes_on.ensures.left
 
-pub returns-in_default-clause-over : goal.returns-in_default-clause-over
+pub returns-in-None-clause-over : goal.returns-in-None-clause-over
 unfolding is_over
-returns-in_default-clause-over g c = refl
+returns-in-None-clause-over g c = ap is_over c.goes_on.ensures.left ∙ sym (ap is_some c.goes_on.ensures.done)
 
-pub returns-in_default-clause-held : goal.returns-in_default-clause-held
-returns-in_default-clause-held g c = λ _. tt
+pub returns-in-None-clause-held : goal.returns-in-None-clause-held
+returns-in-None-clause-held g c =
+    let m = c.args.self.now in
+    λ _. by_access c.goes_on.result.access (Some (access.Load (flags_place m.dom.0 m.gref.0) c.load-word.result)) c.goes_on.result.done None c.goes_on.ensures.access c.goes_on.ensures.done tt
 
 pub swap_if-seen-requires : goal.swap_if-seen-requires
 unfolding map_left dom_of
@@ -92,20 +95,20 @@ returns-then-seen-old-clause-advances g c =
     let m = c.args.self.now in
     let frames = g.W.Words.frames_of c.args.words.now m.dom.0 in
     let grants = g.W.Words.grants_of c.args.words.now m.dom.0 in
-    advances_done (map_left frames grants m) c.ends-then-seen-old.result.access (Some (access.Cas (flags_place m.dom.0 m.gref.0) c.in-Begin.word (c.in-Begin.word + c.bits_of.result) c.swap_if-seen.result)) c.ends-then-seen-old.result.done (Err (Moved c.in-Begin.word c.swap_if-seen.result)) (map_left frames grants c.ends-then-seen-old.new.self) c.ends-then-seen-old.ensures.access c.ends-then-seen-old.ensures.done (ap (map_left frames grants) c.ends-then-seen-old.ensures.left) (begin_moved frames grants m.dom.0 m.gref.0 m.mode m.stage c.in-Begin.word c.bits_of.result c.swap_if-seen.result c.in-Begin.is c.bits_of.ensures.exact c.if-seen-old.true)
+    advances_as (map_left frames grants m) c.goes_on-then-seen-old.result.access (Some (access.Cas (flags_place m.dom.0 m.gref.0) c.in-Begin.word (c.in-Begin.word + c.bits_of.result) c.swap_if-seen.result)) c.goes_on-then-seen-old.result.done None (map_left frames grants c.goes_on-then-seen-old.new.self) (frame_plan frames m.dom.0 m.gref.0 m.mode) c.goes_on-then-seen-old.ensures.access c.goes_on-then-seen-old.ensures.done (ap (map_left frames grants) c.goes_on-then-seen-old.ensures.left) (begin_holds frames grants m.dom.0 m.gref.0 m.mode m.stage c.in-Begin.word c.bits_of.result c.swap_if-seen.result c.in-Begin.is c.bits_of.ensures.exact c.if-seen-old.true)
 
 pub returns-then-seen-old-clause-dom : goal.returns-then-seen-old-clause-dom
 unfolding dom_of
-returns-then-seen-old-clause-dom g c = ap dom_of c.ends-then-seen-old.ensures.left
+returns-then-seen-old-clause-dom g c = ap dom_of c.goes_on-then-seen-old.ensures.left
 
 pub returns-then-seen-old-clause-over : goal.returns-then-seen-old-clause-over
 unfolding is_over
-returns-then-seen-old-clause-over g c = ap is_over c.ends-then-seen-old.ensures.left ∙ sym (ap is_some c.ends-then-seen-old.ensures.done)
+returns-then-seen-old-clause-over g c = ap is_over c.goes_on-then-seen-old.ensures.left ∙ sym (ap is_some c.goes_on-then-seen-old.ensures.done)
 
 pub returns-then-seen-old-clause-held : goal.returns-then-seen-old-clause-held
 returns-then-seen-old-clause-held g c =
     let m = c.args.self.now in
-    λ _. by_access c.ends-then-seen-old.result.access (Some (access.Cas (flags_place m.dom.0 m.gref.0) c.in-Begin.word (c.in-Begin.word + c.bits_of.result) c.swap_if-seen.result)) c.ends-then-seen-old.result.done (Some (Err (Moved c.in-Begin.word c.swap_if-seen.result))) c.ends-then-seen-old.ensures.access c.ends-then-seen-old.ensures.done tt
+    λ _. by_access c.goes_on-then-seen-old.result.access (Some (access.Cas (flags_place m.dom.0 m.gref.0) c.in-Begin.word (c.in-Begin.word + c.bits_of.result) c.swap_if-seen.result)) c.goes_on-then-seen-old.result.done None c.goes_on-then-seen-old.ensures.access c.goes_on-then-seen-old.ensures.done tt
 
 pub returns-else-seen-old-clause-advances : goal.returns-else-seen-old-clause-advances
 unfolding map_left dom_of
@@ -113,18 +116,20 @@ returns-else-seen-old-clause-advances g c =
     let m = c.args.self.now in
     let frames = g.W.Words.frames_of c.args.words.now m.dom.0 in
     let grants = g.W.Words.grants_of c.args.words.now m.dom.0 in
-    begin_holds frames grants m.dom.0 m.gref.0 m.mode m.stage c.in-Begin.word c.bits_of.result c.swap_if-seen.result c.in-Begin.is c.bits_of.ensures.exact c.if-seen-old.false
+    advances_as (map_left frames grants m) c.ends-else-seen-old.result.access (Some (access.Cas (flags_place m.dom.0 m.gref.0) c.in-Begin.word (c.in-Begin.word + c.bits_of.result) c.swap_if-seen.result)) c.ends-else-seen-old.result.done (Some (Err (Moved c.in-Begin.word c.swap_if-seen.result))) (map_left frames grants c.ends-else-seen-old.new.self) (Finished (Err (Moved c.in-Begin.word c.swap_if-seen.result))) c.ends-else-seen-old.ensures.access c.ends-else-seen-old.ensures.done (ap (map_left frames grants) c.ends-else-seen-old.ensures.left) (begin_moved frames grants m.dom.0 m.gref.0 m.mode m.stage c.in-Begin.word c.bits_of.result c.swap_if-seen.result c.in-Begin.is c.bits_of.ensures.exact c.if-seen-old.false)
 
 pub returns-else-seen-old-clause-dom : goal.returns-else-seen-old-clause-dom
 unfolding dom_of
-returns-else-seen-old-clause-dom g c = refl
+returns-else-seen-old-clause-dom g c = ap dom_of c.ends-else-seen-old.ensures.left
 
 pub returns-else-seen-old-clause-over : goal.returns-else-seen-old-clause-over
 unfolding is_over
-returns-else-seen-old-clause-over g c = refl
+returns-else-seen-old-clause-over g c = ap is_over c.ends-else-seen-old.ensures.left ∙ sym (ap is_some c.ends-else-seen-old.ensures.done)
 
 pub returns-else-seen-old-clause-held : goal.returns-else-seen-old-clause-held
-returns-else-seen-old-clause-held g c = λ _. tt
+returns-else-seen-old-clause-held g c =
+    let m = c.args.self.now in
+    λ _. by_access c.ends-else-seen-old.result.access (Some (access.Cas (flags_place m.dom.0 m.gref.0) c.in-Begin.word (c.in-Begin.word + c.bits_of.result) c.swap_if-seen.result)) c.ends-else-seen-old.result.done (Some (Err (Moved c.in-Begin.word c.swap_if-seen.result))) c.ends-else-seen-old.ensures.access c.ends-else-seen-old.ensures.done tt
 
 pub load-frame-requires : goal.load-frame-requires
 unfolding map_left dom_of
@@ -140,7 +145,7 @@ returns-then-frame-frames-clause-advances g c =
     let m = c.args.self.now in
     let frames = g.W.Words.frames_of c.args.words.now m.dom.0 in
     let grants = g.W.Words.grants_of c.args.words.now m.dom.0 in
-    advances_done (map_left frames grants m) c.ends-then-frame-frames.result.access (Some (access.Load (frame_place m.dom.0 m.gref.0) c.load-frame.result)) c.ends-then-frame-frames.result.done (Ok (hold_of m.dom.0 m.gref.0 m.mode c.load-frame.result)) (map_left frames grants c.ends-then-frame-frames.new.self) c.ends-then-frame-frames.ensures.access c.ends-then-frame-frames.ensures.done (ap (map_left frames grants) c.ends-then-frame-frames.ensures.left) (name_ends frames grants m.dom.0 m.gref.0 m.mode m.stage c.load-frame.result c.in-Name.is (omega (arith, c.frames-frames.ensures)))
+    advances_as (map_left frames grants m) c.ends-then-frame-frames.result.access (Some (access.Load (frame_place m.dom.0 m.gref.0) c.load-frame.result)) c.ends-then-frame-frames.result.done (Some (Ok (hold_of m.dom.0 m.gref.0 m.mode c.load-frame.result))) (map_left frames grants c.ends-then-frame-frames.new.self) (Finished (Ok (hold_of m.dom.0 m.gref.0 m.mode c.load-frame.result))) c.ends-then-frame-frames.ensures.access (c.ends-then-frame-frames.ensures.done ∙ ap (λ h. Some (Ok h)) c.hold-hold.ensures) (ap (map_left frames grants) c.ends-then-frame-frames.ensures.left ∙ ap (λ h. Finished (Ok h)) c.hold-hold.ensures) (name_ends frames grants m.dom.0 m.gref.0 m.mode m.stage c.load-frame.result c.in-Name.is (omega (arith, c.frames.ensures, g.met.W.Words.keeps_frames _ _ _ c.load-frame.ensures m.dom.0)))
 
 pub returns-then-frame-frames-clause-dom : goal.returns-then-frame-frames-clause-dom
 unfolding dom_of
@@ -153,7 +158,7 @@ returns-then-frame-frames-clause-over g c = ap is_over c.ends-then-frame-frames.
 pub returns-then-frame-frames-clause-held : goal.returns-then-frame-frames-clause-held
 returns-then-frame-frames-clause-held g c =
     let m = c.args.self.now in
-    λ _. by_access c.ends-then-frame-frames.result.access (Some (access.Load (frame_place m.dom.0 m.gref.0) c.load-frame.result)) c.ends-then-frame-frames.result.done (Some (Ok (hold_of m.dom.0 m.gref.0 m.mode c.load-frame.result))) c.ends-then-frame-frames.ensures.access c.ends-then-frame-frames.ensures.done tt
+    λ _. by_access c.ends-then-frame-frames.result.access (Some (access.Load (frame_place m.dom.0 m.gref.0) c.load-frame.result)) c.ends-then-frame-frames.result.done (Some (Ok (hold_of m.dom.0 m.gref.0 m.mode c.load-frame.result))) c.ends-then-frame-frames.ensures.access (c.ends-then-frame-frames.ensures.done ∙ ap (λ h. Some (Ok h)) c.hold-hold.ensures) tt
 
 pub returns-else-frame-frames-clause-advances : goal.returns-else-frame-frames-clause-advances
 unfolding map_left dom_of
@@ -161,18 +166,20 @@ returns-else-frame-frames-clause-advances g c =
     let m = c.args.self.now in
     let frames = g.W.Words.frames_of c.args.words.now m.dom.0 in
     let grants = g.W.Words.grants_of c.args.words.now m.dom.0 in
-    name_undoes frames grants m.dom.0 m.gref.0 m.mode m.stage c.load-frame.result c.in-Name.is (omega (arith, c.frames-frames.ensures))
+    advances_as (map_left frames grants m) c.goes_on-else-frame-frames.result.access (Some (access.Load (frame_place m.dom.0 m.gref.0) c.load-frame.result)) c.goes_on-else-frame-frames.result.done None (map_left frames grants c.goes_on-else-frame-frames.new.self) (undo_plan m.dom.0 m.gref.0 m.mode c.load-frame.result) c.goes_on-else-frame-frames.ensures.access c.goes_on-else-frame-frames.ensures.done (ap (map_left frames grants) c.goes_on-else-frame-frames.ensures.left) (name_undoes frames grants m.dom.0 m.gref.0 m.mode m.stage c.load-frame.result c.in-Name.is (omega (arith, c.frames.ensures, g.met.W.Words.keeps_frames _ _ _ c.load-frame.ensures m.dom.0)))
 
 pub returns-else-frame-frames-clause-dom : goal.returns-else-frame-frames-clause-dom
 unfolding dom_of
-returns-else-frame-frames-clause-dom g c = refl
+returns-else-frame-frames-clause-dom g c = ap dom_of c.goes_on-else-frame-frames.ensures.left
 
 pub returns-else-frame-frames-clause-over : goal.returns-else-frame-frames-clause-over
 unfolding is_over
-returns-else-frame-frames-clause-over g c = refl
+returns-else-frame-frames-clause-over g c = ap is_over c.goes_on-else-frame-frames.ensures.left ∙ sym (ap is_some c.goes_on-else-frame-frames.ensures.done)
 
 pub returns-else-frame-frames-clause-held : goal.returns-else-frame-frames-clause-held
-returns-else-frame-frames-clause-held g c = λ _. tt
+returns-else-frame-frames-clause-held g c =
+    let m = c.args.self.now in
+    λ _. by_access c.goes_on-else-frame-frames.result.access (Some (access.Load (frame_place m.dom.0 m.gref.0) c.load-frame.result)) c.goes_on-else-frame-frames.result.done None c.goes_on-else-frame-frames.ensures.access c.goes_on-else-frame-frames.ensures.done tt
 
 pub clear-seen-requires : goal.clear-seen-requires
 unfolding map_left dom_of
@@ -188,7 +195,7 @@ returns-in-Undo-clause-advances g c =
     let m = c.args.self.now in
     let frames = g.W.Words.frames_of c.args.words.now m.dom.0 in
     let grants = g.W.Words.grants_of c.args.words.now m.dom.0 in
-    advances_done (map_left frames grants m) c.ends-in-Undo.result.access (Some (access.Clear (flags_place m.dom.0 m.gref.0) c.bits_of-mask.result c.clear-seen.result)) c.ends-in-Undo.result.done (Err (BadFrame c.in-Undo.frame)) (map_left frames grants c.ends-in-Undo.new.self) c.ends-in-Undo.ensures.access c.ends-in-Undo.ensures.done (ap (map_left frames grants) c.ends-in-Undo.ensures.left) (undo_ends frames grants m.dom.0 m.gref.0 m.mode m.stage c.in-Undo.frame c.bits_of-mask.result c.clear-seen.result c.in-Undo.is c.bits_of-mask.ensures.exact)
+    advances_as (map_left frames grants m) c.ends-in-Undo.result.access (Some (access.Clear (flags_place m.dom.0 m.gref.0) c.bits_of-mask.result c.clear-seen.result)) c.ends-in-Undo.result.done (Some (Err (BadFrame c.in-Undo.frame))) (map_left frames grants c.ends-in-Undo.new.self) (Finished (Err (BadFrame c.in-Undo.frame))) c.ends-in-Undo.ensures.access c.ends-in-Undo.ensures.done (ap (map_left frames grants) c.ends-in-Undo.ensures.left) (undo_ends frames grants m.dom.0 m.gref.0 m.mode m.stage c.in-Undo.frame c.bits_of-mask.result c.clear-seen.result c.in-Undo.is c.bits_of-mask.ensures.exact)
 
 pub returns-in-Undo-clause-dom : goal.returns-in-Undo-clause-dom
 unfolding dom_of
@@ -209,7 +216,7 @@ returns-in-Over-clause-advances g c =
     let m = c.args.self.now in
     let frames = g.W.Words.frames_of c.args.words.now m.dom.0 in
     let grants = g.W.Words.grants_of c.args.words.now m.dom.0 in
-    advances_done (map_left frames grants m) c.ends-in-Over.result.access None c.ends-in-Over.result.done c.in-Over.end (map_left frames grants c.ends-in-Over.new.self) c.ends-in-Over.ensures.access c.ends-in-Over.ensures.done (ap (map_left frames grants) c.ends-in-Over.ensures.left) (over_ends frames grants m.dom.0 m.gref.0 m.mode m.stage c.in-Over.end c.in-Over.is)
+    advances_as (map_left frames grants m) c.ends-in-Over.result.access None c.ends-in-Over.result.done (Some c.in-Over.end) (map_left frames grants c.ends-in-Over.new.self) (Finished c.in-Over.end) c.ends-in-Over.ensures.access c.ends-in-Over.ensures.done (ap (map_left frames grants) c.ends-in-Over.ensures.left) (over_ends frames grants m.dom.0 m.gref.0 m.mode m.stage c.in-Over.end c.in-Over.is)
 
 pub returns-in-Over-clause-dom : goal.returns-in-Over-clause-dom
 unfolding dom_of

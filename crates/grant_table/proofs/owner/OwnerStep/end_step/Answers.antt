@@ -1,12 +1,11 @@
-use Rattle.std.proofs.Common.{◌≡◌, Some, None, refl, sym, ◌∙◌, ap, arith}
+use Rattle.std.proofs.Common.{Some, None, ap}
 use Rattle.pv_words.specs.declared.access.Access.TheVariants as access
 use Rattle.pv_words.specs.Memory.{without}
-use Rattle.grant_table.specs.declared.owner.Owned.TheVariants.{Opened, AlreadyOpen}
-use Rattle.grant_table.specs.Flags.{flags_place, frame_place, used}
-use Rattle.grant_table.specs.Owning.{name_plan, open_plan, close_plan}
-use Rattle.grant_table.specs.OwnerLeft.{permit_left, end_left, no_more}
+use Rattle.grant_table.specs.Flags.{flags_place, used}
+use Rattle.grant_table.specs.Owning.{close_plan}
+use Rattle.grant_table.specs.OwnerLeft.{end_left, no_more}
 use Rattle.grant_table.proofs.Plans.{may_from, turns_as}
-use Rattle.grant_table.proofs.Owns.{start_head, start_refuses, start_goes_on, name_head, name_goes_on, open_head, open_ends, check_head, check_goes_on, close_head, close_ends, no_end}
+use Rattle.grant_table.proofs.Owns.{check_head, check_goes_on, close_head, close_ends, no_end}
 use Rattle.grant_table.proofs.owner.OwnerStep.end_step.Goals as goal
 
 pub load-word-requires : goal.load-word-requires

@@ -1,5 +1,8 @@
--- What a status says by itself: the number that the program ends with, and whether all was written.
-use Rattle.std.specs.Prelude.{ℕ, Bool, true, false}
+-- What a status says by itself: the number that the program ends with, whether all was written, and its text.
+use Rattle.std.specs.Prelude.{ℕ, Bool, true, false, List, ◌++◌, codes}
+use Rattle.std.specs.Fmt.{decimal}
+use Rattle.scenario_text.specs.declared.fault.FaultKind.{FaultKind}
+use Rattle.scenario_text.specs.declared.fault.FaultKind.TheVariants as kind
 use Rattle.scenario_cli.specs.declared.status.Status.{Status}
 use Rattle.scenario_cli.specs.declared.status.Status.TheVariants.{Ok, Usage, Script, ReadFault, WriteFault, OutOfMemory, JournalFull, TooLong, NotLegal}
 
@@ -24,3 +27,29 @@ is_written OutOfMemory = false
 is_written JournalFull = true
 is_written TooLong = false
 is_written (NotLegal l) = false
+
+abbrev pub kind_text : FaultKind → List ℕ
+kind_text kind.BadByte = codes "BadByte"
+kind_text kind.UnknownStatement = codes "UnknownStatement"
+kind_text kind.MissingWord = codes "MissingWord"
+kind_text kind.ExtraWord = codes "ExtraWord"
+kind_text kind.BadNumber = codes "BadNumber"
+kind_text kind.OutOfRange = codes "OutOfRange"
+kind_text kind.BadWord = codes "BadWord"
+kind_text kind.Twice = codes "Twice"
+kind_text kind.Late = codes "Late"
+kind_text kind.Undeclared = codes "Undeclared"
+kind_text kind.NotAllowed = codes "NotAllowed"
+kind_text kind.WrongDevice = codes "WrongDevice"
+
+-- its name, and where the script is faulty
+abbrev pub status_text : Status → List ℕ
+status_text Ok = codes "Ok"
+status_text Usage = codes "Usage"
+status_text (Script f) = codes "Script " ++ (decimal f.line ++ (codes " " ++ (decimal f.column ++ (codes " " ++ kind_text f.kind))))
+status_text ReadFault = codes "ReadFault"
+status_text WriteFault = codes "WriteFault"
+status_text OutOfMemory = codes "OutOfMemory"
+status_text JournalFull = codes "JournalFull"
+status_text TooLong = codes "TooLong"
+status_text (NotLegal line) = codes "NotLegal " ++ decimal line

@@ -1,9 +1,9 @@
 //! How a command ended.
 
 ghost use Rattle.std.specs.Prelude.{◌≡◌};
-ghost use Rattle.scenario_cli.specs.Numbers.{is_written, number_of};
+ghost use Rattle.scenario_cli.specs.Numbers.{is_written, kind_text, number_of};
 
-use scenario_text::ScriptFault;
+use scenario_text::{FaultKind, ScriptFault};
 use std::fmt::{self, Display, Formatter};
 
 /// How a command ended. Its name is what the program prints on the standard error, and its number is what the
@@ -56,16 +56,48 @@ impl Status {
     }
 }
 
+// The name of a kind of fault.
+fn kind_name(kind: FaultKind) -> &'static str
+    ensures { result.now ≡ kind_text kind }
+{
+    match kind {
+        FaultKind::BadByte => "BadByte",
+        FaultKind::UnknownStatement => "UnknownStatement",
+        FaultKind::MissingWord => "MissingWord",
+        FaultKind::ExtraWord => "ExtraWord",
+        FaultKind::BadNumber => "BadNumber",
+        FaultKind::OutOfRange => "OutOfRange",
+        FaultKind::BadWord => "BadWord",
+        FaultKind::Twice => "Twice",
+        FaultKind::Late => "Late",
+        FaultKind::Undeclared => "Undeclared",
+        FaultKind::NotAllowed => "NotAllowed",
+        FaultKind::WrongDevice => "WrongDevice",
+    }
+}
+
 impl Display for Status {
+    ghost use Rattle.std.specs.Prelude.{Some};
+    ghost use Rattle.scenario_cli.specs.Numbers.{status_text};
+
+    ghost output = { λ s. Some (status_text s) };
+
     fn fmt<W: fmt::Write>(&self, f: &mut Formatter<W>) -> fmt::Result {
         match self {
-            Status::Script(fault) => write!(
-                f,
-                "Script {} {} {:?}",
-                fault.line, fault.column, fault.kind
-            ),
+            Status::Ok => write!(f, "Ok"),
+            Status::Usage => write!(f, "Usage"),
+            Status::Script(fault) => {
+                let line = fault.line;
+                let column = fault.column;
+                let kind = kind_name(fault.kind);
+                write!(f, "Script {line} {column} {kind}")
+            }
+            Status::ReadFault => write!(f, "ReadFault"),
+            Status::WriteFault => write!(f, "WriteFault"),
+            Status::OutOfMemory => write!(f, "OutOfMemory"),
+            Status::JournalFull => write!(f, "JournalFull"),
+            Status::TooLong => write!(f, "TooLong"),
             Status::NotLegal(line) => write!(f, "NotLegal {line}"),
-            status => write!(f, "{status:?}"),
         }
     }
 }

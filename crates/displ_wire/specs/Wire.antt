@@ -3,8 +3,9 @@
 use Rattle.std.specs.Prelude.{◌≡◌, ◌≢◌, ℕ, ◌+◌, ◌*◌, ◌/◌, ◌%◌, ◌^◌, ◌<◌, ℤ, FitsSigned, List, [], ◌∷◌, ◌++◌, slice_index, replicate, if◌then◌else◌, ◌==◌, Bool, ◌&&◌}
 use Rattle.std.specs.Int.{w32, cast_signed, cast_unsigned}
 use Rattle.displ_wire.specs.declared.Asked.{Asked}
-use Rattle.displ_wire.specs.declared.Asked.TheVariants.{Config as AskedConfig, Other}
+use Rattle.displ_wire.specs.declared.Asked.TheVariants.{Create as AskedCreate, Destroy, Config as AskedConfig, Other}
 use Rattle.displ_wire.specs.declared.Config.{Config}
+use Rattle.displ_wire.specs.declared.Create.{Create}
 use Rattle.displ_wire.specs.declared.Reply.{Reply}
 use Rattle.displ_wire.specs.declared.Request.{Request}
 
@@ -28,6 +29,28 @@ u64_at words place = slice_index words place + 2 ^ 32 * slice_index words (place
 abbrev pub u64_words : ℕ → List ℕ
 u64_words n = (n % 2 ^ 32) ∷ (n / 2 ^ 32) ∷ []
 
+-- struct xendispl_dbuf_create_req
+abbrev pub create_of : List ℕ → Create
+create_of words = record {
+  dbuf_cookie = u64_at words 2;
+  width = slice_index words 4;
+  height = slice_index words 5;
+  bpp = slice_index words 6;
+  buffer_sz = slice_index words 7;
+  flags = slice_index words 8;
+  gref_directory = slice_index words 9;
+}
+
+-- the fourteen words of that structure, from word 2 of a request on
+abbrev pub create_words : Create → List ℕ
+create_words c =
+    u64_words c.dbuf_cookie
+    ++ (c.width ∷ c.height ∷ c.bpp ∷ c.buffer_sz ∷ c.flags ∷ c.gref_directory ∷ replicate 6 0)
+
+-- the fourteen words of struct xendispl_dbuf_destroy_req, which has the cookie alone
+abbrev pub destroy_words : ℕ → List ℕ
+destroy_words cookie = u64_words cookie ++ replicate 12 0
+
 -- struct xendispl_set_config_req
 abbrev pub config_of : List ℕ → Config
 config_of words = record {
@@ -43,12 +66,22 @@ config_of words = record {
 abbrev pub config_words : Config → List ℕ
 config_words c = u64_words c.fb_cookie ++ (c.x ∷ c.y ∷ c.width ∷ c.height ∷ c.bpp ∷ replicate 7 0)
 
--- what a request with this operation asks for: XENDISPL_OP_SET_CONFIG is 4
+-- what a request with this operation asks for: XENDISPL_OP_DBUF_CREATE is 0, XENDISPL_OP_DBUF_DESTROY 1 and
+-- XENDISPL_OP_SET_CONFIG 4
 abbrev pub asked_of : ℕ → List ℕ → Asked
-asked_of op words = if op == 4 then AskedConfig (config_of words) else Other
+asked_of op words =
+    if op == 0
+    then AskedCreate (create_of words)
+    else if op == 1
+    then Destroy (u64_at words 2)
+    else if op == 4
+    then AskedConfig (config_of words)
+    else Other
 
 -- the fourteen words of what a request asks for
 abbrev pub asked_words : Asked → List ℕ
+asked_words (AskedCreate c) = create_words c
+asked_words (Destroy cookie) = destroy_words cookie
 asked_words (AskedConfig c) = config_words c
 asked_words Other = replicate 14 0
 
@@ -89,6 +122,16 @@ pub record IsZero (c : Config) : Type 0 where
 abbrev pub all_zero : Config → Bool
 all_zero c = (c.fb_cookie == 0) && ((c.x == 0) && ((c.y == 0) && ((c.width == 0) && ((c.height == 0) && (c.bpp == 0)))))
 
+-- each field of a request for a display buffer fits its type
+pub record FitsCreate (c : Create) : Type 0 where
+  pub dbuf_cookie : c.dbuf_cookie < 2 ^ 64
+  pub width : c.width < 2 ^ 32
+  pub height : c.height < 2 ^ 32
+  pub bpp : c.bpp < 2 ^ 32
+  pub buffer_sz : c.buffer_sz < 2 ^ 32
+  pub flags : c.flags < 2 ^ 32
+  pub gref_directory : c.gref_directory < 2 ^ 32
+
 -- each field of a configuration fits its type
 pub record Fits (c : Config) : Type 0 where
   pub fb_cookie : c.fb_cookie < 2 ^ 64
@@ -100,8 +143,10 @@ pub record Fits (c : Config) : Type 0 where
 
 -- this operation asks for such a thing
 abbrev pub AsksFor : ℕ → Asked → Type 0
+AsksFor op (AskedCreate c) = (op ≡ 0) × FitsCreate c
+AsksFor op (Destroy cookie) = (op ≡ 1) × (cookie < 2 ^ 64)
 AsksFor op (AskedConfig c) = (op ≡ 4) × Fits c
-AsksFor op Other = op ≢ 4
+AsksFor op Other = (op ≢ 0) × (op ≢ 1) × (op ≢ 4)
 
 -- the fields of a request fit their types, and what it asks for is what its operation asks for
 pub record Belongs (r : Request) : Type 0 where

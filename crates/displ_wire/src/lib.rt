@@ -4,14 +4,41 @@
 #![tactic(auto)]
 
 ghost use Rattle.std.specs.Prelude.{◌≡◌, ◌∷◌, ◌↔◌, IsTrue};
-ghost use Rattle.displ_wire.specs.Wire.{all_zero, asked_of, config_of, config_words, reply_of, reply_words, request_of, request_words, IsZero, RepliesReadBack, RequestsReadBack};
+ghost use Rattle.displ_wire.specs.Wire.{all_zero, asked_of, config_of, config_words, create_of, create_words, destroy_words, reply_of, reply_words, request_of, request_words, IsZero, RepliesReadBack, RequestsReadBack};
 
+mod buffer;
 mod fields;
 
+pub use crate::buffer::{Buffer, Refused};
 use crate::fields::{head_fields, head_word, i32_of, u64_of, word_of_i32, words_of_u64};
+
+/// The operation that makes a display buffer (`XENDISPL_OP_DBUF_CREATE`).
+pub const CREATE: u8 = 0;
+
+/// The operation that takes a display buffer away (`XENDISPL_OP_DBUF_DESTROY`).
+pub const DESTROY: u8 = 1;
 
 /// The operation that sets or takes away a connector's configuration (`XENDISPL_OP_SET_CONFIG`).
 pub const SET_CONFIG: u8 = 4;
+
+/// A display buffer that is to be made of the frontend's pages (`xendispl_dbuf_create_req`).
+#[derive(Clone, Copy, Debug, PartialEq, Eq)]
+pub struct Create {
+    /// The frontend's name for the buffer.
+    pub dbuf_cookie: u64,
+    /// The width in pixels.
+    pub width: u32,
+    /// The height in pixels.
+    pub height: u32,
+    /// Bits for each pixel.
+    pub bpp: u32,
+    /// The size in octets.
+    pub buffer_sz: u32,
+    /// Bit 0 asks the backend to allocate the pages (`XENDISPL_DBUF_FLG_REQ_ALLOC`).
+    pub flags: u32,
+    /// The grant of the first page of the directory, which lists the grants of the buffer's pages.
+    pub gref_directory: u32,
+}
 
 /// A connector's configuration: which framebuffer it shows, and where (`xendispl_set_config_req`).
 #[derive(Clone, Copy, Debug, PartialEq, Eq)]
@@ -33,6 +60,10 @@ pub struct Config {
 /// What a request asks for.
 #[derive(Clone, Copy, Debug, PartialEq, Eq)]
 pub enum Asked {
+    /// To make a display buffer.
+    Create(Create),
+    /// To take the display buffer of this cookie away (`xendispl_dbuf_destroy_req`).
+    Destroy(u64),
     /// To set the configuration, or to take it away (see [`is_zero`]).
     Config(Config),
     /// Something by an operation that is not known here.
@@ -78,8 +109,25 @@ fn decode_asked(op: u8, w: &[u32; 16]) -> Asked
     ensures { result ≡ asked_of op w.now }
 {
     match op {
+        CREATE => Asked::Create(decode_create(w)),
+        DESTROY => Asked::Destroy(u64_of(w[2], w[3])),
         SET_CONFIG => Asked::Config(decode_config(w)),
         _ => Asked::Other,
+    }
+}
+
+// The display buffer in the words of a request.
+fn decode_create(w: &[u32; 16]) -> Create
+    ensures { result ≡ create_of w.now }
+{
+    Create {
+        dbuf_cookie: u64_of(w[2], w[3]),
+        width: w[4],
+        height: w[5],
+        bpp: w[6],
+        buffer_sz: w[7],
+        flags: w[8],
+        gref_directory: w[9],
     }
 }
 
@@ -103,9 +151,44 @@ pub fn encode_request(r: &Request) -> [u32; 16]
 {
     let head = head_word(r.id, r.op);
     match r.asked {
+        Asked::Create(create) => encode_create(head, &create),
+        Asked::Destroy(cookie) => encode_destroy(head, cookie),
         Asked::Config(config) => encode_config(head, &config),
         Asked::Other => [head, 0, 0, 0, 0, 0, 0, 0, 0, 0, 0, 0, 0, 0, 0, 0],
     }
+}
+
+// The words of a request for a display buffer, the first of which is `head`.
+fn encode_create(head: u32, c: &Create) -> [u32; 16]
+    ensures { result ≡ head ∷ 0 ∷ create_words c.now }
+{
+    let [low, high] = words_of_u64(c.dbuf_cookie);
+    [
+        head,
+        0,
+        low,
+        high,
+        c.width,
+        c.height,
+        c.bpp,
+        c.buffer_sz,
+        c.flags,
+        c.gref_directory,
+        0,
+        0,
+        0,
+        0,
+        0,
+        0,
+    ]
+}
+
+// The words of a request to take a display buffer away, the first of which is `head`.
+fn encode_destroy(head: u32, cookie: u64) -> [u32; 16]
+    ensures { result ≡ head ∷ 0 ∷ destroy_words cookie }
+{
+    let [low, high] = words_of_u64(cookie);
+    [head, 0, low, high, 0, 0, 0, 0, 0, 0, 0, 0, 0, 0, 0, 0]
 }
 
 // The words of a request for a configuration, the first of which is `head`.

@@ -24,6 +24,54 @@ fn reads_and_writes_a_configuration(rt: HostRuntime) {
 }
 
 #[test]
+fn reads_and_writes_a_display_buffer(rt: HostRuntime) {
+    let create = Create {
+        dbuf_cookie: 4_294_967_307,
+        width: 1023,
+        height: 1024,
+        bpp: 32,
+        buffer_sz: 4_190_208,
+        flags: 1,
+        gref_directory: 2,
+    };
+    let request = Request {
+        id: 7,
+        op: CREATE,
+        asked: Asked::Create(create),
+    };
+    let mut words = [
+        7, 0, 11, 1, 1023, 1024, 32, 4_190_208, 1, 2, 0, 0, 0, 0, 0, 0,
+    ];
+    assert_eq!(rt; encode_request(&request), words);
+    words[10] = 64;
+    assert_eq!(rt; decode(&words), request);
+}
+
+#[test]
+fn reads_and_writes_the_end_of_a_display_buffer(rt: HostRuntime) {
+    let request = Request {
+        id: 2,
+        op: DESTROY,
+        asked: Asked::Destroy(4_294_967_307),
+    };
+    let mut words = [0x0001_0002, 0, 11, 1, 0, 0, 0, 0, 0, 0, 0, 0, 0, 0, 0, 0];
+    assert_eq!(rt; encode_request(&request), words);
+    words[4] = 32;
+    assert_eq!(rt; decode(&words), request);
+}
+
+#[test]
+fn gives_the_error_of_each_refusal(rt: HostRuntime) {
+    assert_eq!(rt; Refused::NotSupported.status(), -95);
+    assert_eq!(rt; Refused::Exists.status(), -17);
+    assert_eq!(rt; Refused::Full.status(), -28);
+    assert_eq!(rt; Refused::Invalid.status(), -22);
+    assert_eq!(rt; Refused::Unknown.status(), -2);
+    assert_eq!(rt; Refused::InUse(11).status(), -16);
+    assert_eq!(rt; Refused::Pending(11).status(), -16);
+}
+
+#[test]
 fn leaves_an_unknown_operation_open(rt: HostRuntime) {
     let mut words = SHOWN;
     words[0] = 0x0009_0001;

@@ -1,72 +1,327 @@
--- What a display does next between two activities, as its fields tell.
-use Rattle.std.proofs.Common.{◌≡◌, ℕ, zero, suc, ◌<◌, Bool, true, false, is_some, List, Option, Some, None, refl, sym, subst, ◌∙◌, ap, arith}
+-- What a display does next between two activities.
+use Rattle.std.proofs.Common.{◌≡◌, ℕ, zero, suc, ◌+◌, ◌-◌, ◌<◌, Bool, true, false, not, List, [], Option, Some, None, Result, Ok, Err, length, map, slice_get, refl, sym, ap, subst, ◌∙◌, arith}
 use Rattle.std.proofs.lemmas.Bool.{false≢true}
-use Rattle.pv_words.specs.Plan.{Plan, Finished, Make, mapped, MayGo, Want}
-use Rattle.link_core.specs.Activities.{look_plan, answer_plan}
-use Rattle.link_core.specs.Link.{page_of, rsp_of, take_left, answer_left, sleep_left}
-use Rattle.link_core.specs.Order.{Order, Act, MayChoose}
-use Rattle.link_core.proofs.Links.{whole_take, whole_answer, whole_sleep}
-use Rattle.display_backend.specs.declared.display.Display.{Display}
-use Rattle.display_backend.specs.declared.display.Connection.{Connection}
+use Rattle.pv_words.specs.declared.access.Access.{Access}
+use Rattle.pv_words.specs.declared.device.Said.{Said}
+use Rattle.pv_words.specs.declared.device.Said.TheVariants as said
+use Rattle.pv_words.specs.declared.device.Reason.{Reason}
+use Rattle.pv_words.specs.declared.device.State.{State}
+use Rattle.pv_words.specs.declared.device.State.TheVariants as state
+use Rattle.pv_words.specs.declared.device.NodeFault.{NodeFault}
+use Rattle.pv_words.specs.declared.device.NodeValue.{NodeValue}
+use Rattle.pv_words.specs.Plan.{Plan, Finished, Make, Want, mapped}
+use Rattle.displ_wire.specs.declared.Request.{Request}
+use Rattle.xenbus_states.specs.declared.back.Action.{Action}
+use Rattle.xenbus_states.specs.declared.back.Action.TheVariants as action
+use Rattle.xenbus_states.specs.Connection.{Connection, action_of, action_from, asked_of}
+use Rattle.xenbus_states.specs.Nodes.{node_at, needed}
+use Rattle.link_core.specs.declared.link.Link.{Link}
+use Rattle.link_core.specs.Activities.{Page, look_plan, take_plan, answer_plan}
+use Rattle.link_core.specs.Link.{dom_of, held_of, joined_of, idle, page_of, rsp_of}
+use Rattle.link_core.specs.Order.{Order, Act, Rest, Stand, Between, Steps, GoesOn, MayChoose, rests_next, at_rest}
+use Rattle.link_core.proofs.Links.{whole_take, whole_answer, rsp_joined, idle_rings}
+use Rattle.link_core.proofs.Steps.{steps_between, steps_said, steps_rest}
+use Rattle.display_backend.specs.declared.display.Activity.{Activity}
+use Rattle.display_backend.specs.declared.display.Activity.TheVariants as activity
+use Rattle.display_backend.specs.declared.display.Ending.{Ending}
 use Rattle.display_backend.specs.declared.display.Round.{Round}
-use Rattle.display_backend.specs.declared.display.Round.TheVariants as round
-use Rattle.display_backend.specs.Activity.{is_between}
-use Rattle.display_backend.specs.Display.{work_of}
-use Rattle.display_backend.specs.Work.{Work, End, Saw, Took, Answered, Slept, choice, with_connection, with_hand, with_left, in_round}
+use Rattle.display_backend.specs.Activity.{is_connected}
+use Rattle.display_backend.specs.Display.{stand_at, stand_in, all_held, parts_in, connecting, number_in, number_at, refs_at, refs_from, look_from, take_from, answer_from, sleeping}
+use Rattle.display_backend.specs.Goes.{Closes, GoesOut, Told, Comes, Begins, fault_in}
+use Rattle.display_backend.specs.Machine.{Site, Refs, Problem, part_refs, all_refs, with_ring_ref, with_channel, with_event_ref, with_channels, added, all_with}
+use Rattle.display_backend.specs.Reply.{reply_to}
+use Rattle.display_backend.specs.Whole.{Whole}
+use Rattle.display_backend.specs.Work.{Work, End, Saw, Took, Answered, Slept, Met, Denied, Lacked, Shut, Left, Renewed, display, choice, settled, said_at, shut, entered, all_pages, sleep_all, connect_all, with_closing, with_kept, with_action, with_state, with_hand, close, answers, takes_from, looks_at}
+use Rattle.display_backend.proofs.Held.{joined_held, bare_held, page_shown}
+use Rattle.display_backend.proofs.Leaving.{later_is}
+use Rattle.display_backend.proofs.Lists.{get_map, within}
+use Rattle.display_backend.proofs.Serve.{sleeping_at}
+use Rattle.display_backend.proofs.Wholes.{make_whole}
 
-pub some_of : {A : Type 0} (o : Option A) → is_some o ≡ true → (q : A) × (o ≡ Some q)
-some_of None h = absurd (false≢true h)
-some_of (Some q) h = (q, refl)
+-- a step that begins what the order of work gives next
+pub steps_begin : (site : Site) (w : Work) (o : Order Work End) (access : Option Access) (event : Option Said) (new : Stand Work End) → choice site w ≡ o → Begins site o access event new → Steps (display site) (Between w) access event new
+steps_begin site w (Act v p) None event new e b =
+    subst (λ (x : Option Said). Steps (display site) (Between w) None x new) (sym b.says)
+    (steps_said (display site) w v b.end b.told new (e ∙ ap (λ (q : Plan End). Act v q) b.over) b.told_is b.left)
+steps_begin site w (Act v p) (Some a) event new e b = steps_between (display site) w v p (Some a) event new e b
+steps_begin site w (Rest v) access event new e b =
+    subst (λ (x : Option Access). Steps (display site) (Between w) x event new) (sym b.0)
+    (subst (λ (x : Option Said). Steps (display site) (Between w) None x new) (sym b.1) (steps_rest (display site) w v new e b.2))
 
-pub none_of : {A : Type 0} (o : Option A) → is_some o ≡ false → o ≡ None
-none_of None h = refl
-none_of (Some q) h = absurd (false≢true (sym h))
+closes_told : (site : Site) (w : Work) (end : End) (why : Reason) → Closes end why → (said_at w end ≡ Some (said.Closed why)) × (shut w ≡ settled site w end)
+unfolding said_at settled
+closes_told site w (Denied r) why h = (ap (λ x. Some (said.Closed x)) (sym h), refl)
+closes_told site w (Shut r) why h = (ap (λ x. Some (said.Closed x)) (sym h), refl)
+closes_told site w (Saw x) why h = absurd h
+closes_told site w (Took x) why h = absurd h
+closes_told site w (Answered x) why h = absurd h
+closes_told site w (Slept x) why h = absurd h
+closes_told site w (Met x) why h = absurd h
+closes_told site w (Lacked x) why h = absurd h
+closes_told site w Left why h = absurd h
+closes_told site w Renewed why h = absurd h
 
-positive : (n : ℕ) → 0 < n → (m : ℕ) × (n ≡ suc m)
-positive zero h = absurd (omega arith)
-positive (suc m) h = (m, refl)
+pub comes_out : (site : Site) (w : Work) (p : Plan End) (access : Option Access) (event : Option Said) (new : Stand Work End) → GoesOut site w p access event new → Comes site w p access event new
+comes_out site w p None event new g =
+    let t = closes_told site w g.end g.why g.closes in
+    record { end = g.end; told = said.Closed g.why; over = g.over; says = g.says; told_is = t.0; left = g.left ∙ ap (λ x. Between x) t.1 }
+comes_out site w p (Some a) event new g = g
 
-pub chosen : (w : Work) (c : Connection) → w.connection ≡ c → choice w ≡ with_connection w c
+pub comes_on : (site : Site) (w : Work) (p : Plan End) (access : Option Access) (event : Option Said) (new : Stand Work End) → GoesOn (display site) w p access event new → Comes site w p access event new
+comes_on site w p None event new g = absurd g
+comes_on site w p (Some a) event new g = g
+
+-- between two activities
+module _ (dom : ℕ) (o : Bool) (hand : Option Request) (reply : List ℕ) (at : ℕ) (old_round : Round) (act : Activity) (ls : List Link) (e : act ≡ activity.Between) (w : Whole dom o hand reply at old_round act ls) where
+  resting : Whole dom o hand reply at old_round activity.Between ls
+  resting = subst (λ (a : Activity). Whole dom o hand reply at old_round a ls) e w
+
+  pub whole_leaving : (end : Ending) → Whole dom false hand reply at old_round (activity.Leaving end) ls
+  unfolding resting
+  whole_leaving end =
+      let n = length ls in
+      make_whole dom false hand reply at old_round (activity.Leaving end) ls n refl w.some w.few w.at_in w.round_in w.some
+      (λ i l g.
+      let f = resting.fits i l g in
+      let lt = within ls i l g in
+      record { dom_is = f.dom_is; both = λ b. absurd (omega (arith, b)); none = λ b. absurd (omega (arith, b, lt)); rests = f.rests; ring = f.ring })
+      w.ready (λ h. absurd (false≢true h)) (λ h. absurd (false≢true h))
+
+  pub all_bare : o ≡ false → (i : ℕ) (l : Link) → slice_get ls i ≡ Some l → length (held_of l) ≡ 0
+  unfolding resting
+  all_bare s i l g =
+      let f = resting.fits i l g in
+      f.none (rw s (omega arith))
+
+  pub all_both : o ≡ true → (i : ℕ) (l : Link) → slice_get ls i ≡ Some l → (length (held_of l) ≡ 2) × (idle l ≡ true)
+  unfolding resting
+  all_both s i l g =
+      let f = resting.fits i l g in
+      let lt = within ls i l g in
+      (f.both (rw s lt), f.rests (omega (arith, lt)))
+
+  pub resting_idle : (i : ℕ) (l : Link) → slice_get ls i ≡ Some l → idle l ≡ true
+  unfolding resting
+  resting_idle i l g = let lt = within ls i l g in (resting.fits i l g).rests (omega (arith, lt))
+
+  pub whole_connecting : o ≡ false → Whole dom false hand reply at old_round (activity.Connecting 0) ls
+  unfolding resting
+  whole_connecting s =
+      let n = length ls in
+      make_whole dom false hand reply at old_round (activity.Connecting 0) ls n refl w.some w.few w.at_in w.round_in w.some
+      (λ i l g.
+      let f = resting.fits i l g in
+      let lt = within ls i l g in
+      let rest : idle l ≡ true = f.rests (omega (arith, lt)) in
+      record { dom_is = f.dom_is; both = λ b. absurd (omega (arith, b)); none = λ b. all_bare s i l g; rests = λ _. rest; ring = λ _. idle_rings l rest })
+      w.ready (λ h. absurd (false≢true h)) (λ h. absurd (false≢true h))
+
+  pub whole_entered : (p : Bool) → o ≡ false → p ≡ false → Whole dom p None reply at old_round act ls
+  unfolding resting
+  whole_entered p s t =
+      let v = subst (λ (x : Bool). Whole dom x hand reply at old_round activity.Between ls) s resting in
+      subst (λ (x : Bool). Whole dom x None reply at old_round act ls) (sym t)
+      (subst (λ (a : Activity). Whole dom false None reply at old_round a ls) (sym e)
+      (make_whole dom false None reply at old_round activity.Between ls (length ls) refl w.some w.few w.at_in w.round_in w.some v.fits
+      (λ q h. let wrong : ⊥ = cc in absurd wrong) (λ h. absurd (false≢true h)) (λ h. absurd (false≢true h))))
+
+  pages_if : (x : Bool) → o ≡ x → all_pages (parts_in x ls) ≡ all_held ls
+  pages_if true s = sym (joined_held ls (λ i l g. (all_both s i l g).0))
+  pages_if false s = sym (bare_held ls (all_bare s))
+
+  pub pages_between : all_pages (parts_in o ls) ≡ all_held ls
+  unfolding pages_if
+  pages_between = pages_if o refl
+
+-- a backend that connects isn't connected
+asked_apart : (o : Option State) → asked_of o ≡ action.Connect → ⊥
+asked_apart None h = let wrong : ⊥ = cc in wrong
+asked_apart (Some s) h = let wrong : ⊥ = cc in wrong
+
+pub connect_apart : (s : State) (c : Connection) → action_from s c ≡ action.Connect → is_connected s ≡ false
+connect_apart state.Unknown c h = refl
+connect_apart state.Initialising c h = refl
+connect_apart state.InitWait c h = refl
+connect_apart state.Initialised c h = refl
+connect_apart state.Connected c h = absurd (asked_apart c.ending h)
+connect_apart state.Closing c h = refl
+connect_apart state.Closed c h = refl
+connect_apart state.Reconfiguring c h = refl
+connect_apart state.Reconfigured c h = refl
+
+-- nodes that are all there
+channels_ok : (part ring event : ℕ) (d : Result ℕ NodeFault) → fault_in (with_channels part ring event d) ≡ None → with_channels part ring event d ≡ Ok (record { ring = ring; event = event })
+channels_ok part ring event (Err f) h = let wrong : ⊥ = cc in absurd wrong
+channels_ok part ring event (Ok n) h = refl
+
+event_ok : (nodes : List NodeValue) (part ring : ℕ) (c : Result ℕ NodeFault) → fault_in (with_event_ref nodes part ring c) ≡ None → with_event_ref nodes part ring c ≡ Ok (record { ring = ring; event = number_in c })
+event_ok nodes part ring (Err f) h = let wrong : ⊥ = cc in absurd wrong
+event_ok nodes part ring (Ok n) h = channels_ok part ring n (needed (node_at nodes part 3)) h
+
+channel_ok : (nodes : List NodeValue) (part ring : ℕ) (b : Result ℕ NodeFault) → fault_in (with_channel nodes part ring b) ≡ None → with_channel nodes part ring b ≡ Ok (record { ring = ring; event = number_at nodes part 2 })
+channel_ok nodes part ring (Err f) h = let wrong : ⊥ = cc in absurd wrong
+channel_ok nodes part ring (Ok n) h = event_ok nodes part ring (needed (node_at nodes part 2)) h
+
+ring_ok : (nodes : List NodeValue) (part : ℕ) (a : Result ℕ NodeFault) → fault_in (with_ring_ref nodes part a) ≡ None → with_ring_ref nodes part a ≡ Ok (record { ring = number_in a; event = number_at nodes part 2 })
+ring_ok nodes part (Err f) h = let wrong : ⊥ = cc in absurd wrong
+ring_ok nodes part (Ok n) h = channel_ok nodes part n (needed (node_at nodes part 1)) h
+
+first_ok : (r : Result Refs Problem) (rest : Result (List Refs) Problem) → fault_in (all_with r rest) ≡ None → (fault_in r ≡ None) × (fault_in rest ≡ None)
+first_ok (Err p) rest h = let wrong : ⊥ = cc in absurd wrong
+first_ok (Ok r) (Err p) h = let wrong : ⊥ = cc in absurd wrong
+first_ok (Ok r) (Ok rs) h = (refl, refl)
+
+pub refs_ok : (nodes : List NodeValue) (part n : ℕ) → fault_in (all_refs nodes part n) ≡ None → all_refs nodes part n ≡ Ok (refs_from nodes part n)
+refs_ok nodes part zero h = refl
+refs_ok nodes part (suc n) h =
+    let both = first_ok (part_refs nodes part) (all_refs nodes (part + 1) n) h in
+    ap (λ r. all_with r (all_refs nodes (part + 1) n)) (ring_ok nodes part (needed (node_at nodes part 0)) both.0)
+    ∙ ap (added (refs_at nodes part)) (refs_ok nodes (part + 1) n both.1)
+
+told_of : Option Reason → Option Said
+told_of None = None
+told_of (Some why) = Some (said.Closed why)
+
+pub lacks : (site : Site) (w : Work) (r : Result (List Refs) Problem) (why : Reason) → fault_in r ≡ Some why → Told site w (connect_all site r) (Some (said.Closed why)) (Between (shut w))
+unfolding said_at settled told_of
+lacks site w (Ok rs) why h = let wrong : ⊥ = cc in absurd wrong
+lacks site w (Err p) why h = record { end = Lacked p; told = said.Closed why; over = refl; says = refl; told_is = ap (λ (x : Option Reason). told_of x) h; left = refl }
+
+-- a request in hand is answered, one that is left is taken, a ring is looked at; all sleep
+module _ (w : Work) (ls : List Link) (k : ℕ) (l : Link) (p : w.parts ≡ map joined_of ls) (g : slice_get ls k ≡ Some l) (two : length (held_of l) ≡ 2) (rest : idle l ≡ true) where
+  joined_at : slice_get w.parts k ≡ Some (joined_of l)
+  joined_at = ap (λ js. slice_get js k) p ∙ get_map joined_of ls k l g
+
+  pub answers_is : (q : Request) (reply : List ℕ) → reply ≡ reply_to q → answers w (record { part = k; request = q }) (slice_get w.parts k) ≡ Act w (mapped Answered (answer_from reply (slice_get ls k)))
+  answers_is q reply e =
+      ap (answers w (record { part = k; request = q })) joined_at
+      ∙ (ap (λ (x : Page). Act w (mapped (λ y. Answered y) (answer_plan x (joined_of l).rsp (reply_to q)))) (sym (page_shown l two))
+      ∙ (ap (λ n. Act w (mapped (λ y. Answered y) (answer_plan (page_of l) n (reply_to q)))) (sym (rsp_joined l))
+      ∙ (ap (λ x. Act w (mapped (λ y. Answered y) (answer_plan (page_of l) (rsp_of l) x))) (sym e)
+      ∙ (ap (λ (x : Plan Bool). Act w (mapped (λ y. Answered y) x)) (sym (whole_answer l reply rest))
+      ∙ ap (λ x. Act w (mapped (λ y. Answered y) (answer_from reply x))) (sym g)))))
+
+  pub takes_is : takes_from w (slice_get w.parts k) ≡ Act w (mapped Took (take_from (slice_get ls k)))
+  takes_is =
+      ap (takes_from w) joined_at
+      ∙ (ap (λ (x : Page). Act w (mapped (λ y. Took y) (take_plan x (joined_of l).rsp))) (sym (page_shown l two))
+      ∙ (ap (λ n. Act w (mapped (λ y. Took y) (take_plan (page_of l) n))) (sym (rsp_joined l))
+      ∙ (ap (λ (x : Plan (List ℕ)). Act w (mapped (λ y. Took y) x)) (sym (whole_take l rest))
+      ∙ ap (λ x. Act w (mapped (λ y. Took y) (take_from x))) (sym g))))
+
+  pub looks_is : looks_at w (slice_get w.parts k) ≡ Act w (mapped Saw (look_from (slice_get ls k)))
+  looks_is =
+      ap (looks_at w) joined_at
+      ∙ (ap (λ (x : Page). Act w (mapped (λ y. Saw y) (look_plan x (joined_of l).rsp))) (sym (page_shown l two))
+      ∙ (ap (λ n. Act w (mapped (λ y. Saw y) (look_plan (page_of l) n))) (sym (rsp_joined l))
+      ∙ ap (λ x. Act w (mapped (λ y. Saw y) (look_from x))) (sym g)))
+
+pub sleeps_is : (w : Work) (ls : List Link) (l : Link) → w.parts ≡ map joined_of ls → slice_get ls 0 ≡ Some l → length (held_of l) ≡ 2 → idle l ≡ true → Act w (mapped Slept (sleep_all w.parts)) ≡ Act w (mapped Slept (sleeping 0 ls))
+sleeps_is w ls l p g two rest =
+    ap (λ js. Act w (mapped (λ y. Slept y) (sleep_all js))) p
+    ∙ ap (λ (x : Plan Bool). Act w (mapped (λ y. Slept y) x)) (sym (sleeping_at ls 0 l g rest two))
+
+asked_again : (o : Option State) → asked_of o ≡ action.Renew → ⊥
+asked_again None h = let wrong : ⊥ = cc in wrong
+asked_again (Some s) h = let wrong : ⊥ = cc in wrong
+
+-- the nodes are all there: a Connect begins at the first part
+pub connect_begins : (site : Site) (nodes : List NodeValue) (ls : List Link) (l : Link) → slice_get ls 0 ≡ Some l → idle l ≡ true → dom_of l ≡ site.dom → 0 < site.parts → fault_in (all_refs nodes 0 site.parts) ≡ None → connect_all site (all_refs nodes 0 site.parts) ≡ connecting site nodes 0 ls
+connect_begins site nodes ls l g rest d some none =
+    let whole : site.parts ≡ site.parts - 0 = omega arith in
+    ap (connect_all site) (refs_ok nodes 0 site.parts none)
+    ∙ (ap (λ n. connect_all site (Ok (refs_from nodes 0 n))) whole
+    ∙ later_is site nodes 0 ls [] l g rest d some)
+
+pub told_as : (site : Site) (w : Work) (p : Plan End) (event event' : Said) (new new' : Stand Work End) → event ≡ event' → new ≡ new' → Told site w p (Some event') new' → Told site w p (Some event) new
+told_as site w p event event' new new' e n t =
+    subst (λ x. Told site w p (Some x) new) (sym e) (subst (λ x. Told site w p (Some event') x) (sym n) t)
+
+-- the order of work by the fields
+pub closing_is : (site : Site) (w : Work) → w.closing ≡ true → choice site w ≡ Act w (Finished Left)
 unfolding choice
-chosen w c e = ap (with_connection w) e
+closing_is site w e = ap (with_closing site w) e
 
-module _ (d : Display) (between : is_between d.activity ≡ true) where
-  pub hand_answers : is_some d.hand ≡ true → with_hand (work_of d) d.hand ≡ Act (mapped (λ x. Answered x) (answer_left d.link d.reply))
-  unfolding work_of
-  hand_answers h =
-      let q = some_of d.hand h in
-      ap (with_hand (work_of d)) q.1
-      ∙ (ap (λ reply. Act (mapped (λ x. Answered x) (answer_plan (page_of d.link) (rsp_of d.link) reply))) (sym (d.ready q.0 q.1))
-      ∙ ap (λ (p : Plan Bool). Act (mapped (λ x. Answered x) p)) (sym (whole_answer d.link d.reply (d.rested between))))
+pub kept_is : (site : Site) (w : Work) (why : Reason) → w.closing ≡ false → w.kept ≡ Some why → choice site w ≡ close w why
+unfolding choice
+kept_is site w why e f = ap (with_closing site w) e ∙ ap (with_kept site w) f
 
-  pub left_takes : is_some d.hand ≡ false → 0 < d.left → with_hand (work_of d) d.hand ≡ Act (mapped (λ x. Took x) (take_left d.link))
-  unfolding work_of
-  left_takes h l =
-      let m = positive d.left l in
-      ap (with_hand (work_of d)) (none_of d.hand h)
-      ∙ (ap (with_left (work_of d)) m.1
-      ∙ ap (λ (p : Plan (List ℕ)). Act (mapped (λ x. Took x) p)) (sym (whole_take d.link (d.rested between))))
+pub action_is : (site : Site) (w : Work) (a : Action) → w.closing ≡ false → w.kept ≡ None → action_of w.connection ≡ a → choice site w ≡ with_action site w a
+unfolding choice
+action_is site w a e f h = ap (with_closing site w) e ∙ (ap (with_kept site w) f ∙ ap (with_action site w) h)
 
-  pub in_its_round : is_some d.hand ≡ false → d.left ≡ 0 → (r : Round) → d.round ≡ r → with_hand (work_of d) d.hand ≡ in_round (work_of d) r
-  unfolding work_of
-  in_its_round h l r e =
-      ap (with_hand (work_of d)) (none_of d.hand h) ∙ (ap (with_left (work_of d)) l ∙ ap (in_round (work_of d)) e)
+pub connected_is : (site : Site) (w : Work) → w.closing ≡ false → w.kept ≡ None → action_of w.connection ≡ action.Stay → w.connection.back ≡ state.Connected → choice site w ≡ with_hand w w.hand
+connected_is site w e f h b = action_is site w action.Stay e f h ∙ ap (with_state w) b
 
-  pub round_looks : is_some d.hand ≡ false → d.left ≡ 0 → d.round ≡ round.Looks → with_hand (work_of d) d.hand ≡ Act (mapped (λ x. Saw x) (look_plan (page_of d.link) (rsp_of d.link)))
-  unfolding work_of
-  round_looks h l e = in_its_round h l round.Looks e
+pub apart_rests : (w : Work) (s : State) → (s ≡ state.Connected → ⊥) → with_state w s ≡ Rest w
+apart_rests w state.Unknown n = refl
+apart_rests w state.Initialising n = refl
+apart_rests w state.InitWait n = refl
+apart_rests w state.Initialised n = refl
+apart_rests w state.Connected n = absurd (n refl)
+apart_rests w state.Closing n = refl
+apart_rests w state.Closed n = refl
+apart_rests w state.Reconfiguring n = refl
+apart_rests w state.Reconfigured n = refl
 
-  pub round_sleeps : is_some d.hand ≡ false → d.left ≡ 0 → d.round ≡ round.Sleeps → with_hand (work_of d) d.hand ≡ Act (mapped (λ x. Slept x) (sleep_left d.link))
-  unfolding work_of
-  round_sleeps h l e = in_its_round h l round.Sleeps e ∙ ap (λ (p : Plan Bool). Act (mapped (λ x. Slept x) p)) (sym (whole_sleep d.link (d.rested between)))
+pub apart_is : (site : Site) (w : Work) → w.closing ≡ false → w.kept ≡ None → action_of w.connection ≡ action.Stay → (w.connection.back ≡ state.Connected → ⊥) → choice site w ≡ Rest w
+apart_is site w e f h n = action_is site w action.Stay e f h ∙ apart_rests w w.connection.back n
 
--- an activity that is chosen may begin
-go_mapped : {A B : Type 0} (f : A → B) (may : Want → Type 0) (p : Plan A) → MayGo may (mapped f p) → MayGo may p
-go_mapped f may (Finished x) h = tt
-go_mapped f may (Make want note more) h = h
+-- whether there is something to be done
+act_busy : (site : Site) (w : Work) (a : Action) → (a ≡ action.Stay → ⊥) → true ≡ not (rests_next (with_action site w a))
+act_busy site w action.Stay n = absurd (n refl)
+act_busy site w action.Connect n = refl
+act_busy site w (action.Close s) n = refl
+act_busy site w action.Renew n = refl
 
-pub may_chosen : {A : Type 0} (f : A → End) (may : Want → Type 0) (o : Order Work End) (p : Plan A) → o ≡ Act (mapped f p) → MayChoose may o → MayGo may p
-may_chosen f may o p e h = go_mapped f may p (subst (λ (x : Order Work End). MayChoose may x) e h)
+pub action_busy : (site : Site) (w : Work) → w.closing ≡ false → w.kept ≡ None → (action_of w.connection ≡ action.Stay → ⊥) → true ≡ not (rests_next (choice site w))
+action_busy site w e f n = act_busy site w (action_of w.connection) n ∙ ap (λ (o : Order Work End). not (rests_next o)) (sym (action_is site w (action_of w.connection) e f refl))
 
-pub may_mapped : {A B : Type 0} (f : A → B) (may : Want → Type 0) (p : Plan A) → MayGo may (mapped f p) → MayGo may p
-may_mapped f may p h = go_mapped f may p h
+pub order_busy : (site : Site) (w : Work) (o : Order Work End) → choice site w ≡ o → not (rests_next o) ≡ not (rests_next (choice site w))
+order_busy site w o e = ap (λ (x : Order Work End). not (rests_next x)) (sym e)
+
+at_busy : (site : Site) (w : Work) (p : Plan End) → true ≡ not (at_rest (display site) (stand_at w p))
+unfolding choice
+at_busy site w (Finished x) = refl
+at_busy site w (Make want note more) = refl
+
+pub stand_busy : (site : Site) (w : Work) (read : List NodeValue) (ls : List Link) (reply : List ℕ) (at : ℕ) (a : Activity) → (a ≡ activity.Between → ⊥) → true ≡ not (at_rest (display site) (stand_in site w read ls reply at a))
+stand_busy site w read ls reply at activity.Between n = absurd (n refl)
+stand_busy site w read ls reply at (activity.Connecting part) n = at_busy site w _
+stand_busy site w read ls reply at (activity.Leaving end) n = at_busy site w _
+stand_busy site w read ls reply at activity.Taking n = refl
+stand_busy site w read ls reply at activity.Answering n = refl
+stand_busy site w read ls reply at (activity.Sleeping part) n = refl
+
+pub begins_as : (site : Site) (o p : Order Work End) (access : Option Access) (event : Option Said) (new : Stand Work End) → o ≡ p → Begins site p access event new → Begins site o access event new
+begins_as site o p access event new e b = subst (λ (x : Order Work End). Begins site x access event new) (sym e) b
+
+pub may_choose_as : (may : Want → Type 0) (o p : Order Work End) → o ≡ p → MayChoose may o → MayChoose may p
+may_choose_as may o p e h = subst (λ (x : Order Work End). MayChoose may x) e h
+
+-- the backend takes a state
+pub begins_entering : (site : Site) (o : Order Work End) (w : Work) (end : End) (s : State) (access : Option Access) (event : Option Said) (new : Stand Work End) → o ≡ Act w (Finished end) → said_at w end ≡ Some (said.State s) → access ≡ None → event ≡ Some (said.State s) → new ≡ Between (settled site w end) → Begins site o access event new
+begins_entering site o w end s access event new e t a b n =
+    subst (λ (x : Order Work End). Begins site x access event new) (sym e)
+    (subst (λ (x : Option Access). Begins site (Act w (Finished end)) x event new) (sym a)
+    (record { end = end; told = said.State s; over = refl; says = b; told_is = t; left = n }))
+
+pub left_entering : (site : Site) (w : Work) → (said_at w Left ≡ Some (said.State state.Closed)) × (entered w state.Closed ≡ settled site w Left)
+unfolding said_at settled
+left_entering site w = (refl, refl)
+
+pub renew_entering : (site : Site) (w : Work) → (said_at w Renewed ≡ Some (said.State state.InitWait)) × (entered w state.InitWait ≡ settled site w Renewed)
+unfolding said_at settled
+renew_entering site w = (refl, refl)
+
+-- a backend that waits again isn't connected
+pub renew_apart : (s : State) (c : Connection) → action_from s c ≡ action.Renew → is_connected s ≡ false
+renew_apart state.Unknown c h = refl
+renew_apart state.Initialising c h = refl
+renew_apart state.InitWait c h = refl
+renew_apart state.Initialised c h = refl
+renew_apart state.Connected c h = absurd (asked_again c.ending h)
+renew_apart state.Closing c h = refl
+renew_apart state.Closed c h = refl
+renew_apart state.Reconfiguring c h = refl
+renew_apart state.Reconfigured c h = refl

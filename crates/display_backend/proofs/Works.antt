@@ -1,31 +1,112 @@
--- The work of a display whose link shows the same page and index is the same.
-use Rattle.std.proofs.Common.{◌≡◌, ℕ, List, true, Option, ◌∙◌, ap, refl}
+-- What of a display's work stays the same.
+use Rattle.std.proofs.Common.{◌≡◌, inl, inr, ℕ, Bool, true, false, not, ◌&&◌, List, Option, Some, None, is_some, map, slice_get, slice_set, refl, sym, ap, ◌∙◌}
 use Rattle.std.proofs.lemmas.Bool.{false≢true}
+use Rattle.pv_words.specs.declared.device.NodeValue.{NodeValue}
+use Rattle.pv_words.specs.declared.device.Reason.{Reason}
+use Rattle.pv_words.specs.declared.device.State.{State}
+use Rattle.xenbus_states.specs.Connection.{Connection}
+use Rattle.link_core.specs.declared.link.Link.{Link}
+use Rattle.link_core.specs.Activities.{Joined}
+use Rattle.link_core.specs.Order.{Between}
+use Rattle.link_core.specs.Link.{joined_of, answered_of}
 use Rattle.displ_wire.specs.declared.Request.{Request}
-use Rattle.link_core.specs.Activities.{Page}
-use Rattle.display_backend.specs.declared.display.Connection.{Connection}
-use Rattle.display_backend.specs.declared.display.Round.{Round}
 use Rattle.display_backend.specs.declared.display.Activity.{Activity}
 use Rattle.display_backend.specs.declared.display.Activity.TheVariants as activity
-use Rattle.link_core.specs.declared.link.Link.{Link}
-use Rattle.link_core.specs.Order.{Between}
-use Rattle.display_backend.specs.Activity.{is_between}
-use Rattle.display_backend.specs.Display.{stand_in}
-use Rattle.display_backend.specs.Work.{Work}
+use Rattle.display_backend.specs.declared.display.Round.{Round}
+use Rattle.display_backend.specs.Activity.{is_open, is_connected, is_connecting, is_serving, MayServe}
+use Rattle.display_backend.specs.Display.{parts_in, hand_of, stand_in}
+use Rattle.display_backend.specs.Machine.{Hand, Site}
+use Rattle.display_backend.specs.Work.{Work, counted, after_answer}
+use Rattle.display_backend.proofs.Lists.{map_set_same, map_set, get_map}
 
-abbrev pub work : Page → Connection → ℕ → Option Request → ℕ → Round → Work
-work p c r h n round = record { page = p; connection = c; rsp = r; hand = h; left = n; round = round }
+abbrev pub work : Connection → List NodeValue → List NodeValue → Bool → Bool → List Joined → Option Reason → Option Hand → ℕ → ℕ → Round → Work
+work c seen read b closing parts kept hand at left r =
+    record { connection = c; seen = seen; read = read; connecting = b; closing = closing; parts = parts; kept = kept; hand = hand; at = at; left = left; round = r }
 
-pub same_work : (c : Connection) (h : Option Request) (n : ℕ) (round : Round) (p q : Page) (r s : ℕ) → p ≡ q → r ≡ s → work p c r h n round ≡ work q c s h n round
-same_work c h n round p q r s e f = ap (λ x. work x c r h n round) e ∙ ap (λ x. work q c x h n round) f
+pub same_work : (c : Connection) (seen read : List NodeValue) (b b' closing : Bool) (p p' : List Joined) (kept : Option Reason) (h h' : Option Hand) (at n n' : ℕ) (r : Round) → b ≡ b' → p ≡ p' → h ≡ h' → n ≡ n' → work c seen read b closing p kept h at n r ≡ work c seen read b' closing p' kept h' at n' r
+same_work c seen read b b' closing p p' kept h h' at n n' r e f g i =
+    ap (λ x. work c seen read x closing p kept h at n r) e
+    ∙ (ap (λ x. work c seen read b' closing x kept h at n r) f
+    ∙ (ap (λ x. work c seen read b' closing p' kept x at n r) g
+    ∙ ap (λ x. work c seen read b' closing p' kept h' at x r) i))
 
-pub same_taken : (c : Connection) (round : Round) (p q : Page) (r s : ℕ) (h k : Option Request) (n m : ℕ) → p ≡ q → r ≡ s → h ≡ k → n ≡ m → work p c r h n round ≡ work q c s k m round
-same_taken c round p q r s h k n m e f i j =
-    same_work c h n round p q r s e f ∙ (ap (λ x. work q c s x n round) i ∙ ap (λ x. work q c s k x round) j)
+-- while it serves
+pub open_serving : (a : Activity) (closing : Bool) (back : State) → is_serving a ≡ true → is_open a closing back ≡ not closing && is_connected back
+open_serving activity.Between closing back h = refl
+open_serving (activity.Connecting part) closing back h = absurd (false≢true h)
+open_serving (activity.Leaving end) closing back h = absurd (false≢true h)
+open_serving activity.Taking closing back h = refl
+open_serving activity.Answering closing back h = refl
+open_serving (activity.Sleeping part) closing back h = refl
 
--- between two activities
-pub stands_between : (w : Work) (l : Link) (reply : List ℕ) (a : Activity) → is_between a ≡ true → stand_in w l reply a ≡ Between w
-stands_between w l reply activity.Between h = refl
-stands_between w l reply activity.Taking h = absurd (false≢true h)
-stands_between w l reply activity.Answering h = absurd (false≢true h)
-stands_between w l reply activity.Sleeping h = absurd (false≢true h)
+pub connecting_serving : (a : Activity) → is_serving a ≡ true → is_connecting a ≡ false
+connecting_serving activity.Between h = refl
+connecting_serving (activity.Connecting part) h = absurd (false≢true h)
+connecting_serving (activity.Leaving end) h = absurd (false≢true h)
+connecting_serving activity.Taking h = refl
+connecting_serving activity.Answering h = refl
+connecting_serving (activity.Sleeping part) h = refl
+
+pub parts_same : (o : Bool) (ls : List Link) (k : ℕ) (old new : Link) → slice_get ls k ≡ Some old → joined_of new ≡ joined_of old → parts_in o (slice_set ls k new) ≡ parts_in o ls
+parts_same true ls k old new e h = map_set_same joined_of ls k old new e h
+parts_same false ls k old new e h = refl
+
+-- the same before and in an activity
+pub open_as : (a b : Activity) (closing : Bool) (back : State) → is_serving b ≡ true → MayServe a b → is_open b closing back ≡ is_open a closing back
+open_as a b closing back s (inl e) = open_serving b closing back s ∙ ap (λ x. is_open x closing back) (sym e)
+open_as a b closing back s (inr e) = ap (λ x. is_open x closing back) (sym e)
+
+pub serving_of : (a b : Activity) → is_serving b ≡ true → MayServe a b → is_serving a ≡ true
+serving_of a b s (inl e) = ap is_serving e
+serving_of a b s (inr e) = ap is_serving e ∙ s
+
+pub connecting_as : (a b : Activity) → is_serving b ≡ true → MayServe a b → is_connecting b ≡ is_connecting a
+connecting_as a b s m = connecting_serving b s ∙ sym (connecting_serving a (serving_of a b s m))
+
+pub parts_as : (a b : Activity) (closing : Bool) (back : State) → is_serving b ≡ true → MayServe a b → (ls : List Link) (k : ℕ) (old new : Link) → slice_get ls k ≡ Some old → joined_of new ≡ joined_of old → parts_in (is_open b closing back) (slice_set ls k new) ≡ parts_in (is_open a closing back) ls
+parts_as a b closing back s m ls k old new e h =
+    ap (λ o. parts_in o (slice_set ls k new)) (open_as a b closing back s m) ∙ parts_same (is_open a closing back) ls k old new e h
+
+-- at the end of an activity
+pub between_as : (a b : Activity) (closing : Bool) (back : State) → is_serving b ≡ true → MayServe a b → is_open activity.Between closing back ≡ is_open a closing back
+between_as a b closing back s m = sym (open_serving a closing back (serving_of a b s m))
+
+pub connecting_after : (a b : Activity) → is_serving b ≡ true → MayServe a b → is_connecting activity.Between ≡ is_connecting a
+connecting_after a b s m = sym (connecting_serving a (serving_of a b s m))
+
+pub parts_after : (a b : Activity) (closing : Bool) (back : State) → is_serving b ≡ true → MayServe a b → (ls : List Link) (k : ℕ) (old new : Link) → slice_get ls k ≡ Some old → joined_of new ≡ joined_of old → parts_in (is_open activity.Between closing back) (slice_set ls k new) ≡ parts_in (is_open a closing back) ls
+parts_after a b closing back s m ls k old new e h =
+    ap (λ o. parts_in o (slice_set ls k new)) (between_as a b closing back s m) ∙ parts_same (is_open a closing back) ls k old new e h
+
+-- one reply more was published
+parts_counted : (o : Bool) (ls : List Link) (k : ℕ) (old new : Link) → slice_get ls k ≡ Some old → joined_of new ≡ answered_of (joined_of old) → parts_in o (slice_set ls k new) ≡ counted (parts_in o ls) k (slice_get (parts_in o ls) k)
+parts_counted false ls k old new e h = refl
+parts_counted true ls k old new e h =
+    map_set joined_of ls k new
+    ∙ (ap (λ j. slice_set (map joined_of ls) k j) h
+    ∙ ap (counted (map joined_of ls) k) (sym (get_map joined_of ls k old e)))
+
+pub parts_answered : (a b : Activity) (closing : Bool) (back : State) → is_serving b ≡ true → MayServe a b → (ls : List Link) (k : ℕ) (old new : Link) → slice_get ls k ≡ Some old → joined_of new ≡ answered_of (joined_of old) → parts_in (is_open activity.Between closing back) (slice_set ls k new) ≡ counted (parts_in (is_open a closing back) ls) k (slice_get (parts_in (is_open a closing back) ls) k)
+parts_answered a b closing back s m ls k old new e h =
+    ap (λ o. parts_in o (slice_set ls k new)) (between_as a b closing back s m) ∙ parts_counted (is_open a closing back) ls k old new e h
+
+pub answered_work : (w : Work) (q : Request) (at : ℕ) (h : Option Request) → h ≡ Some q → record w { hand = None; parts = counted w.parts at (slice_get w.parts at) } ≡ after_answer w (hand_of h at)
+answered_work w q at h e = ap (λ (x : Option Request). after_answer w (hand_of x at)) (sym e)
+
+pub some_of : {A : Type 0} (o : Option A) → is_some o ≡ true → (x : A) × (o ≡ Some x)
+some_of None h = absurd (false≢true h)
+some_of (Some x) h = (x, refl)
+
+-- after a Look
+pub same_look : (c : Connection) (seen read : List NodeValue) (b closing : Bool) (p p' : List Joined) (kept : Option Reason) (h h' : Option Hand) (at at' n : ℕ) (r r' : Round) → p ≡ p' → h ≡ h' → at ≡ at' → r ≡ r' → work c seen read b closing p kept h at n r ≡ work c seen read b closing p' kept h' at' n r'
+same_look c seen read b closing p p' kept h h' at at' n r r' e f g i =
+    ap (λ x. work c seen read b closing x kept h at n r) e
+    ∙ (ap (λ x. work c seen read b closing p' kept x at n r) f
+    ∙ (ap (λ x. work c seen read b closing p' kept h' x n r) g
+    ∙ ap (λ x. work c seen read b closing p' kept h' at' n x) i))
+
+pub no_hand : (h : Option Request) (at at' : ℕ) → h ≡ None → hand_of h at ≡ hand_of h at'
+no_hand h at at' e = ap (λ x. hand_of x at) e ∙ ap (λ x. hand_of x at') (sym e)
+
+pub stands_between : (site : Site) (w : Work) (read : List NodeValue) (ls : List Link) (reply : List ℕ) (at : ℕ) (a : Activity) → a ≡ activity.Between → stand_in site w read ls reply at a ≡ Between w
+stands_between site w read ls reply at a e = ap (stand_in site w read ls reply at) e

@@ -1,10 +1,125 @@
--- Which activity a display is in.
-use Rattle.std.specs.Prelude.{Bool, true, false}
+-- Which activity a display is in, and what that says of its links.
+use Rattle.std.specs.Prelude.{◌≡◌, ◌⊎◌, ℕ, ◌+◌, Bool, true, false, not, ◌&&◌, if◌then◌else◌}
+use Rattle.pv_words.specs.declared.device.State.{State}
+use Rattle.pv_words.specs.declared.device.State.TheVariants as state
 use Rattle.display_backend.specs.declared.display.Activity.{Activity}
 use Rattle.display_backend.specs.declared.display.Activity.TheVariants as activity
+use Rattle.display_backend.specs.declared.display.Ending.{Ending}
+use Rattle.display_backend.specs.declared.display.Ending.TheVariants as ending
 
 abbrev pub is_between : Activity → Bool
 is_between activity.Between = true
+is_between (activity.Connecting part) = false
+is_between (activity.Leaving end) = false
 is_between activity.Taking = false
 is_between activity.Answering = false
-is_between activity.Sleeping = false
+is_between (activity.Sleeping part) = false
+
+abbrev pub is_connected : State → Bool
+is_connected state.Unknown = false
+is_connected state.Initialising = false
+is_connected state.InitWait = false
+is_connected state.Initialised = false
+is_connected state.Connected = true
+is_connected state.Closing = false
+is_connected state.Closed = false
+is_connected state.Reconfiguring = false
+is_connected state.Reconfigured = false
+
+-- the parts are connected
+abbrev pub is_open : Activity → Bool → State → Bool
+is_open activity.Between closing back = not closing && is_connected back
+is_open (activity.Connecting part) closing back = false
+is_open (activity.Leaving end) closing back = false
+is_open activity.Taking closing back = not closing && is_connected back
+is_open activity.Answering closing back = not closing && is_connected back
+is_open (activity.Sleeping part) closing back = not closing && is_connected back
+
+-- a refused Connect gives up its pages
+abbrev pub is_refused : Ending → Bool
+is_refused (ending.Denied why) = true
+is_refused (ending.Shut why) = false
+
+-- a Connect is under way
+abbrev pub is_connecting : Activity → Bool
+is_connecting activity.Between = false
+is_connecting (activity.Connecting part) = true
+is_connecting (activity.Leaving end) = is_refused end
+is_connecting activity.Taking = false
+is_connecting activity.Answering = false
+is_connecting (activity.Sleeping part) = false
+
+-- it maps pages
+abbrev pub is_mapping : Activity → Bool
+is_mapping activity.Between = false
+is_mapping (activity.Connecting part) = true
+is_mapping (activity.Leaving end) = false
+is_mapping activity.Taking = false
+is_mapping activity.Answering = false
+is_mapping (activity.Sleeping part) = false
+
+abbrev pub is_answering : Activity → Bool
+is_answering activity.Between = false
+is_answering (activity.Connecting part) = false
+is_answering (activity.Leaving end) = false
+is_answering activity.Taking = false
+is_answering activity.Answering = true
+is_answering (activity.Sleeping part) = false
+
+-- it accesses the ring of a part
+abbrev pub uses_ring : Activity → Bool
+uses_ring activity.Between = false
+uses_ring (activity.Connecting part) = false
+uses_ring (activity.Leaving end) = false
+uses_ring activity.Taking = true
+uses_ring activity.Answering = true
+uses_ring (activity.Sleeping part) = true
+
+-- of so many links, those before this one hold both pages
+abbrev pub met_in : Activity → Bool → ℕ → ℕ
+met_in activity.Between opened n = if opened then n else 0
+met_in (activity.Connecting part) opened n = part
+met_in (activity.Leaving end) opened n = 0
+met_in activity.Taking opened n = if opened then n else 0
+met_in activity.Answering opened n = if opened then n else 0
+met_in (activity.Sleeping part) opened n = if opened then n else 0
+
+-- those from this one on hold none
+abbrev pub bare_in : Activity → Bool → ℕ → ℕ
+bare_in activity.Between opened n = if opened then n else 0
+bare_in (activity.Connecting part) opened n = part + 1
+bare_in (activity.Leaving end) opened n = n
+bare_in activity.Taking opened n = if opened then n else 0
+bare_in activity.Answering opened n = if opened then n else 0
+bare_in (activity.Sleeping part) opened n = if opened then n else 0
+
+-- all but this one rest
+abbrev pub busy_in : Activity → ℕ → ℕ → ℕ
+busy_in activity.Between at n = n
+busy_in (activity.Connecting part) at n = part
+busy_in (activity.Leaving end) at n = n
+busy_in activity.Taking at n = at
+busy_in activity.Answering at n = at
+busy_in (activity.Sleeping part) at n = part
+
+-- the part that the activity has come to
+abbrev pub part_of : Activity → ℕ
+part_of activity.Between = 0
+part_of (activity.Connecting part) = part
+part_of (activity.Leaving end) = 0
+part_of activity.Taking = 0
+part_of activity.Answering = 0
+part_of (activity.Sleeping part) = part
+
+-- no Connect and no end of a connection is under way
+abbrev pub is_serving : Activity → Bool
+is_serving activity.Between = true
+is_serving (activity.Connecting part) = false
+is_serving (activity.Leaving end) = false
+is_serving activity.Taking = true
+is_serving activity.Answering = true
+is_serving (activity.Sleeping part) = true
+
+-- the activity begins, or it is under way
+abbrev pub MayServe : Activity → Activity → Type 0
+MayServe old new = (old ≡ activity.Between) ⊎ (old ≡ new)

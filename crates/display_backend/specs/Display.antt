@@ -1,22 +1,162 @@
 -- Where a display stands.
-use Rattle.std.specs.Prelude.{ℕ, List}
-use Rattle.pv_words.specs.Plan.{mapped}
-use Rattle.link_core.specs.Order.{Stand, Between, During}
-use Rattle.link_core.specs.Link.{page_of, rsp_of, take_left, answer_left, sleep_left}
+use Rattle.std.specs.Prelude.{◌≡◌, ℕ, zero, suc, ◌+◌, ◌-◌, Bool, true, false, List, [], ◌∷◌, ◌++◌, Option, Some, None, Result, Ok, Err, length, map, take, drop, slice_get}
+use Rattle.pv_words.specs.declared.device.NodeFault.{NodeFault}
+use Rattle.pv_words.specs.declared.device.NodeValue.{NodeValue}
+use Rattle.pv_words.specs.declared.device.Reason.{Reason}
+use Rattle.pv_words.specs.declared.device.Reason.TheVariants as reason
+use Rattle.pv_words.specs.declared.grant.Hold.{Hold}
+use Rattle.pv_words.specs.Plan.{Plan, Finished, Make, mapped, joined}
+use Rattle.displ_wire.specs.declared.Request.{Request}
+use Rattle.ring_words.specs.declared.Looked.{Looked}
+use Rattle.ring_words.specs.declared.Looked.TheVariants as looked
+use Rattle.xenbus_states.specs.Nodes.{node_at, needed}
 use Rattle.link_core.specs.declared.link.Link.{Link}
+use Rattle.link_core.specs.Activities.{Joined, look_plan, unmaps}
+use Rattle.link_core.specs.Order.{Stand, Between, During}
+use Rattle.link_core.specs.Link as link
 use Rattle.display_backend.specs.declared.display.Display.{Display}
 use Rattle.display_backend.specs.declared.display.Activity.{Activity}
 use Rattle.display_backend.specs.declared.display.Activity.TheVariants as activity
-use Rattle.display_backend.specs.Work.{Work, End, Took, Answered, Slept}
+use Rattle.display_backend.specs.declared.display.Ending.{Ending}
+use Rattle.display_backend.specs.declared.display.Ending.TheVariants as ending
+use Rattle.display_backend.specs.Activity.{is_open, is_connecting}
+use Rattle.display_backend.specs.Machine.{Site, Hand, Refs}
+use Rattle.display_backend.specs.Work.{Work, End, Took, Answered, Slept, Denied, Shut, sleeps_on, sleep_all, after_part, connect_parts}
+
+-- the domain that it serves
+unfoldable pub dom_of : Display → ℕ
+dom_of d = d.dom.0
+
+-- how many parts it has
+unfoldable pub parts_of : Display → ℕ
+parts_of d = length d.links.items
+
+-- it serves the same domain with the same parts
+abbrev pub Same : Display → Display → Type 0
+Same old new = (dom_of new ≡ dom_of old) × (parts_of new ≡ parts_of old)
+
+-- the display over these numbers of frames and grant entries
+abbrev pub site_of : (frames grants : ℕ → ℕ) → Display → Site
+site_of frames grants d = record { dom = dom_of d; parts = parts_of d; frames = frames (dom_of d); grants = grants (dom_of d) }
+
+-- the pages that these links hold, in order of the parts
+abbrev pub all_held : List Link → List Hold
+all_held [] = []
+all_held (l ∷ ls) = link.held_of l ++ all_held ls
+
+unfoldable pub held_of : Display → List Hold
+held_of d = all_held d.links.items
+
+-- what the links are joined to, where they are
+abbrev pub parts_in : Bool → List Link → List Joined
+parts_in true ls = map link.joined_of ls
+parts_in false ls = []
+
+-- the request in hand, of this part
+abbrev pub hand_of : Option Request → ℕ → Option Hand
+hand_of None part = None
+hand_of (Some q) part = Some (record { part = part; request = q })
 
 unfoldable pub work_of : Display → Work
-work_of d = record { page = page_of d.link; connection = d.connection; rsp = rsp_of d.link; hand = d.hand; left = d.left; round = d.round }
+work_of d =
+    record {
+      connection = d.connection;
+      seen = d.seen;
+      read = d.read;
+      connecting = is_connecting d.activity;
+      closing = d.closing;
+      parts = parts_in (is_open d.activity d.closing d.connection.back) d.links.items;
+      kept = d.kept;
+      hand = hand_of d.hand d.at;
+      at = d.at;
+      left = d.left;
+      round = d.round;
+    }
 
-abbrev pub stand_in : Work → Link → List ℕ → Activity → Stand Work End
-stand_in w link reply activity.Between = Between w
-stand_in w link reply activity.Taking = During w (mapped Took (take_left link))
-stand_in w link reply activity.Answering = During w (mapped Answered (answer_left link reply))
-stand_in w link reply activity.Sleeping = During w (mapped Slept (sleep_left link))
+-- the references of a part, once its nodes are known to be there
+abbrev pub number_in : Result ℕ NodeFault → ℕ
+number_in (Ok n) = n
+number_in (Err fault) = 0
 
-unfoldable pub stand_of : Display → Stand Work End
-stand_of d = stand_in (work_of d) d.link d.reply d.activity
+abbrev pub number_at : List NodeValue → ℕ → ℕ → ℕ
+number_at nodes part key = number_in (needed (node_at nodes part key))
+
+abbrev pub refs_at : List NodeValue → ℕ → Refs
+refs_at nodes part = record { ring = number_at nodes part 0; event = number_at nodes part 2 }
+
+-- those of n parts from this one on
+abbrev pub refs_from : List NodeValue → ℕ → ℕ → List Refs
+refs_from nodes part zero = []
+refs_from nodes part (suc n) = refs_at nodes part ∷ refs_from nodes (part + 1) n
+
+-- what is left of a Connect that came to this part
+abbrev pub met_links : ℕ → List Link → List Joined
+met_links part ls = map link.joined_of (take part ls)
+
+abbrev pub later : Site → List NodeValue → ℕ → List Joined → Plan End
+later site nodes part met = connect_parts site (refs_from nodes part (site.parts - part)) met
+
+abbrev pub connect_from : Site → List NodeValue → ℕ → List Joined → Option Link → Plan End
+connect_from site nodes part met None = Finished (Shut (reason.Overrun 0 0))
+connect_from site nodes part met (Some l) =
+    joined (link.connect_left site.frames site.grants (Some (number_at nodes part 0)) (number_at nodes part 2) l) (after_part met (later site nodes (part + 1)))
+
+abbrev pub connecting : Site → List NodeValue → ℕ → List Link → Plan End
+connecting site nodes part ls = connect_from site nodes part (met_links part ls) (slice_get ls part)
+
+-- what is left of an activity that gives up all pages
+abbrev pub end_of : Ending → End
+end_of (ending.Denied why) = Denied why
+end_of (ending.Shut why) = Shut why
+
+abbrev pub reason_of : Ending → Reason
+reason_of (ending.Denied why) = reason.Refused why
+reason_of (ending.Shut why) = why
+
+abbrev pub leaving_plan : Ending → List Hold → Plan End
+leaving_plan end held = unmaps held (Finished (end_of end))
+
+-- a Look
+abbrev pub look_from : Option Link → Plan Looked
+look_from None = Finished looked.Nothing
+look_from (Some l) = look_plan (link.page_of l) (link.rsp_of l)
+
+-- what is left of a Take, an Answer, a Sleep
+abbrev pub take_from : Option Link → Plan (List ℕ)
+take_from None = Finished []
+take_from (Some l) = link.take_left l
+
+abbrev pub answer_from : List ℕ → Option Link → Plan Bool
+answer_from reply None = Finished false
+answer_from reply (Some l) = link.answer_left l reply
+
+abbrev pub sleep_from : List Link → Option Link → Plan Bool
+sleep_from rest None = Finished true
+sleep_from rest (Some l) = joined (link.sleep_left l) (sleeps_on (sleep_all (map link.joined_of rest)))
+
+abbrev pub sleeping : ℕ → List Link → Plan Bool
+sleeping part ls = sleep_from (drop (part + 1) ls) (slice_get ls part)
+
+-- A Connect or a Close of which no access is left keeps its reason; so it would be for a domain that has become smaller.
+abbrev pub why_of : End → Reason
+why_of (Denied why) = reason.Refused why
+why_of (Shut why) = why
+why_of other = reason.Overrun 0 0
+
+abbrev pub stuck : Work → Reason → Work
+stuck w why = record w { closing = false; parts = []; kept = Some why }
+
+abbrev pub stand_at : Work → Plan End → Stand Work End
+stand_at w (Make want note more) = During w (Make want note more)
+stand_at w (Finished end) = Between (stuck w (why_of end))
+
+abbrev pub stand_in : Site → Work → List NodeValue → List Link → List ℕ → ℕ → Activity → Stand Work End
+stand_in site w nodes ls reply at activity.Between = Between w
+stand_in site w nodes ls reply at (activity.Connecting part) = stand_at w (connecting site nodes part ls)
+stand_in site w nodes ls reply at (activity.Leaving end) = stand_at w (leaving_plan end (all_held ls))
+stand_in site w nodes ls reply at activity.Taking = During w (mapped Took (take_from (slice_get ls at)))
+stand_in site w nodes ls reply at activity.Answering = During w (mapped Answered (answer_from reply (slice_get ls at)))
+stand_in site w nodes ls reply at (activity.Sleeping part) = During w (mapped Slept (sleeping part ls))
+
+unfoldable pub stand_of : Site → Display → Stand Work End
+stand_of site d = stand_in site (work_of d) d.read d.links.items d.reply d.at d.activity

@@ -1,77 +1,178 @@
--- The display as a machine of rows: requests, replies and the end of the connection (the operations of displif.h). It
--- knows no ring, page or access.
-use Rattle.std.specs.Prelude.{◌≡◌, ℕ, ◌<◌, ℤ, pos, negsuc, List, Option, Some, None, if◌then◌else◌}
+-- The display as a machine of rows: its connection, requests and replies (the operations of displif.h, the states of
+-- xenbus.h). It knows no ring, page or access.
+use Rattle.std.specs.Prelude.{◌≡◌, ℕ, zero, suc, ◌<◌, ◌+◌, ◌==◌, ◌||◌, ℤ, pos, negsuc, Bool, true, false, List, [], ◌∷◌, Option, Some, None, Result, Ok, Err, if◌then◌else◌}
+use Rattle.pv_words.specs.declared.device.NodeFault.{NodeFault}
+use Rattle.pv_words.specs.declared.device.NodeValue.{NodeValue}
 use Rattle.pv_words.specs.declared.device.Said.{Said}
 use Rattle.pv_words.specs.declared.device.Said.TheVariants as said
 use Rattle.pv_words.specs.declared.device.Reason.{Reason}
-use Rattle.pv_words.specs.declared.device.Reason.TheVariants.{Overrun}
+use Rattle.pv_words.specs.declared.device.Reason.TheVariants as reason
 use Rattle.pv_words.specs.declared.device.State.{State}
 use Rattle.pv_words.specs.declared.device.State.TheVariants as state
+use Rattle.pv_words.specs.declared.grant.Mode.TheVariants.{Write}
 use Rattle.displ_wire.specs.declared.Asked.{Asked}
 use Rattle.displ_wire.specs.declared.Asked.TheVariants as asked
 use Rattle.displ_wire.specs.declared.Request.{Request}
 use Rattle.displ_wire.specs.Wire.{all_zero, request_of}
+use Rattle.grant_table.specs.Laws.{IsCause}
 use Rattle.ring_words.specs.Ring.{since}
+use Rattle.xenbus_states.specs.declared.back.Action.TheVariants as action
+use Rattle.xenbus_states.specs.Connection.{Connection, first_connection, heard, action_of, begun, moved_to}
+use Rattle.xenbus_states.specs.Nodes.{node_at, needed, no_nodes}
 
 -- the status of a reply: SET_CONFIG of zeros takes the configuration away (0); with another field it names a
 -- framebuffer, of which none is live (ENOENT); no other operation is known (EOPNOTSUPP)
 abbrev pub verdict : Asked → ℤ
 verdict (asked.Config c) = if all_zero c then pos 0 else negsuc 1
+verdict (asked.Create c) = negsuc 94
+verdict (asked.Destroy cookie) = negsuc 94
 verdict asked.Other = negsuc 94
 
--- how far the connection has come
-pub data Phase : Type 0 where
-  Connected : Phase
-  -- it is closed, and the state is due
-  Closing : Phase
-  Closed : Phase
+-- a node that is missing, or holds no number: its part, its key, and what is wrong with it
+pub record Problem : Type 0 where
+  pub part : ℕ
+  pub key : ℕ
+  pub fault : NodeFault
 
--- the machine's state: the connection, and the request in hand
+-- the references of a part's ring page and event page
+pub record Refs : Type 0 where
+  pub ring : ℕ
+  pub event : ℕ
+
+-- The nodes of a part, in this order: the ring's reference (key 0), the requests' event channel (1), the event page's
+-- reference (2), the events' event channel (3). The channels must be there, and aren't used further.
+abbrev pub with_channels : ℕ → ℕ → ℕ → Result ℕ NodeFault → Result Refs Problem
+with_channels part ring event (Err fault) = Err (record { part = part; key = 3; fault = fault })
+with_channels part ring event (Ok channel) = Ok (record { ring = ring; event = event })
+
+abbrev pub with_event_ref : List NodeValue → ℕ → ℕ → Result ℕ NodeFault → Result Refs Problem
+with_event_ref nodes part ring (Err fault) = Err (record { part = part; key = 2; fault = fault })
+with_event_ref nodes part ring (Ok event) = with_channels part ring event (needed (node_at nodes part 3))
+
+abbrev pub with_channel : List NodeValue → ℕ → ℕ → Result ℕ NodeFault → Result Refs Problem
+with_channel nodes part ring (Err fault) = Err (record { part = part; key = 1; fault = fault })
+with_channel nodes part ring (Ok channel) = with_event_ref nodes part ring (needed (node_at nodes part 2))
+
+abbrev pub with_ring_ref : List NodeValue → ℕ → Result ℕ NodeFault → Result Refs Problem
+with_ring_ref nodes part (Err fault) = Err (record { part = part; key = 0; fault = fault })
+with_ring_ref nodes part (Ok ring) = with_channel nodes part ring (needed (node_at nodes part 1))
+
+abbrev pub part_refs : List NodeValue → ℕ → Result Refs Problem
+part_refs nodes part = with_ring_ref nodes part (needed (node_at nodes part 0))
+
+abbrev pub added : Refs → Result (List Refs) Problem → Result (List Refs) Problem
+added r (Err problem) = Err problem
+added r (Ok rs) = Ok (r ∷ rs)
+
+abbrev pub all_with : Result Refs Problem → Result (List Refs) Problem → Result (List Refs) Problem
+all_with (Err problem) rest = Err problem
+all_with (Ok r) rest = added r rest
+
+-- the references of n parts from this one on, or the first problem, part by part
+abbrev pub all_refs : List NodeValue → ℕ → ℕ → Result (List Refs) Problem
+all_refs nodes part zero = Ok []
+all_refs nodes part (suc n) = all_with (part_refs nodes part) (all_refs nodes (part + 1) n)
+
+-- whose device it is, how many parts it has, and how many frames and grant entries the domain has
+pub record Site : Type 0 where
+  pub dom : ℕ
+  pub parts : ℕ
+  pub frames : ℕ
+  pub grants : ℕ
+
+-- a request, and the part whose ring it came by
+pub record Hand : Type 0 where
+  pub part : ℕ
+  pub request : Request
+
+-- The machine's state: the connection, the nodes as they stood when the frontend last set its state, those that the last
+-- Connect read, whether a Connect is under way, whether the connection is closed and the state is due, and the request
+-- in hand.
 pub record Rows : Type 0 where
-  pub phase : Phase
-  pub hand : Option Request
+  pub connection : Connection
+  pub seen : List NodeValue
+  pub read : List NodeValue
+  pub connecting : Bool
+  pub closing : Bool
+  pub hand : Option Hand
 
--- what happens to the machine: what the device said, and the words that it had taken, if they are a request's
-pub record Event : Type 0 where
-  pub said : Said
-  pub taken : List ℕ
+-- what happens to the machine: what the device says, and the words that it had taken, if they are a request's; a state of
+-- the frontend, while the nodes stand so; and a Connect that begins
+pub data Event : Type 0 where
+  Says : Said → List ℕ → Event
+  Hears : State → List NodeValue → Event
+  Begins : Event
 
--- a closed connection tells why
-abbrev pub Closes : Rows → Reason → Rows → Type 0
-Closes old (Overrun prod rsp) new =
-    (old.phase ≡ Connected) × (32 < since rsp prod) × (new ≡ record { phase = Closing; hand = None })
-Closes old reason new = ⊥
+-- this reference stands in a node that was read
+abbrev pub IsAskedFor : Site → List NodeValue → ℕ → Type 0
+IsAskedFor site nodes gref =
+    (part : ℕ) × (key : ℕ) × (part < site.parts) × (((key == 0) || (key == 2)) ≡ true) × (needed (node_at nodes part key) ≡ Ok gref)
 
-abbrev pub Enters : Rows → State → Rows → Type 0
-Enters old state.Closed new = (old.phase ≡ Closing) × (new ≡ record { phase = Closed; hand = None })
-Enters old other new = ⊥
+-- a closed connection tells why: the frontend set this ending state; or the two indices are more than a ring apart; or,
+-- at the end of a Connect, a map of a node's reference was refused, or a needed node is missing or bad
+abbrev pub IsReason : Site → Rows → Reason → Type 0
+IsReason site old (reason.Asked s) = (old.connection.back ≡ state.Connected) × (old.connection.ending ≡ Some s)
+IsReason site old (reason.Overrun prod rsp) = (old.connection.back ≡ state.Connected) × (32 < since rsp prod)
+IsReason site old (reason.Refused why) =
+    (old.connecting ≡ true) × ((gref : ℕ) × IsAskedFor site old.read gref × IsCause site.frames site.grants gref Write why)
+IsReason site old (reason.Node part key fault) =
+    (old.connecting ≡ true) × (all_refs old.read 0 site.parts ≡ Err (record { part = part; key = key; fault = fault }))
+IsReason site old other = ⊥
+
+-- a closed connection has no request in hand
+abbrev pub Closes : Site → Rows → Reason → Rows → Type 0
+Closes site old reason new =
+    IsReason site old reason × (old.closing ≡ false)
+    × (new ≡ record { connection = old.connection; seen = old.seen; read = old.read; connecting = false; closing = true; hand = None })
+
+abbrev pub with_state : Rows → State → Rows
+with_state old s = record { connection = moved_to old.connection s; seen = old.seen; read = old.read; connecting = false; closing = false; hand = None }
+
+-- A backend is Connected at the end of a Connect that found all nodes, Closed once the connection is closed, and waits
+-- again where the frontend of a closed one started anew.
+abbrev pub Enters : Site → Rows → State → Rows → Type 0
+Enters site old state.Connected new =
+    (old.connecting ≡ true) × ((refs : List Refs) × (all_refs old.read 0 site.parts ≡ Ok refs)) × (new ≡ with_state old state.Connected)
+Enters site old state.Closed new = (old.closing ≡ true) × (new ≡ with_state old state.Closed)
+Enters site old state.InitWait new =
+    (old.closing ≡ false) × (action_of old.connection ≡ action.Renew) × (new ≡ with_state old state.InitWait)
+Enters site old other new = ⊥
 
 -- a request comes in hand where none is, and it is what the taken words ask for
-abbrev pub Requests : Rows → ℕ → ℕ → ℕ → Request → Rows → Type 0
-Requests old part id op request new =
-    (part ≡ 0) × (id ≡ request.id) × (op ≡ request.op) × (old.phase ≡ Connected) × (old.hand ≡ None)
-    × (new ≡ record { phase = Connected; hand = Some request })
+pub record Requests (site : Site) (old : Rows) (part id op : ℕ) (request : Request) (new : Rows) : Type 0 where
+  pub connected : old.connection.back ≡ state.Connected
+  pub not_closing : old.closing ≡ false
+  pub part_is : part < site.parts
+  pub id_is : id ≡ request.id
+  pub op_is : op ≡ request.op
+  pub empty : old.hand ≡ None
+  pub taken : new ≡ record { connection = old.connection; seen = old.seen; read = old.read; connecting = old.connecting; closing = old.closing; hand = Some (record { part = part; request = request }) }
 
 -- the request in hand is answered with its verdict
 pub record Replies (old : Rows) (part id : ℕ) (status : ℤ) (new : Rows) : Type 0 where
   pub request : Request
-  pub connected : old.phase ≡ Connected
-  pub in_hand : old.hand ≡ Some request
-  pub part_is : part ≡ 0
+  pub connected : old.connection.back ≡ state.Connected
+  pub not_closing : old.closing ≡ false
+  pub in_hand : old.hand ≡ Some (record { part = part; request = request })
   pub id_is : id ≡ request.id
   pub status_is : status ≡ verdict request.asked
-  pub done : new ≡ record { phase = Connected; hand = None }
+  pub done : new ≡ record { connection = old.connection; seen = old.seen; read = old.read; connecting = old.connecting; closing = old.closing; hand = None }
 
-abbrev pub Says : Rows → Said → List ℕ → Rows → Type 0
-Says old (said.Request part id op) taken new = Requests old part id op (request_of taken) new
-Says old (said.Replied part id status notified) taken new = Replies old part id status new
-Says old (said.Closed reason) taken new = Closes old reason new
-Says old (said.State s) taken new = Enters old s new
-Says old other taken new = ⊥
+abbrev pub Tells : Site → Rows → Said → List ℕ → Rows → Type 0
+Tells site old (said.Request part id op) taken new = Requests site old part id op (request_of taken) new
+Tells site old (said.Replied part id status notified) taken new = Replies old part id status new
+Tells site old (said.Closed reason) taken new = Closes site old reason new
+Tells site old (said.State s) taken new = Enters site old s new
+Tells site old other taken new = ⊥
 
-abbrev pub Moves : Rows → Event → Rows → Type 0
-Moves old e new = Says old e.said e.taken new
+abbrev pub Moves : Site → Rows → Event → Rows → Type 0
+Moves site old (Says s taken) new = Tells site old s taken new
+Moves site old (Hears front nodes) new =
+    new ≡ record { connection = heard old.connection front; seen = nodes; read = old.read; connecting = old.connecting; closing = old.closing; hand = old.hand }
+Moves site old Begins new =
+    (old.closing ≡ false) × (action_of old.connection ≡ action.Connect)
+    × (new ≡ record { connection = begun old.connection; seen = old.seen; read = old.seen; connecting = true; closing = false; hand = old.hand })
 
--- the machine at the beginning: connected, with nothing in hand
+-- the machine at the beginning: nothing is set, and it waits for its frontend
 abbrev pub first_rows : Rows
-first_rows = record { phase = Connected; hand = None }
+first_rows = record { connection = first_connection; seen = no_nodes; read = no_nodes; connecting = false; closing = false; hand = None }

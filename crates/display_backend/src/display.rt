@@ -1,42 +1,51 @@
 //! The display device.
 
-ghost use Rattle.std.specs.Prelude.{◌≡◌, true, not};
-ghost use Rattle.std.specs.Option.{ForSome};
-ghost use Rattle.link_core.specs.Link.{idle};
-ghost use Rattle.display_backend.specs.Activity.{is_between};
-ghost use Rattle.display_backend.specs.Machine.{verdict};
+ghost use Rattle.std.specs.Prelude.{◌≡◌, ◌<◌, ◌≤◌, ◌-◌, ◌+◌, [], IfOk, None, not, true, false, length, slice_get, Some, List, is_some};
+ghost use Rattle.display_backend.specs.Activity.{is_open, is_connected, MayServe};
+ghost use Rattle.display_backend.specs.Goes.{fault_in};
+ghost use Rattle.display_backend.specs.Machine.{verdict, part_refs, all_refs};
 ghost use Rattle.display_backend.specs.Reply.{reply_to, replied};
+ghost use Rattle.display_backend.specs.Whole.{Whole};
+ghost use Rattle.xenbus_states.specs.Nodes.{node_at, needed};
 
 use displ_wire::{Asked, Request, decode, encode_reply, is_zero};
 use link_core::Link;
-use pv_words::{Access, DevId, DomId, Frame, Reason, Said, State, Words};
+use pv_words::{
+    Access, DomId, GrantRef, GrantRefusal, Hold, NodeFault, Reason, Said, State, Words,
+};
 use ring_words::Looked;
-
-// How far the connection has come.
-#[derive(Clone, Copy, Debug, PartialEq, Eq)]
-enum Connection {
-    Open,
-    // The reason for which it is to be closed.
-    Broken(Reason),
-    // It is closed, and the state is to be said.
-    Ending,
-    Over,
-}
+use std::alloc::{AllocError, Global};
+use xenbus_states::{Action, Back, Nodes};
 
 // What comes next where no request is left.
 #[derive(Clone, Copy, Debug, PartialEq, Eq)]
-enum Round {
-    Looks,
+pub enum Round {
+    // The part that is looked at next, and whether the round served a request.
+    Looks(u8, bool),
     Sleeps,
     Idles,
+}
+
+// Why all pages are given up.
+#[derive(Clone, Copy, Debug, PartialEq, Eq)]
+enum Ending {
+    // A Connect was refused.
+    Denied(GrantRefusal),
+    // The connection is closed.
+    Shut(Reason),
 }
 
 #[derive(Clone, Copy, Debug, PartialEq, Eq)]
 enum Activity {
     Between,
+    // A Connect has come to this part.
+    Connecting(u8),
+    // All pages are given up, one after another.
+    Leaving(Ending),
     Taking,
     Answering,
-    Sleeping,
+    // A Sleep has come to this part.
+    Sleeping(u8),
 }
 
 /// What one step of a device did. A step with neither is idle.
@@ -47,19 +56,29 @@ pub struct Step {
     pub said: Option<Said>,
 }
 
-/// A display of one connector, connected over the ring in frame 0 of its domain.
+/// A display, its connection to a frontend, and how far its work has come.
 #[derive(Drop)]
 pub struct Display {
-    link: Link,
-    connection: Connection,
+    dom: DomId,
+    connection: Back,
+    // The nodes as they stood when the frontend last set its state, and those that the last Connect read.
+    seen: Nodes,
+    read: Nodes,
+    // One for each part.
+    links: Vec<Link>,
+    // The connection is closed, and the state is to be said.
+    closing: bool,
+    // The reason for which it is to be closed.
+    kept: Option<Reason>,
+    // The request in hand, which came by the part `at`, and the reply to it.
     hand: Option<Request>,
-    // The reply to the request in hand.
     reply: [u32; 16],
+    // The part of the last Look that found requests, and how many are left of them.
+    at: u8,
     left: u32,
     round: Round,
     activity: Activity,
-    ghost ready: { ForSome hand (λ q. reply ≡ reply_to q) },
-    ghost rested: { is_between activity ≡ true → idle link ≡ true },
+    ghost whole: { Whole dom.0 (is_open activity closing connection.back) hand reply at round activity links.items },
 }
 
 // The status for a framebuffer that isn't live, and for an operation that isn't known.
@@ -73,72 +92,294 @@ fn verdict_on(asked: &Asked) -> i32
 {
     match asked {
         Asked::Config(config) => { if is_zero(config) { 0 } else { ENOENT } }
-        Asked::Other => EOPNOTSUPP,
+        Asked::Create(_) | Asked::Destroy(_) | Asked::Other => EOPNOTSUPP,
     }
 }
 
-// What is said of the reply to the request in hand.
-fn said_of(hand: &Option<Request>, notified: bool) -> Option<Said>
-    ensures { result ≡ replied hand.now notified }
+// What is wrong with a node of this part, the first of them.
+fn fault_of(nodes: &Nodes, part: u8) -> Option<Reason>
+    requires { part < 4 }
+    ensures { result ≡ fault_in (part_refs nodes.now part) }
 {
-    match hand {
-        None => None,
-        Some(request) => Some(Said::Replied(0, request.id, verdict_on(&request.asked), notified)),
+    if let Err(fault) = nodes.need(part, 0) {
+        return Some(Reason::Node(part, 0, fault));
     }
+    if let Err(fault) = nodes.need(part, 1) {
+        return Some(Reason::Node(part, 1, fault));
+    }
+    if let Err(fault) = nodes.need(part, 2) {
+        return Some(Reason::Node(part, 2, fault));
+    }
+    if let Err(fault) = nodes.need(part, 3) {
+        return Some(Reason::Node(part, 3, fault));
+    }
+    None
+}
+
+// What is wrong with a node of the parts before this one, the first of them.
+fn fault_among(nodes: &Nodes, parts: u8) -> Option<Reason>
+    requires { parts ≤ 4 }
+    ensures { result ≡ fault_in (all_refs nodes.now 0 parts) }
+{
+    for part in 0..parts {
+        if let Some(why) = fault_of(nodes, part) {
+            return Some(why);
+        }
+    }
+    None
 }
 
 impl Display {
+    ghost use Rattle.std.specs.Prelude.{ℕ};
     ghost use Rattle.pv_words.specs.Plan.{MayGo, Makes, mapped};
-    ghost use Rattle.link_core.specs.Activities.{Page, look_plan};
-    ghost use Rattle.link_core.specs.Link.{page_of, rsp_of, take_left, answer_left, sleep_left};
-    ghost use Rattle.link_core.specs.Order.{Between, GoesOn, MayChoose, MayStep, Steps, at_rest, rests_next};
-    ghost use Rattle.display_backend.specs.Display.{stand_of, work_of};
-    ghost use Rattle.display_backend.specs.Work.{display, first_work, Saw, Took, Answered, Slept, choice, with_hand};
+    ghost use Rattle.pv_words.specs.declared.device.Said.TheVariants as said;
+    ghost use Rattle.link_core.specs.declared.link.Link.{Link};
+    ghost use Rattle.link_core.specs.Link.{idle};
+    ghost use Rattle.link_core.specs.Link.{held_of as held};
+    ghost use Rattle.link_core.specs.Stays.{AccessIn};
+    ghost use Rattle.display_backend.specs.declared.display.Round.TheVariants as round;
+    ghost use Rattle.link_core.specs.Order.{Between, GoesOn, MayChoose, MayStep, Steps, Went, Heard, next, at_rest, rests_next};
+    ghost use Rattle.display_backend.specs.declared.display.Activity.TheVariants as activity;
+    ghost use Rattle.display_backend.specs.Display.{dom_of, parts_of, Same, held_of, site_of, work_of, stand_of, number_at, hand_of, connecting, leaving_plan, reason_of, look_from, take_from, answer_from, sleeping, later, met_links};
+    ghost use Rattle.display_backend.specs.Goes.{GoesOut, Begins};
+    ghost use Rattle.display_backend.specs.Machine.{Site};
+    ghost use Rattle.display_backend.specs.Work.{display, first_work, shut, Saw, Took, Answered, Slept, choice, close, with_action, with_hand, entered, next_look, part_in};
+    ghost use Rattle.xenbus_states.specs.Connection.{action_of};
+    ghost use Rattle.xenbus_states.specs.declared.back.Action.TheVariants as action;
 
-    /// A display that is connected over the ring in this frame of the domain.
-    pub fn over(dom: DomId, frame: Frame) -> Display
-        ensures { stand_of result ≡ Between (first_work (record { dom = dom.0; frame = frame.0 })) }
+    // What is said of the reply to the request in hand.
+    fn said_of(hand: &Option<Request>, part: u8, notified: bool) -> Option<Said>
+        ensures { result ≡ replied (hand_of hand.now part) notified }
     {
-        Display {
-            link: Link::over(dom, frame),
-            connection: Connection::Open,
-            hand: None,
-            reply: [0; 16],
-            left: 0,
-            round: Round::Looks,
-            activity: Activity::Between,
+        match hand {
+            None => None,
+            Some(request) => Some(Said::Replied(
+                part,
+                request.id,
+                verdict_on(&request.asked),
+                notified,
+            )),
         }
     }
 
-    // The one access of a Look.
-    fn look<W: Words>(&mut self, words: &mut W) -> Step
-        requires may { MayGo (W.may words.old) (look_plan (page_of self.old.link) (rsp_of self.old.link)) }
-        requires between { is_between self.old.activity ≡ true }
-        ensures goes { GoesOn display (work_of self.old) (mapped Saw (look_plan (page_of self.old.link) (rsp_of self.old.link))) result.access result.said (stand_of self.new) }
-        ensures made { Makes W.makes words.old result.access words.new }
+    // The number in a node of this part, once it is known to be there.
+    fn number_at(nodes: &Nodes, part: u8, key: u8) -> u32
+        requires part { part < 4 }
+        requires key { key < 4 }
+        ensures { result ≡ number_at nodes.now part key }
     {
-        let turn = self.link.look_step(words);
-        let access = turn.access;
-        let Some(looked) = turn.done else {
-            unreachable!();
-        };
-        match looked {
-            Looked::Nothing => self.round = Round::Sleeps,
-            Looked::Ready(requests) => self.left = requests,
-            Looked::Overrun(prod, rsp) => {
-                self.connection = Connection::Broken(Reason::Overrun(prod, rsp));
+        match nodes.need(part, key) {
+            Ok(n) => n,
+            Err(_) => 0,
+        }
+    }
+
+    /// A display of so many parts of this domain, which waits for its frontend.
+    pub fn new(alloc: Global, dom: DomId, connectors: u8) -> Result<Display, AllocError>
+        requires some { 1 ≤ connectors }
+        requires few { connectors ≤ 4 }
+        ensures between { IfOk result (λ d. (site : Site) → stand_of site d ≡ Between first_work) }
+        ensures dom { IfOk result (λ d. dom_of d ≡ dom.0) }
+        ensures parts { IfOk result (λ d. parts_of d ≡ connectors) }
+        ensures bare { IfOk result (λ d. held_of d ≡ []) }
+    {
+        let mut links = Vec::new(alloc);
+        for part in 0..connectors {
+            links.push(Link::new(dom, part))?;
+        }
+        Ok(Display {
+            dom,
+            connection: Back::new(),
+            seen: Nodes::new(),
+            read: Nodes::new(),
+            links,
+            closing: false,
+            kept: None,
+            hand: None,
+            reply: [0; 16],
+            at: 0,
+            left: 0,
+            round: Round::Looks(0, false),
+            activity: Activity::Between,
+        })
+    }
+
+    /// Hears that the frontend set its state, while its nodes stand so.
+    pub fn bus(&mut self, front: State, nodes: &Nodes)
+        ensures hears { (site : Site) → stand_of site self.new ≡ next (display site) (stand_of site self.old) (Heard front nodes.now) }
+        ensures dom { dom_of self.new ≡ dom_of self.old }
+        ensures parts { parts_of self.new ≡ parts_of self.old }
+        ensures held { held_of self.new ≡ held_of self.old }
+    {
+        self.connection.front_set(front);
+        self.seen = *nodes;
+    }
+
+    /// How many pages the display holds.
+    pub fn held(&self) -> u32
+        ensures { result ≡ length (held_of self.now) }
+    {
+        let mut count = 0;
+        for part in 0..self.links.len() {
+            count += self.links[part].held();
+        }
+        count
+    }
+
+    /// The page at this place of those that it holds, in order of the parts, the ring's page before the event page.
+    pub fn hold_at(&self, i: u32) -> Hold
+        requires { i < length (held_of self.now) }
+        ensures { slice_get (held_of self.now) i ≡ Some result }
+    {
+        let mut place = i;
+        for part in 0..self.links.len() {
+            let here = self.links[part].held();
+            if place < here {
+                return self.links[part].hold_at(place);
+            }
+            place -= here;
+        }
+        unreachable!()
+    }
+
+    // The first part that holds a page.
+    fn first_held(&self) -> usize
+        ensures within { result ≤ length self.now.links.items }
+        ensures before { (i : ℕ) (l : Link) → i < result → slice_get self.now.links.items i ≡ Some l → length (held l) ≡ 0 }
+        ensures here { (l : Link) → slice_get self.now.links.items result ≡ Some l → 0 < length (held l) }
+    {
+        for part in 0..self.links.len() {
+            if self.links[part].held() > 0 {
+                return part;
             }
         }
-        Step { access, said: None }
+        self.links.len()
+    }
+
+    // The connection is closed, once no page is held.
+    fn shut(&mut self, end: Ending) -> Said
+        requires leaving { self.old.activity ≡ activity.Leaving end }
+        requires bare { held_of self.old ≡ [] }
+        ensures said { result ≡ said.Closed (reason_of end) }
+        ensures stand { (site : Site) → stand_of site self.new ≡ Between (shut (work_of self.old)) }
+        ensures same { Same self.old self.new }
+    {
+        let why = match end {
+            Ending::Denied(refusal) => Reason::Refused(refusal),
+            Ending::Shut(reason) => reason,
+        };
+        self.closing = true;
+        self.kept = None;
+        self.hand = None;
+        self.activity = Activity::Between;
+        Said::Closed(why)
+    }
+
+    // What is said after an access in an activity that gives up all pages.
+    fn leaves(&mut self, end: Ending) -> Option<Said>
+        requires { self.old.activity ≡ activity.Leaving end }
+        ensures went { (site : Site) → Went (display site) (work_of self.old) (leaving_plan end (held_of self.old)) result (stand_of site self.new) }
+        ensures same { Same self.old self.new }
+    {
+        if self.held() > 0 {
+            return None;
+        }
+        Some(self.shut(end))
+    }
+
+    // The next access of an activity that gives up all pages.
+    fn leave<W: Words>(&mut self, words: &mut W, end: Ending) -> Step
+        requires leaving { self.old.activity ≡ activity.Leaving end }
+        requires may { MayGo (W.may words.old) (leaving_plan end (held_of self.old)) }
+        ensures goes { (site : Site) → GoesOut site (work_of self.old) (leaving_plan end (held_of self.old)) result.access result.said (stand_of site self.new) }
+        ensures made { Makes W.makes words.old result.access words.new }
+        ensures stays { (pages : List Hold) → AccessIn pages result.access }
+        ensures same { Same self.old self.new }
+    {
+        let part = self.first_held();
+        if part == self.links.len() {
+            let said = self.shut(end);
+            return Step {
+                access: None,
+                said: Some(said),
+            };
+        }
+        let turn = self.links[part].drop_step(words);
+        let access = turn.access;
+        let said = self.leaves(end);
+        Step { access, said }
+    }
+
+    // What comes once a part is connected: the next part, or all are.
+    fn meets(&mut self, part: u8) -> Option<Said>
+        requires connecting { self.old.activity ≡ activity.Connecting part }
+        requires met { (l : Link) → slice_get self.old.links.items part ≡ Some l → (length (held l) ≡ 2) × (idle l ≡ true) }
+        ensures went { (site : Site) → site.parts ≡ parts_of self.old → site.dom ≡ dom_of self.old → Went (display site) (work_of self.old) (later site self.old.read (part + 1) (met_links (part + 1) self.old.links.items)) result (stand_of site self.new) }
+        ensures same { Same self.old self.new }
+    {
+        let following = part + 1;
+        if (following as usize) < self.links.len() {
+            self.activity = Activity::Connecting(following);
+            return None;
+        }
+        self.connection.moved(State::Connected);
+        self.closing = false;
+        self.kept = None;
+        self.hand = None;
+        self.left = 0;
+        self.round = Round::Looks(0, false);
+        self.activity = Activity::Between;
+        Some(Said::State(State::Connected))
+    }
+
+    // The next access of a Connect that has come to this part.
+    fn connect<W: Words>(&mut self, words: &mut W, part: u8) -> Step
+        requires connecting { self.old.activity ≡ activity.Connecting part }
+        requires may { MayGo (W.may words.old) (connecting (site_of (W.frames_of words.old) (W.grants_of words.old) self.old) self.old.read part self.old.links.items) }
+        ensures goes { GoesOut (site_of (W.frames_of words.old) (W.grants_of words.old) self.old) (work_of self.old) (connecting (site_of (W.frames_of words.old) (W.grants_of words.old) self.old) self.old.read part self.old.links.items) result.access result.said (stand_of (site_of (W.frames_of words.old) (W.grants_of words.old) self.old) self.new) }
+        ensures made { Makes W.makes words.old result.access words.new }
+        ensures stays { AccessIn (held_of self.old) result.access }
+        ensures same { Same self.old self.new }
+    {
+        let ring = Display::number_at(&self.read, part, 0);
+        let event = Display::number_at(&self.read, part, 2);
+        let turn = self.links[part as usize].connect_step(
+            words,
+            Some(GrantRef(ring)),
+            GrantRef(event),
+        );
+        let access = turn.access;
+        let Some(end) = turn.done else {
+            return Step { access, said: None };
+        };
+        match end {
+            Ok(()) => {
+                let said = self.meets(part);
+                Step { access, said }
+            }
+            Err(refusal) => {
+                let denied = Ending::Denied(refusal);
+                self.activity = Activity::Leaving(denied);
+                if access.is_none() {
+                    return self.leave(words, denied);
+                }
+                let said = self.leaves(denied);
+                Step { access, said }
+            }
+        }
     }
 
     // The next access of a Take.
     fn take<W: Words>(&mut self, words: &mut W) -> Step
-        requires { MayGo (W.may words.old) (take_left self.old.link) }
-        ensures goes { GoesOn display (work_of self.old) (mapped Took (take_left self.old.link)) result.access result.said (stand_of self.new) }
+        requires serving { MayServe self.old.activity activity.Taking }
+        requires opened { is_open self.old.activity self.old.closing self.old.connection.back ≡ true }
+        requires may { MayGo (W.may words.old) (take_from (slice_get self.old.links.items self.old.at)) }
+        ensures goes { (site : Site) → GoesOn (display site) (work_of self.old) (mapped Took (take_from (slice_get self.old.links.items self.old.at))) result.access result.said (stand_of site self.new) }
         ensures made { Makes W.makes words.old result.access words.new }
+        ensures stays { AccessIn (held_of self.old) result.access }
+        ensures same { Same self.old self.new }
     {
-        let turn = self.link.take_step(words);
+        let turn = self.links[self.at as usize].take_step(words);
         let access = turn.access;
         let Some(taken) = turn.done else {
             self.activity = Activity::Taking;
@@ -151,100 +392,229 @@ impl Display {
         self.activity = Activity::Between;
         Step {
             access,
-            said: Some(Said::Request(0, request.id, request.op)),
+            said: Some(Said::Request(self.at, request.id, request.op)),
         }
     }
 
     // The next access of an Answer.
     fn answer<W: Words>(&mut self, words: &mut W) -> Step
-        requires { MayGo (W.may words.old) (answer_left self.old.link self.old.reply) }
-        ensures goes { GoesOn display (work_of self.old) (mapped Answered (answer_left self.old.link self.old.reply)) result.access result.said (stand_of self.new) }
+        requires hand { is_some self.old.hand ≡ true }
+        requires may { MayGo (W.may words.old) (answer_from self.old.reply (slice_get self.old.links.items self.old.at)) }
+        requires serving { MayServe self.old.activity activity.Answering }
+        requires opened { is_open self.old.activity self.old.closing self.old.connection.back ≡ true }
+        ensures goes { (site : Site) → GoesOn (display site) (work_of self.old) (mapped Answered (answer_from self.old.reply (slice_get self.old.links.items self.old.at))) result.access result.said (stand_of site self.new) }
         ensures made { Makes W.makes words.old result.access words.new }
+        ensures stays { AccessIn (held_of self.old) result.access }
+        ensures same { Same self.old self.new }
     {
         let reply = self.reply;
-        let turn = self.link.answer_step(words, &reply);
+        let turn = self.links[self.at as usize].answer_step(words, &reply);
         let access = turn.access;
         let Some(notified) = turn.done else {
             self.activity = Activity::Answering;
             return Step { access, said: None };
         };
-        let said = said_of(&self.hand, notified);
+        let said = Display::said_of(&self.hand, self.at, notified);
         self.hand = None;
         self.activity = Activity::Between;
         Step { access, said }
     }
 
-    // The next access of a Sleep.
-    fn sleep<W: Words>(&mut self, words: &mut W) -> Step
-        requires { MayGo (W.may words.old) (sleep_left self.old.link) }
-        ensures goes { GoesOn display (work_of self.old) (mapped Slept (sleep_left self.old.link)) result.access result.said (stand_of self.new) }
+    // The next access of a Sleep that has come to this part.
+    fn sleep<W: Words>(&mut self, words: &mut W, part: u8) -> Step
+        requires part { part < length self.old.links.items }
+        requires may { MayGo (W.may words.old) (sleeping part self.old.links.items) }
+        requires serving { MayServe self.old.activity (activity.Sleeping part) }
+        requires opened { is_open self.old.activity self.old.closing self.old.connection.back ≡ true }
+        ensures goes { (site : Site) → GoesOn (display site) (work_of self.old) (mapped Slept (sleeping part self.old.links.items)) result.access result.said (stand_of site self.new) }
         ensures made { Makes W.makes words.old result.access words.new }
+        ensures stays { AccessIn (held_of self.old) result.access }
+        ensures same { Same self.old self.new }
     {
-        let turn = self.link.sleep_step(words);
+        let turn = self.links[part as usize].sleep_step(words);
         let access = turn.access;
         let Some(quiet) = turn.done else {
-            self.activity = Activity::Sleeping;
+            self.activity = Activity::Sleeping(part);
             return Step { access, said: None };
         };
-        self.round = if quiet { Round::Idles } else { Round::Looks };
+        if !quiet {
+            self.round = Round::Looks(0, false);
+            self.activity = Activity::Between;
+            return Step { access, said: None };
+        }
+        let following = part + 1;
+        if (following as usize) < self.links.len() {
+            self.activity = Activity::Sleeping(following);
+            return Step { access, said: None };
+        }
+        self.round = Round::Idles;
         self.activity = Activity::Between;
         Step { access, said: None }
     }
 
-    /// Makes the next step: at most one access, and what is said with it. A step with neither is idle; it comes exactly
-    /// where the order of work has nothing left.
-    pub fn step<W: Words>(&mut self, words: &mut W) -> Step
-        requires { MayStep (W.may words.old) display (stand_of self.old) }
-        ensures steps { Steps display (stand_of self.old) result.access result.said (stand_of self.new) }
+    // The one access of a Look at this part.
+    fn look<W: Words>(&mut self, words: &mut W, part: u8, served: bool) -> Step
+        requires between { self.old.activity ≡ activity.Between }
+        requires opened { is_open self.old.activity self.old.closing self.old.connection.back ≡ true }
+        requires hand { self.old.hand ≡ None }
+        requires round { self.old.round ≡ round.Looks part served }
+        requires may { MayGo (W.may words.old) (look_from (slice_get self.old.links.items part)) }
+        ensures goes { (site : Site) → site.parts ≡ parts_of self.old → GoesOn (display site) (work_of self.old) (mapped Saw (look_from (slice_get self.old.links.items part))) result.access result.said (stand_of site self.new) }
         ensures made { Makes W.makes words.old result.access words.new }
+        ensures stays { AccessIn (held_of self.old) result.access }
+        ensures same { Same self.old self.new }
+    {
+        let turn = self.links[part as usize].look_step(words);
+        let access = turn.access;
+        let Some(looked) = turn.done else {
+            unreachable!();
+        };
+        match looked {
+            Looked::Nothing => self.round = self.next_look(part, served),
+            Looked::Ready(requests) => {
+                self.left = requests;
+                self.at = part;
+                self.round = self.next_look(part, true);
+            }
+            Looked::Overrun(prod, rsp) => self.kept = Some(Reason::Overrun(prod, rsp)),
+        }
+        Step { access, said: None }
+    }
+
+    // The place in the round after a Look at this part.
+    fn next_look(&self, part: u8, served: bool) -> Round
+        requires { part < length self.now.links.items }
+        ensures exact { result ≡ next_look (parts_of self.now) part served }
+        ensures within { part_in result < length self.now.links.items }
+    {
+        if (part as usize) + 1 < self.links.len() {
+            return Round::Looks(part + 1, served);
+        }
+        if served {
+            Round::Looks(0, false)
+        } else {
+            Round::Sleeps
+        }
+    }
+
+    /// Makes the next step: at most one access, and what is said with it. A step with neither is idle; it comes exactly
+    /// where the order of work has nothing left. An access to a cell lies in the frame of a page that the display holds
+    /// before the step, and one that may write in a page that is held for writing.
+    pub fn step<W: Words>(&mut self, words: &mut W) -> Step
+        requires { MayStep (W.may words.old) (display (site_of (W.frames_of words.old) (W.grants_of words.old) self.old)) (stand_of (site_of (W.frames_of words.old) (W.grants_of words.old) self.old) self.old) }
+        ensures steps { Steps (display (site_of (W.frames_of words.old) (W.grants_of words.old) self.old)) (stand_of (site_of (W.frames_of words.old) (W.grants_of words.old) self.old) self.old) result.access result.said (stand_of (site_of (W.frames_of words.old) (W.grants_of words.old) self.old) self.new) }
+        ensures made { Makes W.makes words.old result.access words.new }
+        ensures stays { AccessIn (held_of self.old) result.access }
+        ensures dom { dom_of self.new ≡ dom_of self.old }
+        ensures parts { parts_of self.new ≡ parts_of self.old }
     {
         match self.activity {
+            Activity::Between => self.begin(words),
+            Activity::Connecting(part) => self.connect(words, part),
+            Activity::Leaving(end) => self.leave(words, end),
             Activity::Taking => self.take(words),
             Activity::Answering => self.answer(words),
-            Activity::Sleeping => self.sleep(words),
-            Activity::Between => self.begin(words),
+            Activity::Sleeping(part) => self.sleep(words, part),
         }
     }
 
     // The first step of what comes next between two activities.
     fn begin<W: Words>(&mut self, words: &mut W) -> Step
-        requires may { MayChoose (W.may words.old) (choice (work_of self.old)) }
-        requires between { is_between self.old.activity ≡ true }
-        ensures steps { Steps display (Between (work_of self.old)) result.access result.said (stand_of self.new) }
+        requires between { self.old.activity ≡ activity.Between }
+        requires may { MayChoose (W.may words.old) (choice (site_of (W.frames_of words.old) (W.grants_of words.old) self.old) (work_of self.old)) }
+        ensures begins { Begins (site_of (W.frames_of words.old) (W.grants_of words.old) self.old) (choice (site_of (W.frames_of words.old) (W.grants_of words.old) self.old) (work_of self.old)) result.access result.said (stand_of (site_of (W.frames_of words.old) (W.grants_of words.old) self.old) self.new) }
         ensures made { Makes W.makes words.old result.access words.new }
+        ensures stays { AccessIn (held_of self.old) result.access }
+        ensures same { Same self.old self.new }
     {
-        match self.connection {
-            Connection::Open => self.serve(words),
-            Connection::Broken(reason) => {
-                self.connection = Connection::Ending;
-                self.hand = None;
-                Step {
+        if self.closing {
+            return self.enter(State::Closed);
+        }
+        if let Some(why) = self.kept {
+            return self.close(words, why);
+        }
+        match self.connection.action() {
+            Action::Connect => self.begin_connect(words),
+            Action::Close(s) => self.close(words, Reason::Asked(s)),
+            Action::Renew => self.enter(State::InitWait),
+            Action::Stay => match self.connection.back() {
+                State::Connected => self.serve(words),
+                _ => Step {
                     access: None,
-                    said: Some(Said::Closed(reason)),
-                }
-            }
-            Connection::Ending => {
-                self.connection = Connection::Over;
-                self.hand = None;
-                Step {
-                    access: None,
-                    said: Some(Said::State(State::Closed)),
-                }
-            }
-            Connection::Over => Step {
-                access: None,
-                said: None,
+                    said: None,
+                },
             },
         }
     }
 
-    // The same while the connection is open.
-    fn serve<W: Words>(&mut self, words: &mut W) -> Step
-        requires may { MayChoose (W.may words.old) (with_hand (work_of self.old) self.old.hand) }
-        requires between { is_between self.old.activity ≡ true }
-        requires open { self.old.connection ≡ Connection.Open }
-        ensures steps { Steps display (Between (work_of self.old)) result.access result.said (stand_of self.new) }
+    // The backend takes a state in which no part is connected.
+    fn enter(&mut self, s: State) -> Step
+        requires between { self.old.activity ≡ activity.Between }
+        requires apart { is_open self.old.activity self.old.closing self.old.connection.back ≡ false }
+        requires state { is_connected s ≡ false }
+        ensures access { result.access ≡ None }
+        ensures said { result.said ≡ Some (said.State s) }
+        ensures stand { (site : Site) → stand_of site self.new ≡ Between (entered (work_of self.old) s) }
+        ensures same { Same self.old self.new }
+    {
+        self.connection.moved(s);
+        self.closing = false;
+        self.hand = None;
+        Step {
+            access: None,
+            said: Some(Said::State(s)),
+        }
+    }
+
+    // The first step of a Close.
+    fn close<W: Words>(&mut self, words: &mut W, why: Reason) -> Step
+        requires between { self.old.activity ≡ activity.Between }
+        requires may { MayChoose (W.may words.old) (close (work_of self.old) why) }
+        ensures begins { (site : Site) → Begins site (close (work_of self.old) why) result.access result.said (stand_of site self.new) }
         ensures made { Makes W.makes words.old result.access words.new }
+        ensures stays { (pages : List Hold) → AccessIn pages result.access }
+        ensures same { Same self.old self.new }
+    {
+        let end = Ending::Shut(why);
+        self.activity = Activity::Leaving(end);
+        self.leave(words, end)
+    }
+
+    // The first step of a Connect.
+    fn begin_connect<W: Words>(&mut self, words: &mut W) -> Step
+        requires between { self.old.activity ≡ activity.Between }
+        requires closing { self.old.closing ≡ false }
+        requires action { action_of self.old.connection ≡ action.Connect }
+        requires may { MayChoose (W.may words.old) (with_action (site_of (W.frames_of words.old) (W.grants_of words.old) self.old) (work_of self.old) action.Connect) }
+        ensures begins { Begins (site_of (W.frames_of words.old) (W.grants_of words.old) self.old) (with_action (site_of (W.frames_of words.old) (W.grants_of words.old) self.old) (work_of self.old) action.Connect) result.access result.said (stand_of (site_of (W.frames_of words.old) (W.grants_of words.old) self.old) self.new) }
+        ensures made { Makes W.makes words.old result.access words.new }
+        ensures stays { AccessIn (held_of self.old) result.access }
+        ensures same { Same self.old self.new }
+    {
+        self.connection.began();
+        self.read = self.seen;
+        if let Some(why) = fault_among(&self.read, self.links.len() as u8) {
+            let end = Ending::Shut(why);
+            self.activity = Activity::Leaving(end);
+            let said = self.shut(end);
+            return Step {
+                access: None,
+                said: Some(said),
+            };
+        }
+        self.activity = Activity::Connecting(0);
+        self.connect(words, 0)
+    }
+
+    // The first step of what comes next while all parts are connected.
+    fn serve<W: Words>(&mut self, words: &mut W) -> Step
+        requires between { self.old.activity ≡ activity.Between }
+        requires opened { is_open self.old.activity self.old.closing self.old.connection.back ≡ true }
+        requires may { MayChoose (W.may words.old) (with_hand (work_of self.old) (hand_of self.old.hand self.old.at)) }
+        ensures begins { Begins (site_of (W.frames_of words.old) (W.grants_of words.old) self.old) (with_hand (work_of self.old) (hand_of self.old.hand self.old.at)) result.access result.said (stand_of (site_of (W.frames_of words.old) (W.grants_of words.old) self.old) self.new) }
+        ensures made { Makes W.makes words.old result.access words.new }
+        ensures stays { AccessIn (held_of self.old) result.access }
+        ensures same { Same self.old self.new }
     {
         if self.hand.is_some() {
             return self.answer(words);
@@ -253,10 +623,10 @@ impl Display {
             return self.take(words);
         }
         match self.round {
-            Round::Looks => self.look(words),
-            Round::Sleeps => self.sleep(words),
+            Round::Looks(part, served) => self.look(words, part, served),
+            Round::Sleeps => self.sleep(words, 0),
             Round::Idles => {
-                self.round = Round::Looks;
+                self.round = Round::Looks(0, false);
                 Step {
                     access: None,
                     said: None,
@@ -265,9 +635,11 @@ impl Display {
         }
     }
 
-    // Whether an open connection has something to be done.
+    // Whether there is something to be done while all parts are connected.
     fn is_busy(&self) -> bool
-        ensures { result ≡ not (rests_next (with_hand (work_of self.now) self.now.hand)) }
+        requires between { self.now.activity ≡ activity.Between }
+        requires opened { is_open self.now.activity self.now.closing self.now.connection.back ≡ true }
+        ensures { result ≡ not (rests_next (with_hand (work_of self.now) (hand_of self.now.hand self.now.at))) }
     {
         if self.hand.is_some() {
             return true;
@@ -276,22 +648,39 @@ impl Display {
             return true;
         }
         match self.round {
-            Round::Looks | Round::Sleeps => true,
+            Round::Looks(part, served) => true,
+            Round::Sleeps => true,
             Round::Idles => false,
+        }
+    }
+
+    // Whether something is to be done between two activities.
+    fn chooses(&self) -> bool
+        requires { self.now.activity ≡ activity.Between }
+        ensures { (site : Site) → result ≡ not (rests_next (choice site (work_of self.now))) }
+    {
+        if self.closing {
+            return true;
+        }
+        if self.kept.is_some() {
+            return true;
+        }
+        match self.connection.action() {
+            Action::Stay => match self.connection.back() {
+                State::Connected => self.is_busy(),
+                _ => false,
+            },
+            _ => true,
         }
     }
 
     /// Whether the next step isn't idle.
     pub fn due(&self) -> bool
-        ensures { result ≡ not (at_rest display (stand_of self.now)) }
+        ensures { (site : Site) → site.parts ≡ parts_of self.now → result ≡ not (at_rest (display site) (stand_of site self.now)) }
     {
         match self.activity {
-            Activity::Taking | Activity::Answering | Activity::Sleeping => true,
-            Activity::Between => match self.connection {
-                Connection::Open => self.is_busy(),
-                Connection::Broken(_) | Connection::Ending => true,
-                Connection::Over => false,
-            },
+            Activity::Between => self.chooses(),
+            _ => true,
         }
     }
 }

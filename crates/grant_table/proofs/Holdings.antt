@@ -1,67 +1,18 @@
--- What a device holds after the accesses of a map.
-use Rattle.std.proofs.Common.{◌≡◌, ℕ, ◌+◌, ◌==◌, ◌&&◌, Bool, true, false, not, cond, nat_lt, List, [], ◌∷◌, ◌++◌, Option, Some, None, is_some, Result, Ok, Err, refl, sym, ◌∙◌, ap, arith}
+-- What a device holds along a map and after an unmap.
+use Rattle.std.proofs.Common.{◌≡◌, inl, inr, ℕ, ◌+◌, ◌==◌, ◌&&◌, ◌<◌, ◌≤◌, Bool, true, false, not, cond, nat_lt, List, [], ◌∷◌, ◌++◌, Option, Some, None, is_some, Result, Ok, Err, refl, sym, ◌∙◌, ap, subst, arith}
 use Rattle.std.proofs.lemmas.Bool.Decides.{nat_tests}
-use Rattle.pv_words.specs.declared.place.Place.TheVariants.{Cell, Grant}
-use Rattle.pv_words.specs.declared.place.Half.TheVariants.{Flags, FrameNo}
-use Rattle.pv_words.specs.declared.access.Access.{Access}
-use Rattle.pv_words.specs.declared.access.Access.TheVariants as access
 use Rattle.pv_words.specs.declared.grant.Hold.{Hold}
 use Rattle.pv_words.specs.declared.grant.Mode.{Mode}
 use Rattle.pv_words.specs.declared.grant.Mode.TheVariants.{Read, Write}
 use Rattle.pv_words.specs.declared.grant.GrantRefusal.{GrantRefusal}
-use Rattle.pv_words.specs.declared.grant.GrantRefusal.TheVariants.{NoEntry, Moved, BadFrame}
-use Rattle.pv_words.specs.Along.{after}
-use Rattle.pv_words.specs.Held.{Begun, Holds, holding, in_use, permits, begins, unheld}
-use Rattle.pv_words.specs.Held as pv
-use Rattle.pv_words.specs.Plan.{Finished, Load, Swap, Clear, wanted, seen_by}
-use Rattle.grant_table.specs.Flags.{flags_place, frame_place, refusal_of}
-use Rattle.grant_table.specs.Mapping.{hold_of, undo_plan, frame_plan, with_flags, flags_plan}
-use Rattle.grant_table.specs.Laws.{HoldsExactly, Runs, with_result}
+use Rattle.pv_words.specs.declared.grant.GrantRefusal.TheVariants.{NoEntry, NotPermitted, OtherDomain, ReadOnly, InUse, Moved}
+use Rattle.pv_words.specs.Held.{Has, Holds, IsProper, MarksPage, holding, holds_of, in_use, permits, begins, exchanged, framed, unheld, unmissed}
+use Rattle.pv_words.specs.Plan.{Plan, Finished, FitsFrom}
+use Rattle.grant_table.specs.Flags.{refusal_of, denies, forbids, has, is_foreign, used}
+use Rattle.grant_table.specs.Mapping.{hold_of, undo_plan, frame_plan, with_flags, with_seen, flags_plan, map_plan, unmap_want}
+use Rattle.grant_table.specs.Mapping as map
+use Rattle.grant_table.specs.Laws.{HoldsExactly, UnmapsExactly, IsCause, IsResult, with_result}
 use Rattle.grant_table.proofs.Outcomes.{refuses_exactly}
-
--- what an access that was wanted makes of what is held
-module _ (frames : ℕ → ℕ) (dom gref : ℕ) (h : Holds) where
-  load_flags : (a : Access) → wanted a ≡ Load (flags_place dom gref) → holding frames h a ≡ record { held = h.held; begun = None }
-  load_flags (access.Load (Grant d g Flags) v) e = refl
-  load_flags (access.Load (Grant d g FrameNo) v) e = let wrong : ⊥ = cc in absurd wrong
-  load_flags (access.Load (Cell d f w) v) e = let wrong : ⊥ = cc in absurd wrong
-  load_flags (access.Store at v) e = let wrong : ⊥ = cc in absurd wrong
-  load_flags (access.Cas at old new seen) e = let wrong : ⊥ = cc in absurd wrong
-  load_flags (access.Clear at mask seen) e = let wrong : ⊥ = cc in absurd wrong
-
-  load_frame : (a : Access) → wanted a ≡ Load (frame_place dom gref) → holding frames h a ≡ record { held = pv.with_frame frames h dom gref (seen_by a) h.begun; begun = None }
-  load_frame (access.Load (Grant d g Flags) v) e = let wrong : ⊥ = cc in absurd wrong
-  load_frame (access.Load (Grant d g FrameNo) v) e =
-      let same_d : d ≡ record { 0 = dom } = cc in
-      let same_g : g ≡ record { 0 = gref } = cc in
-      ap (λ x. record { held = pv.with_frame frames h x.0 g.0 v h.begun; begun = None }) same_d ∙ ap (λ x. record { held = pv.with_frame frames h dom x.0 v h.begun; begun = None }) same_g
-  load_frame (access.Load (Cell d f w) v) e = let wrong : ⊥ = cc in absurd wrong
-  load_frame (access.Store at v) e = let wrong : ⊥ = cc in absurd wrong
-  load_frame (access.Cas at old new seen) e = let wrong : ⊥ = cc in absurd wrong
-  load_frame (access.Clear at mask seen) e = let wrong : ⊥ = cc in absurd wrong
-
-  swap_flags : (a : Access) (old new : ℕ) → wanted a ≡ Swap (flags_place dom gref) old new → holding frames h a ≡ record { held = h.held; begun = begins gref old new (seen_by a) }
-  swap_flags (access.Cas (Grant d g Flags) o n seen) old new e =
-      let same_g : g ≡ record { 0 = gref } = cc in
-      let same_o : o ≡ old = cc in
-      let same_n : n ≡ new = cc in
-      ap (λ x. record { held = h.held; begun = begins x.0 o n seen }) same_g ∙ (ap (λ x. record { held = h.held; begun = begins gref x n seen }) same_o ∙ ap (λ x. record { held = h.held; begun = begins gref old x seen }) same_n)
-  swap_flags (access.Cas (Grant d g FrameNo) o n seen) old new e = let wrong : ⊥ = cc in absurd wrong
-  swap_flags (access.Cas (Cell d f w) o n seen) old new e = let wrong : ⊥ = cc in absurd wrong
-  swap_flags (access.Load at v) old new e = let wrong : ⊥ = cc in absurd wrong
-  swap_flags (access.Store at v) old new e = let wrong : ⊥ = cc in absurd wrong
-  swap_flags (access.Clear at mask seen) old new e = let wrong : ⊥ = cc in absurd wrong
-
-  clear_flags : (a : Access) (bits : ℕ) → wanted a ≡ Clear (flags_place dom gref) bits → holding frames h a ≡ record { held = unheld gref bits h.held; begun = None }
-  clear_flags (access.Clear (Grant d g Flags) mask seen) bits e =
-      let same_g : g ≡ record { 0 = gref } = cc in
-      let same_m : mask ≡ bits = cc in
-      ap (λ x. record { held = unheld x.0 mask h.held; begun = None }) same_g ∙ ap (λ x. record { held = unheld gref x h.held; begun = None }) same_m
-  clear_flags (access.Clear (Grant d g FrameNo) mask seen) bits e = let wrong : ⊥ = cc in absurd wrong
-  clear_flags (access.Clear (Cell d f w) mask seen) bits e = let wrong : ⊥ = cc in absurd wrong
-  clear_flags (access.Load at v) bits e = let wrong : ⊥ = cc in absurd wrong
-  clear_flags (access.Store at v) bits e = let wrong : ⊥ = cc in absurd wrong
-  clear_flags (access.Cas at old new seen) bits e = let wrong : ⊥ = cc in absurd wrong
 
 -- the exchange of a map begins a mapping where it saw the word, and else none
 begins_none : (gref old new seen : ℕ) → (seen == old) ≡ false → begins gref old new seen ≡ None
@@ -80,54 +31,79 @@ begins_mode gref word seen Write same ok =
     let is : (word + 24 == word + 24) ≡ true = grind (arith, nat_tests) in
     begins_is gref word (word + 24) seen false true (rw same (rw apart refl)) (rw same (rw is ok))
 
-permitted : (b : Bool) → false ≡ not b → b ≡ true
+pub permitted : (b : Bool) → false ≡ not b → b ≡ true
 permitted true e = refl
 permitted false e = e
 
-module _ (frames : ℕ → ℕ) (dom gref : ℕ) (mode : Mode) (held : List Hold) (lacks : unheld gref (in_use mode) held ≡ held) where
-  -- a plan that is over with this result leaves what is held
-  over : (made : List Access) (x r : Result Hold GrantRefusal) → Runs (Finished x) made r → after (holding frames) (record { held = with_result held x; begun = None }) made ≡ record { held = with_result held r; begun = None }
-  over [] x r e = ap (λ y. record { held = with_result held y; begun = None }) e
-  over (a ∷ more) x r h = absurd h
+some_same : {A : Type 0} (x y : A) → Some x ≡ Some y → x ≡ y
+some_same x y e = cc
 
-  undone : (made : List Access) (frame : ℕ) (r : Result Hold GrantRefusal) → Runs (undo_plan dom gref mode frame) made r → after (holding frames) (record { held = held; begun = None }) made ≡ record { held = with_result held r; begun = None }
-  undone [] frame r h = absurd h
-  undone (a ∷ more) frame r h =
-      let step = clear_flags frames dom gref (record { held = held; begun = None }) a (in_use mode) h.0 ∙ ap (λ x. record { held = x; begun = None }) lacks in
-      ap (λ s. after (holding frames) s more) step ∙ over more (Err (BadFrame frame)) r h.1
+-- a refusal by the flags' word shows its cause
+pub caused : (frames grants gref word : ℕ) (mode : Mode) (d f w u : Bool) (r : GrantRefusal) → denies word ≡ d → is_foreign word ≡ f → forbids word mode ≡ w → has word used ≡ u → cond d (Some (NotPermitted word)) (cond f (Some (OtherDomain word)) (cond w (Some (ReadOnly word)) (cond u (Some (InUse word)) None))) ≡ Some r → IsCause frames grants gref mode r
+caused frames grants gref word mode true f w u r a b c e h = subst (λ x. IsCause frames grants gref mode x) (some_same (NotPermitted word) r h) a
+caused frames grants gref word mode false true w u r a b c e h = subst (λ x. IsCause frames grants gref mode x) (some_same (OtherDomain word) r h) (a, b)
+caused frames grants gref word mode false false true u r a b c e h = subst (λ x. IsCause frames grants gref mode x) (some_same (ReadOnly word) r h) (a, b, c)
+caused frames grants gref word mode false false false true r a b c e h = subst (λ x. IsCause frames grants gref mode x) (some_same (InUse word) r h) (a, b, c, e)
+caused frames grants gref word mode false false false false r a b c e h = let wrong : ⊥ = cc in absurd wrong
 
-  framed : (b : Bool) (made : List Access) (frame : ℕ) (r : Result Hold GrantRefusal) → Runs (cond b (Finished (Ok (hold_of dom gref mode frame))) (undo_plan dom gref mode frame)) made r → after (holding frames) (record { held = cond b (held ++ hold_of dom gref mode frame ∷ []) held; begun = None }) made ≡ record { held = with_result held r; begun = None }
-  framed true made frame r h = over made (Ok (hold_of dom gref mode frame)) r h
-  framed false made frame r h = undone made frame r h
+-- a mapping taken back is none any more
+taken_back : (gref : ℕ) (mode : Mode) (same bits : Bool) → (gref == gref) ≡ same → (in_use mode == in_use mode) ≡ bits → same ≡ true → bits ≡ true → unmissed gref (in_use mode) (record { gref = gref; mode = mode } ∷ []) ≡ []
+taken_back gref mode same bits s b st bt = rw (s ∙ st) (rw (b ∙ bt) refl)
 
-  named : (made : List Access) (r : Result Hold GrantRefusal) → Runs (frame_plan (frames dom) dom gref mode) made r → after (holding frames) (record { held = held; begun = Some (record { gref = gref; mode = mode }) }) made ≡ record { held = with_result held r; begun = None }
-  named [] r h = absurd h
-  named (a ∷ more) r h =
-      let f = seen_by a in
+module _ (frames grants : ℕ → ℕ) (dom gref : ℕ) (mode : Mode) (held : List Hold) (known : gref < grants dom) where
+  abbrev Ends_so : Holds → Result Hold GrantRefusal → Type 0
+  Ends_so h r = (h ≡ holds_of (with_result held r)) × IsResult (frames dom) (grants dom) dom gref mode r
+
+  abbrev Fit : Holds → Plan (Result Hold GrantRefusal) → Type 0
+  Fit h p = FitsFrom (IsProper frames grants dom) (holding frames) Ends_so h p
+
+  undone : (frame : ℕ) → frames dom ≤ frame → Fit (record { held = held; begun = None; missed = record { gref = gref; mode = mode } ∷ [] }) (undo_plan dom gref mode frame)
+  undone frame out =
       let same : (gref == gref) ≡ true = grind (arith, nat_tests) in
-      let step = load_frame frames dom gref (record { held = held; begun = Some (record { gref = gref; mode = mode }) }) a h.0 ∙ ap (λ t. record { held = cond (t && nat_lt f (frames dom)) (held ++ hold_of dom gref mode f ∷ []) held; begun = None }) same in
-      ap (λ s. after (holding frames) s more) step ∙ framed (nat_lt f (frames dom)) more f r h.1
+      let bits : (in_use mode == in_use mode) ≡ true = grind (arith, nat_tests) in
+      ((known, ((refl, inr (inl (refl, refl))), inl (refl, refl))), λ v. (ap (λ m. record { held = held; begun = None; missed = m }) (taken_back gref mode true true same bits refl refl), out))
 
-  swapped : (b : Bool) (made : List Access) (word seen : ℕ) (r : Result Hold GrantRefusal) → (seen == word) ≡ b → permits word mode ≡ true → Runs (cond b (frame_plan (frames dom) dom gref mode) (Finished (Err (Moved word seen)))) made r → after (holding frames) (record { held = held; begun = begins gref word (word + in_use mode) seen }) made ≡ record { held = with_result held r; begun = None }
-  swapped true made word seen r e ok h =
-      ap (λ x. after (holding frames) (record { held = held; begun = x }) made) (begins_mode gref word seen mode e ok) ∙ named made r h
-  swapped false made word seen r e ok h =
-      ap (λ x. after (holding frames) (record { held = held; begun = x }) made) (begins_none gref word (word + in_use mode) seen e) ∙ over made (Err (Moved word seen)) r h
+  named_so : (b : Bool) (f : ℕ) → nat_lt f (frames dom) ≡ b → Fit (cond b (record { held = held ++ hold_of dom gref mode f ∷ []; begun = None; missed = [] }) (record { held = held; begun = None; missed = record { gref = gref; mode = mode } ∷ [] })) (cond b (Finished (Ok (hold_of dom gref mode f))) (undo_plan dom gref mode f))
+  named_so true f e = (refl, record { dom_is = refl; gref_is = refl; mode_is = refl; frame_in = grind (arith, nat_tests); gref_in = known })
+  named_so false f e = undone f (grind (arith, nat_tests))
 
-  asked : (o : Option GrantRefusal) (made : List Access) (word : ℕ) (r : Result Hold GrantRefusal) → refusal_of word mode ≡ o → Runs (with_flags (frames dom) dom gref mode word o) made r → after (holding frames) (record { held = held; begun = None }) made ≡ record { held = with_result held r; begun = None }
-  asked (Some x) made word r e h = over made (Err x) r h
-  asked None [] word r e h = absurd h
-  asked None (a ∷ more) word r e h =
+  named : (f : ℕ) → Fit (framed frames (record { held = held; begun = Some (record { gref = gref; mode = mode }); missed = [] }) dom gref f (Some (record { gref = gref; mode = mode }))) (map.with_frame (frames dom) dom gref mode f)
+  named f =
+      let same : (gref == gref) ≡ true = grind (arith, nat_tests) in
+      subst (λ t. Fit (cond (t && nat_lt f (frames dom)) (record { held = held ++ hold_of dom gref mode f ∷ []; begun = None; missed = [] }) (record { held = held; begun = None; missed = record { gref = gref; mode = mode } ∷ [] })) (map.with_frame (frames dom) dom gref mode f)) (sym same) (named_so (nat_lt f (frames dom)) f refl)
+
+  swapped : (b : Bool) (word seen : ℕ) → (seen == word) ≡ b → permits word mode ≡ true → Fit (exchanged (holds_of held) (begins gref word (word + in_use mode) seen)) (cond b (frame_plan (frames dom) dom gref mode) (Finished (Err (Moved word seen))))
+  swapped true word seen e ok =
+      subst (λ x. Fit (exchanged (holds_of held) x) (frame_plan (frames dom) dom gref mode)) (sym (begins_mode gref word seen mode e ok)) ((known, (refl, tt)), λ f. named f)
+  swapped false word seen e ok =
+      subst (λ x. Fit (exchanged (holds_of held) x) (Finished (Err (Moved word seen)))) (sym (begins_none gref word (word + in_use mode) seen e)) (refl, (ok, e))
+
+  asked : (o : Option GrantRefusal) (word : ℕ) → refusal_of word mode ≡ o → Fit (holds_of held) (with_flags (frames dom) dom gref mode word o)
+  asked (Some x) word e = (refl, caused (frames dom) (grants dom) gref word mode (denies word) (is_foreign word) (forbids word mode) (has word used) x refl refl refl refl e)
+  asked None word e =
       let ok = permitted (permits word mode) (sym (ap is_some e) ∙ refuses_exactly word mode) in
-      ap (λ s. after (holding frames) s more) (swap_flags frames dom gref (record { held = held; begun = None }) a word (word + in_use mode) h.0)
-      ∙ swapped (seen_by a == word) more word (seen_by a) r refl ok h.1
+      ((known, ((refl, (mode, refl, ok)), tt)), λ seen. swapped (seen == word) word seen refl ok)
 
-  pub entered : (b : Bool) (made : List Access) (r : Result Hold GrantRefusal) → Runs (cond b (flags_plan (frames dom) dom gref mode) (Finished (Err (NoEntry gref)))) made r → after (holding frames) (record { held = held; begun = None }) made ≡ record { held = with_result held r; begun = None }
-  entered false made r h = over made (Err (NoEntry gref)) r h
-  entered true [] r h = absurd h
-  entered true (a ∷ more) r h =
-      ap (λ s. after (holding frames) s more) (load_flags frames dom gref (record { held = held; begun = None }) a h.0)
-      ∙ asked (refusal_of (seen_by a) mode) more (seen_by a) r refl h.1
+  known_maps : Fit (holds_of held) (flags_plan (frames dom) dom gref mode)
+  known_maps = ((known, (refl, tt)), λ word. asked (refusal_of word mode) word refl)
+
+entered : (frames grants : ℕ → ℕ) (dom gref : ℕ) (mode : Mode) (held : List Hold) (b : Bool) → nat_lt gref (grants dom) ≡ b → FitsFrom (IsProper frames grants dom) (holding frames) (λ h r. (h ≡ holds_of (with_result held r)) × IsResult (frames dom) (grants dom) dom gref mode r) (holds_of held) (cond b (flags_plan (frames dom) dom gref mode) (Finished (Err (NoEntry gref))))
+entered frames grants dom gref mode held true e = known_maps frames grants dom gref mode held (grind (arith, nat_tests))
+entered frames grants dom gref mode held false e = (refl, (refl, grind (arith, nat_tests)))
 
 pub holds_exactly : HoldsExactly
-holds_exactly frames grants dom gref mode held made r lacks runs = entered frames dom gref mode held lacks (nat_lt gref grants) made r runs
+holds_exactly frames grants dom gref mode held = entered frames grants dom gref mode held (nat_lt gref (grants dom)) refl
+
+-- a page that is held is mapped
+marked : (h : Hold) (held : List Hold) → Has (λ k. k ≡ h) held → Has (MarksPage h.gref.0 (in_use h.mode)) held
+marked h [] at = absurd at
+marked h (k ∷ ks) (inl e) = inl (ap (λ (x : Hold). x.gref.0) e, ap (λ (x : Hold). in_use x.mode) e)
+marked h (k ∷ ks) (inr at) = inr (marked h ks at)
+
+pub unmaps_exactly : UnmapsExactly
+unmaps_exactly frames grants dom h held seen is known at =
+    let same : (h.gref.0 == h.gref.0) ≡ true = grind (arith, nat_tests) in
+    let bits : (in_use h.mode == in_use h.mode) ≡ true = grind (arith, nat_tests) in (
+      (subst (λ d. h.gref.0 < grants d) (sym is) known, ((is, inl (marked h held at)), ((refl, refl), at))),
+      ap (λ t. cond (t && (in_use h.mode == in_use h.mode)) (holds_of (unheld h held)) (holds_of held)) same ∙ ap (λ t. cond t (holds_of (unheld h held)) (holds_of held)) bits,
+    )

@@ -1,18 +1,17 @@
 -- What maps and ends come to.
-use Rattle.std.specs.Prelude.{◌≡◌, ℕ, ◌==◌, ◌&&◌, Bool, true, false, List, [], ◌∷◌, ◌++◌, Option, Some, None, Result, Ok, Err, is_some, not, nat_lt, if◌then◌else◌}
-use Rattle.pv_words.specs.declared.access.Access.{Access}
+use Rattle.std.specs.Prelude.{◌≡◌, ℕ, ◌==◌, ◌&&◌, ◌<◌, ◌≤◌, Bool, true, false, List, [], ◌∷◌, ◌++◌, Option, Some, None, Result, Ok, Err, is_some, not, nat_lt, if◌then◌else◌}
 use Rattle.pv_words.specs.declared.grant.Hold.{Hold}
 use Rattle.pv_words.specs.declared.grant.Mode.{Mode}
 use Rattle.pv_words.specs.declared.grant.Mode.TheVariants.{Read, Write}
 use Rattle.pv_words.specs.declared.grant.GrantRefusal.{GrantRefusal}
-use Rattle.pv_words.specs.Along.{after}
-use Rattle.pv_words.specs.Held.{holding, in_use, permits, unheld}
+use Rattle.pv_words.specs.declared.grant.GrantRefusal.TheVariants as refusal
+use Rattle.pv_words.specs.Held.{Has, IsProper, holding, holds_of, permits, unheld}
 use Rattle.pv_words.specs.Memory.{without}
-use Rattle.pv_words.specs.Plan.{Plan, Finished, Make, wanted, seen_by}
+use Rattle.pv_words.specs.Plan.{Plan, Finished, Make, Ends, FitsFrom, found}
 use Rattle.grant_table.specs.declared.owner.Owned.{Owned}
 use Rattle.grant_table.specs.declared.owner.Owned.TheVariants.{Opened, AlreadyOpen, Ended, Busy, Moved}
-use Rattle.grant_table.specs.Flags.{refusal_of, has, used}
-use Rattle.grant_table.specs.Mapping.{map_plan, hold_of}
+use Rattle.grant_table.specs.Flags.{refusal_of, denies, forbids, has, is_foreign, used}
+use Rattle.grant_table.specs.Mapping.{map_plan, hold_of, unmap_want}
 use Rattle.grant_table.specs.Owning.{granting, ended_at}
 
 -- a word is refused for some reason exactly where it doesn't permit the mode
@@ -45,26 +44,49 @@ MapsExactly =
     → won (outcome (map_plan frames grants dom gref mode) (word ∷ seen ∷ frame ∷ last ∷ []))
     ≡ (if succeeds frames grants gref mode word seen frame then Some (hold_of dom gref mode frame) else None)
 
--- these accesses are a plan's, from the first to the last, and it comes to this result
-abbrev pub Runs : {A : Type 0} → Plan A → List Access → A → Type 0
-Runs (Finished x) [] y = x ≡ y
-Runs (Finished x) (a ∷ more) y = ⊥
-Runs (Make want note next) [] y = ⊥
-Runs (Make want note next) (a ∷ more) y = (wanted a ≡ want) × Runs (next (seen_by a)) more y
-
 -- the list with the hold of a map that succeeded
 abbrev pub with_result : List Hold → Result Hold GrantRefusal → List Hold
 with_result held (Ok h) = held ++ h ∷ []
 with_result held (Err r) = held
 
--- By a map a device that holds no page yet by this entry for this mode holds one page more where it succeeds, and what
--- it held before where it is refused, also where the mapping was begun and taken back.
+-- a page of the domain's, held by this reference for this mode
+pub record IsHold (frames grants dom gref : ℕ) (mode : Mode) (h : Hold) : Type 0 where
+  pub dom_is : h.dom.0 ≡ dom
+  pub gref_is : h.gref.0 ≡ gref
+  pub mode_is : h.mode ≡ mode
+  pub frame_in : h.frame.0 < frames
+  pub gref_in : gref < grants
+
+-- why a map of this reference for this mode was refused, as the refusal's own words show
+abbrev pub IsCause : (frames grants gref : ℕ) → Mode → GrantRefusal → Type 0
+IsCause frames grants gref mode (refusal.NoEntry g) = (g ≡ gref) × (grants ≤ gref)
+IsCause frames grants gref mode (refusal.NotPermitted w) = denies w ≡ true
+IsCause frames grants gref mode (refusal.OtherDomain w) = (denies w ≡ false) × (is_foreign w ≡ true)
+IsCause frames grants gref mode (refusal.ReadOnly w) = (denies w ≡ false) × (is_foreign w ≡ false) × (forbids w mode ≡ true)
+IsCause frames grants gref mode (refusal.InUse w) = (denies w ≡ false) × (is_foreign w ≡ false) × (forbids w mode ≡ false) × (has w used ≡ true)
+IsCause frames grants gref mode (refusal.Moved w s) = (permits w mode ≡ true) × ((s == w) ≡ false)
+IsCause frames grants gref mode (refusal.BadFrame f) = frames ≤ f
+IsCause frames grants gref mode refusal.NoNext = ⊥
+
+abbrev pub IsResult : (frames grants dom gref : ℕ) → Mode → Result Hold GrantRefusal → Type 0
+IsResult frames grants dom gref mode (Ok h) = IsHold frames grants dom gref mode h
+IsResult frames grants dom gref mode (Err r) = IsCause frames grants gref mode r
+
+-- By a map, whatever words it finds, a device that holds some pages holds one page more where it succeeds, and just those
+-- where it is refused, also where the mapping was begun and taken back. Each access is in range and stays in the grant
+-- entries of the domain. A page is one of the domain's by the reference that was asked for, and a refusal shows its cause.
 abbrev pub HoldsExactly : Type 0
 HoldsExactly =
-    (frames : ℕ → ℕ) (grants dom gref : ℕ) (mode : Mode) (held : List Hold) (made : List Access) (r : Result Hold GrantRefusal)
-    → unheld gref (in_use mode) held ≡ held
-    → Runs (map_plan (frames dom) grants dom gref mode) made r
-    → after (holding frames) (record { held = held; begun = None }) made ≡ record { held = with_result held r; begun = None }
+    (frames grants : ℕ → ℕ) (dom gref : ℕ) (mode : Mode) (held : List Hold)
+    → FitsFrom (IsProper frames grants dom) (holding frames) (λ h r. (h ≡ holds_of (with_result held r)) × IsResult (frames dom) (grants dom) dom gref mode r)
+    (holds_of held) (map_plan (frames dom) (grants dom) dom gref mode)
+
+-- By the unmap of a page that it holds, a device no longer holds that page, and holds the others.
+abbrev pub UnmapsExactly : Type 0
+UnmapsExactly =
+    (frames grants : ℕ → ℕ) (dom : ℕ) (h : Hold) (held : List Hold) (seen : ℕ)
+    → h.dom.0 ≡ dom → h.gref.0 < grants dom → Has (λ k. k ≡ h) held
+    → IsProper frames grants dom (holds_of held) (unmap_want h) (Ends h) × (holding frames (holds_of held) (Ends h) (found (unmap_want h) seen) ≡ holds_of (unheld h held))
 
 -- the flags' word after the exchange of an end that loaded this word and saw the other
 abbrev pub closed : ℕ → ℕ → ℕ

@@ -24,6 +24,14 @@ map_left frames grants m = map_rest frames grants m.dom.0 m.gref.0 m.mode m.stag
 unfoldable pub dom_of : MapStep → ℕ
 dom_of m = m.dom.0
 
+-- by which reference
+unfoldable pub gref_of : MapStep → ℕ
+gref_of m = m.gref.0
+
+-- and for what
+unfoldable pub mode_of : MapStep → Mode
+mode_of m = m.mode
+
 abbrev pub is_last : MapStage → Bool
 is_last stage.Start = false
 is_last (stage.Begin flags) = false

@@ -6,8 +6,10 @@ use Rattle.pv_words.specs.declared.grant.Hold.{Hold}
 use Rattle.pv_words.specs.declared.grant.Mode.{Mode}
 use Rattle.pv_words.specs.declared.grant.GrantRefusal.{GrantRefusal}
 use Rattle.pv_words.specs.declared.grant.GrantRefusal.TheVariants.{NoEntry, Moved, BadFrame}
+use Rattle.pv_words.specs.declared.place.Half.{Half}
+use Rattle.pv_words.specs.declared.place.Place.TheVariants.{Grant}
 use Rattle.pv_words.specs.Held.{in_use}
-use Rattle.pv_words.specs.Plan.{Plan, Finished, Make, Want, Load, Swap, Clear, Plain, Begins, Frames, Undoes, Turns}
+use Rattle.pv_words.specs.Plan.{Plan, Finished, Make, Want, Load, Swap, Clear, Plain, Begins, Frames, Undoes, Turns, aim_of, wanted}
 use Rattle.grant_table.specs.Flags.{flags_place, frame_place, refusal_of}
 
 -- a hold of this frame
@@ -68,3 +70,14 @@ HoldsByAccess (Some a) result = Unit {0}
 HoldsByAccess None None = Unit {0}
 HoldsByAccess None (Some (Ok h)) = ⊥
 HoldsByAccess None (Some (Err r)) = Unit {0}
+
+-- an access goes to this entry
+abbrev pub IsAtEntry : (dom gref : ℕ) → Option Access → Type 0
+IsAtEntry dom gref None = Unit {0}
+IsAtEntry dom gref (Some a) = (half : Half) × (aim_of (wanted a) ≡ Grant (record { 0 = dom }) (record { 0 = gref }) half)
+
+-- a page that a map comes to is held by this entry and for this mode
+abbrev pub Wins : (dom gref : ℕ) → Mode → Option (Result Hold GrantRefusal) → Type 0
+Wins dom gref mode None = Unit {0}
+Wins dom gref mode (Some (Ok h)) = (h.dom.0 ≡ dom) × (h.gref.0 ≡ gref) × (h.mode ≡ mode)
+Wins dom gref mode (Some (Err r)) = Unit {0}

@@ -1,6 +1,6 @@
 //! What maps and ends come to.
 
-ghost use Rattle.grant_table.specs.Laws.{RefusesExactly, MapsExactly, HoldsExactly, EndsExactly, GrantsExactly};
+ghost use Rattle.grant_table.specs.Laws.{RefusesExactly, MapsExactly, HoldsExactly, UnmapsExactly, EndsExactly, GrantsExactly};
 
 /// A flags' word is refused for some reason exactly where it doesn't permit the mode. A map comes to a hold of the
 /// frame that it found exactly where the domain has the entry, the flags' word that it loaded permits the mode, its
@@ -10,10 +10,12 @@ pub fn maps_exactly()
     ensures held { MapsExactly }
 {}
 
-/// By the accesses of a map a device that holds no page yet by the same entry for the same mode holds one page more
-/// where the map succeeds, and what it held before where it is refused.
+/// By the accesses of a map a device holds one page more where the map succeeds, and what it held before where it is
+/// refused; each access stays in the domain's grant entries, and a refusal shows its cause. By an unmap it holds one page
+/// less.
 pub fn holds_exactly()
-    ensures { HoldsExactly }
+    ensures maps { HoldsExactly }
+    ensures unmaps { UnmapsExactly }
 {}
 
 /// An end answers Ended exactly where its exchange frees the entry, in which it saw no in-use bit, and Busy exactly

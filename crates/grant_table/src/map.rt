@@ -82,13 +82,14 @@ fn refusal_of(word: u32, mode: Mode) -> Option<GrantRefusal>
 impl MapStep {
     ghost use Rattle.pv_words.specs.Plan.{MayGo, Makes};
     ghost use Rattle.grant_table.specs.declared.map.MapStage.TheVariants as stage;
-    ghost use Rattle.grant_table.specs.Mapping.{map_plan, hold_of, Advances, HoldsByAccess};
-    ghost use Rattle.grant_table.specs.MapLeft.{map_left, dom_of, is_over};
+    ghost use Rattle.grant_table.specs.Mapping.{map_plan, hold_of, Advances, HoldsByAccess, IsAtEntry, Wins};
+    ghost use Rattle.grant_table.specs.MapLeft.{map_left, dom_of, gref_of, mode_of, is_over};
 
     /// A map of this entry of the domain's grant table, before its first access.
     pub fn new(dom: DomId, gref: GrantRef, mode: Mode) -> MapStep
         ensures whole { (frames grants : ℕ) → map_left frames grants result ≡ map_plan frames grants dom.0 gref.0 mode }
         ensures dom { dom_of result ≡ dom.0 }
+        ensures entry { (gref_of result ≡ gref.0) × (mode_of result ≡ mode) }
         ensures begins { is_over result ≡ false }
     {
         MapStep {
@@ -152,8 +153,11 @@ impl MapStep {
         ensures advances { Advances (map_left (W.frames_of words.old (dom_of self.old)) (W.grants_of words.old (dom_of self.old)) self.old) result.access result.done (map_left (W.frames_of words.old (dom_of self.old)) (W.grants_of words.old (dom_of self.old)) self.new) }
         ensures made { Makes W.makes words.old result.access words.new }
         ensures dom { dom_of self.new ≡ dom_of self.old }
+        ensures entry { (gref_of self.new ≡ gref_of self.old) × (mode_of self.new ≡ mode_of self.old) }
         ensures over { is_over self.new ≡ is_some result.done }
+        ensures stays { IsAtEntry (dom_of self.old) (gref_of self.old) result.access }
         ensures held { is_over self.old ≡ false → HoldsByAccess result.access result.done }
+        ensures won { is_over self.old ≡ false → Wins (dom_of self.old) (gref_of self.old) (mode_of self.old) result.done }
     {
         let flags = Place::Grant(self.dom, self.gref, Half::Flags);
         match self.stage {

@@ -1,4 +1,5 @@
 ghost use Rattle.std.proofs.Common.{refl};
+ghost use Rattle.std.proofs.lemmas.Bool.{true≢false};
 
 use super::*;
 use pv_words::{DomId, Frame, GrantRef, GrantRefusal, Half, Hold, Mode, Place, Words};
@@ -12,9 +13,15 @@ struct Entry {
 }
 
 impl Words for Entry {
+    ghost use Rattle.std.specs.Prelude.{true, None};
+    ghost use Rattle.pv_words.specs.Port.{no_listing};
+    ghost use Rattle.pv_words.specs.declared.access.Access.TheVariants.{Load, Store, Cas, Clear};
+
     ghost frames_of = { λ w d. 4 };
 
     ghost grants_of = { λ w d. 8 };
+
+    ghost port = { λ w. record { device = None; serves = λ dom. true; everywhere = true; listed = λ d. no_listing; told = λ at. None } };
 
     ghost may = { λ w want. Unit {0} };
 
@@ -23,6 +30,12 @@ impl Words for Entry {
     ghost keeps_frames = { λ old a new made d. refl };
 
     ghost keeps_grants = { λ old a new made d. refl };
+
+    ghost allows = { λ w want h. tt };
+
+    ghost leaves = { λ old a new made. record { device = refl; serves = λ dom. refl; everywhere = refl; listed = λ e d. absurd (true≢false e) } };
+
+    ghost tells = { λ old. elim [ Load at v ↦ λ new made. tt | Store at v ↦ λ new made. tt | Cas at from to seen ↦ λ new made. tt | Clear at mask seen ↦ λ new made. tt ] };
 
     fn load(&mut self, at: Place) -> u32 {
         match at {

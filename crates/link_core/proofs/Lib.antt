@@ -1,5 +1,9 @@
+pub mod Connects
+pub mod Holding
 pub mod Links
 pub mod MachineRun
 pub mod PlanFits
+pub mod Ports
+pub mod Stays
 pub mod Steps
 pub mod Transitions

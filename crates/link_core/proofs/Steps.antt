@@ -44,20 +44,20 @@ module _ {W O : Type 0} (r : Rules W O) where
       steps_from (During w (Make want note more)) a said new (going r w g.0) g.1.0 (ap (going r w) (sym g.1.1)) (went_leads w g.0 said new g.2)
 
   -- a step that begins an activity
-  began : (w : W) (p : Plan O) (a : Access) → r.choice w ≡ Act p → (q : Plan O) → Goes p a q → MayBegin r w (r.choice w) (Did a) × (begun r w (r.choice w) (Did a) ≡ going r w q)
-  began w (Finished o) a e q g = absurd g
-  began w (Make want note more) a e q g =
-      subst (λ (c : Order W O). MayBegin r w c (Did a) × (begun r w c (Did a) ≡ going r w q)) (sym e) (g.0, ap (going r w) (sym g.1))
+  began : (w v : W) (p : Plan O) (a : Access) → r.choice w ≡ Act v p → (q : Plan O) → Goes p a q → MayBegin r w (r.choice w) (Did a) × (begun r w (r.choice w) (Did a) ≡ going r v q)
+  began w v (Finished o) a e q g = absurd g
+  began w v (Make want note more) a e q g =
+      subst (λ (c : Order W O). MayBegin r w c (Did a) × (begun r w c (Did a) ≡ going r v q)) (sym e) (g.0, ap (going r v) (sym g.1))
 
-  pub steps_between : (w : W) (p : Plan O) (access : Option Access) (said : Option Said) (new : Stand W O) → r.choice w ≡ Act p → GoesOn r w p access said new → Steps r (Between w) access said new
-  steps_between w p None said new e g = absurd g
-  steps_between w p (Some a) said new e g =
-      let b = began w p a e g.0 g.1 in
-      steps_from (Between w) a said new (going r w g.0) b.0 b.1 (went_leads w g.0 said new g.2)
+  pub steps_between : (w v : W) (p : Plan O) (access : Option Access) (said : Option Said) (new : Stand W O) → r.choice w ≡ Act v p → GoesOn r v p access said new → Steps r (Between w) access said new
+  steps_between w v p None said new e g = absurd g
+  steps_between w v p (Some a) said new e g =
+      let b = began w v p a e g.0 g.1 in
+      steps_from (Between w) a said new (going r v g.0) b.0 b.1 (went_leads v g.0 said new g.2)
 
   -- a step that says an event alone, and one that rests
-  pub steps_said : (w : W) (o : O) (t : Said) (new : Stand W O) → r.choice w ≡ Act (Finished o) → r.said_at w o ≡ Some t → new ≡ Between (r.settled w o) → Steps r (Between w) None (Some t) new
-  steps_said w o t new e s n =
+  pub steps_said : (w v : W) (o : O) (t : Said) (new : Stand W O) → r.choice w ≡ Act v (Finished o) → r.said_at v o ≡ Some t → new ≡ Between (r.settled v o) → Steps r (Between w) None (Some t) new
+  steps_said w v o t new e s n =
       record {
         explained = (subst (λ (c : Order W O). MayBegin r w c (Spoke t)) (sym e) s, tt);
         left = n ∙ ap (λ (c : Order W O). begun r w c (Spoke t)) (sym e);

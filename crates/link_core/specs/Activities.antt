@@ -1,9 +1,13 @@
--- What a device accesses on a request ring page, activity by activity (ring.h: the words of the page and the order of
--- stores and loads). Indices are modulo 2 ^ 32; the slot in work is that of the index `rsp`.
-use Rattle.std.specs.Prelude.{ℕ, zero, suc, ◌+◌, ◌==◌, Bool, List, [], ◌∷◌, ◌++◌}
+-- What a device accesses on a request ring page and on an event page, activity by activity (ring.h: the words of the page
+-- and the order of stores and loads). Indices are modulo 2 ^ 32; the slot in work is that of the index `rsp`.
+use Rattle.std.specs.Prelude.{ℕ, zero, suc, ◌+◌, ◌==◌, Bool, List, [], ◌∷◌, ◌++◌, Option, Some, None, Result, Ok, Err}
+use Rattle.pv_words.specs.declared.grant.GrantRefusal.{GrantRefusal}
+use Rattle.pv_words.specs.declared.grant.Hold.{Hold}
+use Rattle.pv_words.specs.declared.grant.Mode.TheVariants.{Write}
 use Rattle.pv_words.specs.declared.place.Place.{Place}
 use Rattle.pv_words.specs.declared.place.Place.TheVariants.{Cell}
-use Rattle.pv_words.specs.Plan.{Plan, Finished, Make, Load, Store, Plain}
+use Rattle.pv_words.specs.Plan.{Plan, Finished, Make, Load, Store, Plain, Ends, joined}
+use Rattle.grant_table.specs.Mapping.{map_plan, unmap_want}
 use Rattle.ring_words.specs.declared.Looked.{Looked}
 use Rattle.ring_words.specs.Ring.{looked_of, next_index, notifies, slot_of}
 
@@ -57,3 +61,62 @@ check_plan page rsp = Make (Load (word_of page 0)) Plain (λ prod. Finished (pro
 -- Sleep: store req_event, one more than rsp_prod, and look again
 abbrev pub sleep_plan : Page → ℕ → Plan Bool
 sleep_plan page rsp = Make (Store (word_of page 1) (next_index rsp)) Plain (λ _. check_plan page rsp)
+
+-- the page of a hold
+abbrev pub page_at : Hold → Page
+page_at h = record { dom = h.dom.0; frame = h.frame.0 }
+
+-- what a link holds once it is connected: the ring's page, if it has a ring, the event page, and the two indices that
+-- were loaded
+pub record Joined : Type 0 where
+  pub ring : Option Hold
+  pub event : Hold
+  pub rsp : ℕ
+  pub prod : ℕ
+
+-- how a Connect ends: the link is joined, or this refusal came while it held these pages
+pub data Connected : Type 0 where
+  Joins : Joined → Connected
+  Refuses : List Hold → GrantRefusal → Connected
+
+abbrev pub hold_list : Option Hold → List Hold
+hold_list None = []
+hold_list (Some h) = h ∷ []
+
+-- the ring's page before the event page
+abbrev pub pages_of : Joined → List Hold
+pages_of j = hold_list j.ring ++ j.event ∷ []
+
+-- the end of a Connect: load in_prod from the event page
+abbrev pub prod_plan : Option Hold → ℕ → Hold → Plan Connected
+prod_plan ring rsp event =
+    Make (Load (word_of (page_at event) 1)) Plain (λ prod. Finished (Joins (record { ring = ring; event = event; rsp = rsp; prod = prod })))
+
+-- what follows the map of the event page
+abbrev pub with_event : Option Hold → ℕ → Result Hold GrantRefusal → Plan Connected
+with_event ring rsp (Ok h) = prod_plan ring rsp h
+with_event ring rsp (Err r) = Finished (Refuses (hold_list ring) r)
+
+-- map the event page
+abbrev pub event_map_plan : (frames grants dom event : ℕ) → Option Hold → ℕ → Plan Connected
+event_map_plan frames grants dom event ring rsp = joined (map_plan frames grants dom event Write) (with_event ring rsp)
+
+-- load rsp_prod from the ring's page
+abbrev pub rsp_plan : (frames grants dom event : ℕ) → Hold → Plan Connected
+rsp_plan frames grants dom event ring =
+    Make (Load (word_of (page_at ring) 2)) Plain (event_map_plan frames grants dom event (Some ring))
+
+-- what follows the map of the ring's page
+abbrev pub with_ring : (frames grants dom event : ℕ) → Result Hold GrantRefusal → Plan Connected
+with_ring frames grants dom event (Ok h) = rsp_plan frames grants dom event h
+with_ring frames grants dom event (Err r) = Finished (Refuses [] r)
+
+-- Connect: map the ring's page and load rsp_prod, if there is a ring; map the event page and load in_prod
+abbrev pub connect_plan : (frames grants dom : ℕ) → Option ℕ → ℕ → Plan Connected
+connect_plan frames grants dom None event = event_map_plan frames grants dom event None 0
+connect_plan frames grants dom (Some ring) event = joined (map_plan frames grants dom ring Write) (with_ring frames grants dom event)
+
+-- unmap these pages, in order
+abbrev pub unmaps : {A : Type 0} → List Hold → Plan A → Plan A
+unmaps [] more = more
+unmaps (h ∷ hs) more = Make (unmap_want h) (Ends h) (λ _. unmaps hs more)

@@ -1,5 +1,7 @@
 pub mod Activities
+pub mod Laws
 pub mod Link
 pub mod Machine
 pub mod Order
 pub mod Stage
+pub mod Stays

@@ -1,15 +1,37 @@
--- What a link has still to do of each activity.
-use Rattle.std.specs.Prelude.{ℕ, ◌-◌, ◌==◌, Bool, true, false, List, take, drop, if◌then◌else◌}
-use Rattle.pv_words.specs.Plan.{Plan, Finished}
+-- What a link holds, and what it has still to do of each activity.
+use Rattle.std.specs.Prelude.{◌≡◌, ℕ, ◌-◌, ◌==◌, Bool, true, false, List, [], ◌∷◌, take, drop, if◌then◌else◌, Option, Some, None, Result, Ok, Err, length}
+use Rattle.pv_words.specs.declared.access.Access.{Access}
+use Rattle.pv_words.specs.declared.grant.GrantRefusal.{GrantRefusal}
+use Rattle.pv_words.specs.declared.grant.Hold.{Hold}
+use Rattle.pv_words.specs.declared.place.GrantRef.{GrantRef}
+use Rattle.pv_words.specs.Plan.{Plan, Finished, Goes, IsUnfinished, joined}
+use Rattle.grant_table.specs.MapLeft.{map_left}
+use Rattle.ring_words.specs.Ring.{next_index}
 use Rattle.link_core.specs.declared.link.Link.{Link}
 use Rattle.link_core.specs.declared.link.Stage.{Stage}
 use Rattle.link_core.specs.declared.link.Stage.TheVariants as stage
-use Rattle.link_core.specs.Activities.{Page, slot_place, loads, stores, publish_plan, event_plan, check_plan, sleep_plan}
-use Rattle.link_core.specs.Stage.{taken_in, answered_in, slept_in}
+use Rattle.link_core.specs.Activities.{Page, Joined, Connected, Joins, Refuses, page_at, slot_place, loads, stores, publish_plan, event_plan, check_plan, sleep_plan, prod_plan, with_event, rsp_plan, with_ring, connect_plan, unmaps, pages_of}
+use Rattle.link_core.specs.Stage.{taken_in, answered_in, slept_in, held_in, ring_in, ring_comes}
+
+-- the domain of its pages
+unfoldable pub dom_of : Link → ℕ
+dom_of l = l.dom.0
+
+-- the pages that it holds: the ring's page before the event page
+unfoldable pub held_of : Link → List Hold
+held_of l = held_in l.kept l.ring_page l.event_page
+
+-- its last Connect ended with Ok, and it dropped nothing since
+unfoldable pub is_joined : Link → Bool
+is_joined l = l.joined
+
+-- what it came to; said of a link that is joined
+unfoldable pub joined_of : Link → Joined
+joined_of l = record { ring = ring_in l.kept l.ring_page; event = l.event_page; rsp = l.ring; prod = l.prod }
 
 -- the ring's page
 unfoldable pub page_of : Link → Page
-page_of l = record { dom = l.dom.0; frame = l.frame.0 }
+page_of l = page_at l.ring_page
 
 -- the index of the next reply
 unfoldable pub rsp_of : Link → ℕ
@@ -43,6 +65,100 @@ rests stage.Rest = true
 rests stage.Take = false
 rests stage.Answer = false
 rests stage.Sleep = false
+rests stage.Ring = false
+rests stage.Index = false
+rests stage.Event = false
+rests stage.Prod = false
 
 unfoldable pub idle : Link → Bool
 idle l = rests l.stage
+
+-- a Connect is under way
+abbrev pub is_in_connect : Stage → Bool
+is_in_connect stage.Rest = false
+is_in_connect stage.Take = false
+is_in_connect stage.Answer = false
+is_in_connect stage.Sleep = false
+is_in_connect stage.Ring = true
+is_in_connect stage.Index = true
+is_in_connect stage.Event = true
+is_in_connect stage.Prod = true
+
+unfoldable pub connects : Link → Bool
+connects l = is_in_connect l.stage
+
+-- One step leads from plan to plan, also where nothing is left of it: then it is done, with the result, and makes no
+-- access. It is done with the last access.
+abbrev pub Leads : {A : Type 0} → Plan A → Option Access → Option A → Plan A → Type 0
+Leads old None None new = ⊥
+Leads old None (Some x) new = old ≡ Finished x
+Leads old (Some a) None new = Goes old a new × IsUnfinished new
+Leads old (Some a) (Some x) new = Goes old a (Finished x)
+
+abbrev pub refs_of : Option GrantRef → Option ℕ
+refs_of None = None
+refs_of (Some g) = Some g.0
+
+-- what is left of a Connect at each of its stages: the map of the ring's page, the load of rsp_prod, the map of the event
+-- page, the load of in_prod
+abbrev pub connect_rest : (frames grants : ℕ) → Option ℕ → ℕ → Link → Stage → Plan Connected
+connect_rest frames grants ring event l stage.Rest = connect_plan frames grants l.dom.0 ring event
+connect_rest frames grants ring event l stage.Take = connect_plan frames grants l.dom.0 ring event
+connect_rest frames grants ring event l stage.Answer = connect_plan frames grants l.dom.0 ring event
+connect_rest frames grants ring event l stage.Sleep = connect_plan frames grants l.dom.0 ring event
+connect_rest frames grants ring event l stage.Ring = joined (map_left frames grants l.map) (with_ring frames grants l.dom.0 event)
+connect_rest frames grants ring event l stage.Index = rsp_plan frames grants l.dom.0 event l.ring_page
+connect_rest frames grants ring event l stage.Event = joined (map_left frames grants l.map) (with_event (ring_in l.kept l.ring_page) l.ring)
+connect_rest frames grants ring event l stage.Prod = prod_plan (ring_in l.kept l.ring_page) l.ring l.event_page
+
+unfoldable pub connect_left : (frames grants : ℕ) → Option ℕ → ℕ → Link → Plan Connected
+connect_left frames grants ring event l = connect_rest frames grants ring event l l.stage
+
+-- how a Connect ended that left this link
+abbrev pub end_of : Link → Result (Unit {0}) GrantRefusal → Connected
+end_of l (Ok u) = Joins (joined_of l)
+end_of l (Err r) = Refuses (held_of l) r
+
+abbrev pub ending_of : Link → Option (Result (Unit {0}) GrantRefusal) → Option Connected
+ending_of l None = None
+ending_of l (Some r) = Some (end_of l r)
+
+-- what is left of a Drop: every page that is held is unmapped
+unfoldable pub drop_left : Link → Plan (Unit {0})
+drop_left l = unmaps (held_of l) (Finished tt)
+
+-- the list without its first element
+abbrev pub rest_of : List Hold → List Hold
+rest_of [] = []
+rest_of (h ∷ hs) = hs
+
+-- one reply more was published
+abbrev pub answered_of : Joined → Joined
+answered_of j = record { ring = j.ring; event = j.event; rsp = next_index j.rsp; prod = j.prod }
+
+-- an activity on the ring changes nothing of what the link holds
+pub record Keeps (old new : Link) : Type 0 where
+  pub dom : dom_of new ≡ dom_of old
+  pub held : held_of new ≡ held_of old
+  pub is_joined : is_joined new ≡ is_joined old
+  pub page : page_of new ≡ page_of old
+
+-- what a step of a Connect makes of a link
+abbrev pub AfterConnect : Option (Result (Unit {0}) GrantRefusal) → Link → Type 0
+AfterConnect None new = connects new ≡ true
+AfterConnect (Some (Ok u)) new = (idle new ≡ true) × (is_joined new ≡ true) × (held_of new ≡ pages_of (joined_of new))
+AfterConnect (Some (Err r)) new = (idle new ≡ true) × (is_joined new ≡ false)
+
+-- a Connect with a ring that is under way doesn't pass over the ring's page
+unfoldable pub rings : Link → Bool
+rings l = ring_comes l.stage l.kept
+
+-- it still doesn't, and where it is over with Ok both pages are held
+abbrev pub Came : Option (Result (Unit {0}) GrantRefusal) → Link → Type 0
+Came None new = rings new ≡ true
+Came (Some (Ok u)) new = length (held_of new) ≡ 2
+Came (Some (Err r)) new = Unit {0}
+
+abbrev pub CameBy : Option ℕ → Bool → Option (Result (Unit {0}) GrantRefusal) → Link → Type 0
+CameBy None rung end new = Unit {0}
+CameBy (Some ring) rung end new = rung ≡ true → Came end new

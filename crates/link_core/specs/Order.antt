@@ -2,25 +2,33 @@
 use Rattle.std.specs.Prelude.{◌≡◌, Bool, true, false, List, [], ◌∷◌, Option, Some, None}
 use Rattle.pv_words.specs.declared.access.Access.{Access}
 use Rattle.pv_words.specs.declared.device.Said.{Said}
+use Rattle.pv_words.specs.declared.device.State.{State}
+use Rattle.pv_words.specs.declared.device.NodeValue.{NodeValue}
 use Rattle.pv_words.specs.Along.{after, Along}
-use Rattle.pv_words.specs.Plan.{Plan, Finished, Make, Want, Goes, MayGo, wanted, seen_by}
+use Rattle.pv_words.specs.Held.{Made}
+use Rattle.pv_words.specs.Plan.{Plan, Finished, Make, Want, Note, Plain, Goes, MayGo, wanted, seen_by}
 
--- what a device does, one after another: an access, something that it says, or resting until it is stepped again
+-- What a device does and hears, one after another: an access, something that it says, or resting until it is stepped
+-- again; or its frontend sets its state, while the nodes stand so.
 pub data Own : Type 0 where
   Did : Access → Own
   Spoke : Said → Own
   Rested : Own
+  Heard : State → List NodeValue → Own
 
--- what a device does next: an activity (one that is over at once says its event in a step of its own), or it rests
+-- What a device does next: an activity (one that is over at once says its event in a step of its own), with the work as
+-- the activity's beginning leaves it; or it rests.
 pub data Order (W O : Type 0) : Type 0 where
-  Act : Plan O → Order W O
+  Act : W → Plan O → Order W O
   Rest : W → Order W O
 
--- how a device works: what it does next, what it says at an activity's end, and what that end makes of its work
+-- how a device works: what it does next, what it says at an activity's end, what that end makes of its work, and what
+-- a state of its frontend makes of it
 pub record Rules (W O : Type 0) : Type 0 where
   pub choice : W → Order W O
   pub said_at : W → O → Option Said
   pub settled : W → O → W
+  pub heard : W → State → List NodeValue → W
 
 -- where a device stands: between two activities, in one with this left of it, or about to say the event that rides
 -- on the access just made
@@ -37,58 +45,64 @@ ended r w o (Some s) = Telling s w o
 -- this is left of an activity
 abbrev pub going : {W O : Type 0} → Rules W O → W → Plan O → Stand W O
 going r w (Finished o) = ended r w o (r.said_at w o)
-going r w (Make want note next) = During w (Make want note next)
+going r w (Make want note more) = During w (Make want note more)
 
 -- the stand after what a device does between two activities
 abbrev pub begun : {W O : Type 0} → Rules W O → W → Order W O → Own → Stand W O
-begun r w (Act (Finished o)) (Spoke s) = Between (r.settled w o)
-begun r w (Act (Finished o)) (Did a) = Between w
-begun r w (Act (Finished o)) Rested = Between w
-begun r w (Act (Make want note next)) (Did a) = going r w (next (seen_by a))
-begun r w (Act (Make want note next)) (Spoke s) = Between w
-begun r w (Act (Make want note next)) Rested = Between w
+begun r w c (Heard front nodes) = Between (r.heard w front nodes)
+begun r w (Act v (Finished o)) (Spoke s) = Between (r.settled v o)
+begun r w (Act v (Finished o)) (Did a) = Between w
+begun r w (Act v (Finished o)) Rested = Between w
+begun r w (Act v (Make want note more)) (Did a) = going r v (more (seen_by a))
+begun r w (Act v (Make want note more)) (Spoke s) = Between w
+begun r w (Act v (Make want note more)) Rested = Between w
 begun r w (Rest v) Rested = Between v
 begun r w (Rest v) (Did a) = Between w
 begun r w (Rest v) (Spoke s) = Between w
 
--- the stand after an access in an activity
+-- the stand after an access in an activity, or after what is heard in it
 abbrev pub gone : {W O : Type 0} → Rules W O → W → Plan O → Own → Stand W O
-gone r w (Finished o) e = During w (Finished o)
-gone r w (Make want note next) (Did a) = going r w (next (seen_by a))
-gone r w (Make want note next) (Spoke s) = During w (Make want note next)
-gone r w (Make want note next) Rested = During w (Make want note next)
+gone r w p (Heard front nodes) = During (r.heard w front nodes) p
+gone r w (Finished o) (Did a) = During w (Finished o)
+gone r w (Make want note more) (Did a) = going r w (more (seen_by a))
+gone r w p (Spoke s) = During w p
+gone r w p Rested = During w p
 
--- the stand after one more thing that a device does
+-- the stand after one more thing
 abbrev pub next : {W O : Type 0} → Rules W O → Stand W O → Own → Stand W O
 next r (Between w) e = begun r w (r.choice w) e
 next r (During w p) e = gone r w p e
 next r (Telling s w o) e = Between (r.settled w o)
 
--- what a device may do between two activities: what its order of work gives next
+-- what may come between two activities: what the order of work gives next, or a state of the frontend
 abbrev pub MayBegin : {W O : Type 0} → Rules W O → W → Order W O → Own → Type 0
-MayBegin r w (Act (Finished o)) (Spoke s) = r.said_at w o ≡ Some s
-MayBegin r w (Act (Finished o)) (Did a) = ⊥
-MayBegin r w (Act (Finished o)) Rested = ⊥
-MayBegin r w (Act (Make want note next)) (Did a) = wanted a ≡ want
-MayBegin r w (Act (Make want note next)) (Spoke s) = ⊥
-MayBegin r w (Act (Make want note next)) Rested = ⊥
+MayBegin r w c (Heard front nodes) = Unit {0}
+MayBegin r w (Act v (Finished o)) (Spoke s) = r.said_at v o ≡ Some s
+MayBegin r w (Act v (Finished o)) (Did a) = ⊥
+MayBegin r w (Act v (Finished o)) Rested = ⊥
+MayBegin r w (Act v (Make want note more)) (Did a) = wanted a ≡ want
+MayBegin r w (Act v (Make want note more)) (Spoke s) = ⊥
+MayBegin r w (Act v (Make want note more)) Rested = ⊥
 MayBegin r w (Rest v) Rested = Unit {0}
 MayBegin r w (Rest v) (Did a) = ⊥
 MayBegin r w (Rest v) (Spoke s) = ⊥
 
--- what a device may do in an activity: its next access
+-- what may come in an activity: its next access, or a state of the frontend
 abbrev pub MayGoOn : {O : Type 0} → Plan O → Own → Type 0
-MayGoOn (Finished o) e = ⊥
-MayGoOn (Make want note next) (Did a) = wanted a ≡ want
-MayGoOn (Make want note next) (Spoke s) = ⊥
-MayGoOn (Make want note next) Rested = ⊥
+MayGoOn p (Heard front nodes) = Unit {0}
+MayGoOn (Finished o) (Did a) = ⊥
+MayGoOn (Make want note more) (Did a) = wanted a ≡ want
+MayGoOn p (Spoke s) = ⊥
+MayGoOn p Rested = ⊥
 
+-- an event that rides on an access comes directly after it
 abbrev pub MayTell : Said → Own → Type 0
 MayTell s (Spoke t) = t ≡ s
 MayTell s (Did a) = ⊥
 MayTell s Rested = ⊥
+MayTell s (Heard front nodes) = ⊥
 
--- what a device may do where it stands
+-- what may come where a device stands
 abbrev pub May : {W O : Type 0} → Rules W O → Stand W O → Own → Type 0
 May r (Between w) e = MayBegin r w (r.choice w) e
 May r (During w p) e = MayGoOn p e
@@ -100,7 +114,7 @@ IsExplained r s es = Along (next r) (May r) s es
 
 -- whether the device rests next
 abbrev pub rests_next : {W O : Type 0} → Order W O → Bool
-rests_next (Act p) = false
+rests_next (Act v p) = false
 rests_next (Rest v) = true
 
 abbrev pub at_rest : {W O : Type 0} → Rules W O → Stand W O → Bool
@@ -133,10 +147,32 @@ GoesOn {W} {O} r w p (Some a) said new = (q : Plan O) × Goes p a q × Went r w 
 
 -- the next access, if one comes next, may be made through a port
 abbrev pub MayChoose : {W O : Type 0} → (Want → Type 0) → Order W O → Type 0
-MayChoose may (Act p) = MayGo may p
+MayChoose may (Act v p) = MayGo may p
 MayChoose may (Rest v) = Unit {0}
 
 abbrev pub MayStep : {W O : Type 0} → (Want → Type 0) → Rules W O → Stand W O → Type 0
 MayStep may r (Between w) = MayChoose may (r.choice w)
 MayStep may r (During w p) = MayGo may p
 MayStep may r (Telling s w o) = Unit {0}
+
+-- what a device's next access is for
+abbrev pub note_of : {A : Type 0} → Plan A → Note
+note_of (Finished x) = Plain
+note_of (Make want note more) = note
+
+abbrev pub note_in : {W O : Type 0} → Order W O → Note
+note_in (Act v p) = note_of p
+note_in (Rest v) = Plain
+
+abbrev pub note_at : {W O : Type 0} → Rules W O → Stand W O → Note
+note_at r (Between w) = note_in (r.choice w)
+note_at r (During w p) = note_of p
+note_at r (Telling s w o) = Plain
+
+-- the accesses among what a device does and hears, and what they are for
+abbrev pub made_by : {W O : Type 0} → Rules W O → Stand W O → List Own → List Made
+made_by r s [] = []
+made_by r s (Did a ∷ es) = record { access = a; note = note_at r s } ∷ made_by r (next r s (Did a)) es
+made_by r s (Spoke t ∷ es) = made_by r (next r s (Spoke t)) es
+made_by r s (Rested ∷ es) = made_by r (next r s Rested) es
+made_by r s (Heard front nodes ∷ es) = made_by r (next r s (Heard front nodes)) es

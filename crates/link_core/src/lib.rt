@@ -1,6 +1,10 @@
 //! The link of a device to its frontend: the activities on its shared pages, one access at a time.
 #![tactic(auto)]
 
+pub mod laws;
 pub mod link;
 
 pub use link::Link;
+
+#[cfg(test)]
+mod tests;

@@ -1,55 +1,157 @@
-//! A device's end of one request ring.
+//! A device's end of one request ring and of one event page.
 
-ghost use Rattle.std.specs.Prelude.{◌≡◌, ◌+◌, ◌<◌, ◌≤◌, IsTrue, true, OnSome, IsSome, is_some, if◌then◌else◌};
-ghost use Rattle.link_core.specs.Stage.{length_of, taken_in, answered_in, slept_in};
+ghost use Rattle.std.specs.Prelude.{◌≡◌, ℕ, [], Option, ◌+◌, ◌<◌, IsTrue, true, false, OnSome, IsSome, is_some, length, List, Some, None, Ok, Err, slice_get, ◌≤◌, if◌then◌else◌};
+ghost use Rattle.grant_table.specs.MapLeft as mapping;
+ghost use Rattle.pv_words.specs.declared.grant.Mode.TheVariants.{Write};
+ghost use Rattle.link_core.specs.Stage.{length_of, taken_in, answered_in, slept_in, agrees, and_event};
 
-use pv_words::{Access, DomId, Frame, Place, Turn, Words};
+use grant_table::{MapStep, unmap};
+use pv_words::{Access, DomId, Frame, GrantRef, GrantRefusal, Hold, Mode, Place, Turn, Words};
 use ring_words::{BackRing, Looked, REQ_EVENT, REQ_PROD, RSP_EVENT, RSP_PROD, must_notify};
 
-// The activity under way; a Look has one access alone.
+/// The word of an event page with the index up to which the backend wrote events.
+const IN_PROD: u16 = 1;
+
+// The activity under way; a Look has one access alone, and a Drop goes by what is held.
 #[derive(Clone, Copy, Debug, PartialEq, Eq)]
 enum Stage {
     Rest,
     Take,
     Answer,
     Sleep,
+    // A Connect maps the ring's page.
+    Ring,
+    // It loads rsp_prod.
+    Index,
+    // It maps the event page.
+    Event,
+    // It loads in_prod.
+    Prod,
 }
 
-/// The ring of one part of a device, and how far the activity on it has come. Each step makes the next access of
-/// the activity that it names, which it begins where another one or none is under way.
+// Which pages are held.
+#[derive(Clone, Copy, Debug, PartialEq, Eq)]
+enum Kept {
+    Nothing,
+    Ring,
+    Event,
+    Both,
+}
+
+// What is held with the event page too.
+fn and_event(kept: Kept) -> Kept
+    ensures exact { result ≡ and_event kept }
+{
+    match kept {
+        Kept::Nothing | Kept::Event => Kept::Event,
+        Kept::Ring | Kept::Both => Kept::Both,
+    }
+}
+
+/// The ring and the event page of one part of a device, and how far the activity on them has come. Each step makes the
+/// next access of the activity that it names, which it begins where another one or none is under way. An access to a cell
+/// lies in a page that the link holds before the step: one of a Connect always, one of a Look, Take, Answer or Sleep where
+/// the link holds both pages, as it does from a Connect with a ring that ended with Ok to the next Drop.
 #[derive(Drop)]
 pub struct Link {
     dom: DomId,
-    frame: Frame,
+    part: u8,
+    kept: Kept,
+    ring_page: Hold,
+    event_page: Hold,
+    // The last Connect ended with Ok, and nothing was dropped since.
+    joined: bool,
     ring: BackRing,
+    prod: u32,
     stage: Stage,
+    // The map of a Connect.
+    map: MapStep,
     // How many accesses of the activity are made.
     count: u8,
     // The words taken so far.
     words: [u32; 16],
     ghost within: { count < length_of stage },
+    ghost agrees: { agrees stage kept ≡ true },
+    ghost whose: { mapping.dom_of map ≡ dom.0 },
+    ghost going: { mapping.is_over map ≡ false },
+    ghost writes: { (ring_page.mode ≡ Write) × (event_page.mode ≡ Write) × (mapping.mode_of map ≡ Write) },
 }
 
 impl Link {
     ghost use Rattle.pv_words.specs.Plan.{Plan, MayGo, Turns, Makes};
     ghost use Rattle.ring_words.specs.declared.Looked.{Looked};
     ghost use Rattle.ring_words.specs.Ring.{next_index};
-    ghost use Rattle.link_core.specs.Activities.{Page, look_plan, take_plan, answer_plan, sleep_plan};
-    ghost use Rattle.link_core.specs.Link.{page_of, rsp_of, take_left, answer_left, sleep_left, idle};
+    ghost use Rattle.grant_table.specs.Mapping.{map_plan};
+    ghost use Rattle.link_core.specs.Stays.{AccessIn};
+    ghost use Rattle.link_core.specs.declared.link.Kept.TheVariants as kept;
+    ghost use Rattle.link_core.specs.declared.link.Stage.TheVariants as stage;
+    ghost use Rattle.link_core.specs.Activities.{Page, Joined, look_plan, take_plan, answer_plan, sleep_plan, pages_of};
+    ghost use Rattle.link_core.specs.Link.{dom_of, held_of, is_joined, joined_of, page_of, rsp_of, take_left, answer_left, sleep_left, idle, connect_left, drop_left, Leads, refs_of, ending_of, rest_of, answered_of, Keeps, AfterConnect, rings, Came, CameBy};
 
-    /// A link to a ring in this frame of the domain, on which nothing was answered.
-    pub fn over(dom: DomId, frame: Frame) -> Link
-        ensures page { page_of result ≡ record { dom = dom.0; frame = frame.0 } }
-        ensures fresh { rsp_of result ≡ 0 }
+    /// The link of this part of a device of the domain, which holds no page.
+    pub fn new(dom: DomId, part: u8) -> Link
+        ensures dom { dom_of result ≡ dom.0 }
+        ensures bare { held_of result ≡ [] }
+        ensures apart { is_joined result ≡ false }
         ensures idle { idle result ≡ true }
     {
+        let none = Hold {
+            dom,
+            gref: GrantRef(0),
+            frame: Frame(0),
+            mode: Mode::Write,
+        };
         Link {
             dom,
-            frame,
+            part,
+            kept: Kept::Nothing,
+            ring_page: none,
+            event_page: none,
+            joined: false,
             ring: BackRing::new(0),
+            prod: 0,
             stage: Stage::Rest,
+            map: MapStep::new(dom, GrantRef(0), Mode::Write),
             count: 0,
             words: [0; 16],
+        }
+    }
+
+    /// The index up to which events were written when the link was connected.
+    pub fn in_prod(&self) -> u32
+        ensures { result ≡ (joined_of self.now).prod }
+    {
+        self.prod
+    }
+
+    /// How many pages the link holds.
+    pub fn held(&self) -> u32
+        ensures { result ≡ length (held_of self.now) }
+    {
+        match self.kept {
+            Kept::Nothing => 0,
+            Kept::Ring => 1,
+            Kept::Event => 1,
+            Kept::Both => 2,
+        }
+    }
+
+    /// The page at this place of those that it holds, the ring's page before the event page.
+    pub fn hold_at(&self, i: u32) -> Hold
+        requires { i < length (held_of self.now) }
+        ensures { slice_get (held_of self.now) i ≡ Some result }
+    {
+        match self.kept {
+            Kept::Nothing => self.ring_page,
+            Kept::Ring => self.ring_page,
+            Kept::Event => self.event_page,
+            Kept::Both => {
+                if i == 0 {
+                    self.ring_page
+                } else {
+                    self.event_page
+                }
+            }
         }
     }
 
@@ -83,15 +185,240 @@ impl Link {
         }
     }
 
+    // Begins a Connect with the map of this page.
+    fn begin(&mut self, gref: GrantRef, stage: Stage)
+        requires { agrees stage kept.Nothing ≡ true }
+        ensures stage { self.new.stage ≡ stage }
+        ensures kept { self.new.kept ≡ kept.Nothing }
+        ensures ring { self.new.ring ≡ 0 }
+        ensures dom { self.new.dom ≡ self.old.dom }
+        ensures map { (frames grants : ℕ) → mapping.map_left frames grants self.new.map ≡ map_plan frames grants self.old.dom.0 gref.0 Write }
+    {
+        self.kept = Kept::Nothing;
+        self.joined = false;
+        self.ring = BackRing::new(0);
+        self.stage = stage;
+        self.map = MapStep::new(self.dom, gref, Mode::Write);
+        self.count = 0;
+    }
+
+    // The map of the ring's page.
+    fn ring_step<W: Words>(&mut self, words: &mut W) -> Turn<Result<(), GrantRefusal>>
+        requires stage { self.old.stage ≡ stage.Ring }
+        requires may { MayGo (W.may words.old) (mapping.map_left (W.frames_of words.old (dom_of self.old)) (W.grants_of words.old (dom_of self.old)) self.old.map) }
+        ensures leads { (ring : Option ℕ) (event : ℕ) → Leads (connect_left (W.frames_of words.old (dom_of self.old)) (W.grants_of words.old (dom_of self.old)) ring event self.old) result.access (ending_of self.new result.done) (connect_left (W.frames_of words.old (dom_of self.old)) (W.grants_of words.old (dom_of self.old)) ring event self.new) }
+        ensures made { Makes W.makes words.old result.access words.new }
+        ensures stays { (held : List Hold) → AccessIn held result.access }
+        ensures dom { dom_of self.new ≡ dom_of self.old }
+        ensures ends { AfterConnect result.done self.new }
+        ensures came { Came result.done self.new }
+    {
+        let turn = self.map.step(words);
+        let access = turn.access;
+        let Some(end) = turn.done else {
+            return Turn { access, done: None };
+        };
+        self.map = MapStep::new(self.dom, GrantRef(0), Mode::Write);
+        match end {
+            Ok(hold) => {
+                self.ring_page = hold;
+                self.kept = Kept::Ring;
+                self.stage = Stage::Index;
+                Turn { access, done: None }
+            }
+            Err(refusal) => {
+                self.joined = false;
+                self.stage = Stage::Rest;
+                Turn {
+                    access,
+                    done: Some(Err(refusal)),
+                }
+            }
+        }
+    }
+
+    // The load of rsp_prod. An event page that the domain has no entry for is refused with it.
+    fn rsp_step<W: Words>(
+        &mut self,
+        words: &mut W,
+        event: GrantRef,
+    ) -> Turn<Result<(), GrantRefusal>>
+        requires stage { self.old.stage ≡ stage.Index }
+        requires may { MayGo (W.may words.old) (connect_left (W.frames_of words.old (dom_of self.old)) (W.grants_of words.old (dom_of self.old)) None event.0 self.old) }
+        ensures leads { (ring : Option ℕ) → Leads (connect_left (W.frames_of words.old (dom_of self.old)) (W.grants_of words.old (dom_of self.old)) ring event.0 self.old) result.access (ending_of self.new result.done) (connect_left (W.frames_of words.old (dom_of self.old)) (W.grants_of words.old (dom_of self.old)) ring event.0 self.new) }
+        ensures made { Makes W.makes words.old result.access words.new }
+        ensures stays { AccessIn (held_of self.old) result.access }
+        ensures dom { dom_of self.new ≡ dom_of self.old }
+        ensures ends { AfterConnect result.done self.new }
+        ensures came { Came result.done self.new }
+    {
+        let known = event.0 < words.grants(self.dom);
+        let at = Place::Cell(self.ring_page.dom, self.ring_page.frame, RSP_PROD);
+        let rsp = words.load(at);
+        let access = Some(Access::Load(at, rsp));
+        self.ring = BackRing::new(rsp);
+        if !known {
+            self.joined = false;
+            self.stage = Stage::Rest;
+            return Turn {
+                access,
+                done: Some(Err(GrantRefusal::NoEntry(event.0))),
+            };
+        }
+        self.map = MapStep::new(self.dom, event, Mode::Write);
+        self.stage = Stage::Event;
+        Turn { access, done: None }
+    }
+
+    // The map of the event page.
+    fn event_step<W: Words>(&mut self, words: &mut W) -> Turn<Result<(), GrantRefusal>>
+        requires stage { self.old.stage ≡ stage.Event }
+        requires may { MayGo (W.may words.old) (mapping.map_left (W.frames_of words.old (dom_of self.old)) (W.grants_of words.old (dom_of self.old)) self.old.map) }
+        ensures leads { (ring : Option ℕ) (event : ℕ) → Leads (connect_left (W.frames_of words.old (dom_of self.old)) (W.grants_of words.old (dom_of self.old)) ring event self.old) result.access (ending_of self.new result.done) (connect_left (W.frames_of words.old (dom_of self.old)) (W.grants_of words.old (dom_of self.old)) ring event self.new) }
+        ensures made { Makes W.makes words.old result.access words.new }
+        ensures stays { (held : List Hold) → AccessIn held result.access }
+        ensures dom { dom_of self.new ≡ dom_of self.old }
+        ensures ends { AfterConnect result.done self.new }
+        ensures came { rings self.old ≡ true → Came result.done self.new }
+    {
+        let turn = self.map.step(words);
+        let access = turn.access;
+        let Some(end) = turn.done else {
+            return Turn { access, done: None };
+        };
+        self.map = MapStep::new(self.dom, GrantRef(0), Mode::Write);
+        match end {
+            Ok(hold) => {
+                self.event_page = hold;
+                self.kept = and_event(self.kept);
+                self.stage = Stage::Prod;
+                Turn { access, done: None }
+            }
+            Err(refusal) => {
+                self.joined = false;
+                self.stage = Stage::Rest;
+                Turn {
+                    access,
+                    done: Some(Err(refusal)),
+                }
+            }
+        }
+    }
+
+    // The load of in_prod.
+    fn prod_step<W: Words>(&mut self, words: &mut W) -> Turn<Result<(), GrantRefusal>>
+        requires stage { self.old.stage ≡ stage.Prod }
+        requires may { MayGo (W.may words.old) (connect_left (W.frames_of words.old (dom_of self.old)) (W.grants_of words.old (dom_of self.old)) None 0 self.old) }
+        ensures leads { (frames grants : ℕ) (ring : Option ℕ) (event : ℕ) → Leads (connect_left frames grants ring event self.old) result.access (ending_of self.new result.done) (connect_left frames grants ring event self.new) }
+        ensures made { Makes W.makes words.old result.access words.new }
+        ensures stays { AccessIn (held_of self.old) result.access }
+        ensures dom { dom_of self.new ≡ dom_of self.old }
+        ensures ends { AfterConnect result.done self.new }
+        ensures came { rings self.old ≡ true → Came result.done self.new }
+    {
+        let at = Place::Cell(self.event_page.dom, self.event_page.frame, IN_PROD);
+        let prod = words.load(at);
+        self.prod = prod;
+        self.joined = true;
+        self.stage = Stage::Rest;
+        Turn {
+            access: Some(Access::Load(at, prod)),
+            done: Some(Ok(())),
+        }
+    }
+
+    /// Makes the next access of a Connect: it maps the ring's page and loads rsp_prod, where it is given a ring, and maps
+    /// the event page and loads in_prod; both pages for loads and stores. It begins on a link that holds no page, and what
+    /// it mapped is held from then on. Done is Ok with the load of in_prod, or why a page was refused; then the link still
+    /// holds the page that was mapped. Where the domain has no entry for the first page, it is done without an access.
+    pub fn connect_step<W: Words>(
+        &mut self,
+        words: &mut W,
+        ring: Option<GrantRef>,
+        event: GrantRef,
+    ) -> Turn<Result<(), GrantRefusal>>
+        requires { MayGo (W.may words.old) (connect_left (W.frames_of words.old (dom_of self.old)) (W.grants_of words.old (dom_of self.old)) (refs_of ring) event.0 self.old) }
+        ensures leads { Leads (connect_left (W.frames_of words.old (dom_of self.old)) (W.grants_of words.old (dom_of self.old)) (refs_of ring) event.0 self.old) result.access (ending_of self.new result.done) (connect_left (W.frames_of words.old (dom_of self.old)) (W.grants_of words.old (dom_of self.old)) (refs_of ring) event.0 self.new) }
+        ensures made { Makes W.makes words.old result.access words.new }
+        ensures stays { AccessIn (held_of self.old) result.access }
+        ensures dom { dom_of self.new ≡ dom_of self.old }
+        ensures ends { AfterConnect result.done self.new }
+        ensures came { CameBy (refs_of ring) (rings self.old) result.done self.new }
+    {
+        match self.stage {
+            Stage::Ring => self.ring_step(words),
+            Stage::Index => self.rsp_step(words, event),
+            Stage::Event => self.event_step(words),
+            Stage::Prod => self.prod_step(words),
+            Stage::Rest | Stage::Take | Stage::Answer | Stage::Sleep => match ring {
+                Some(gref) => {
+                    self.begin(gref, Stage::Ring);
+                    self.ring_step(words)
+                }
+                None => {
+                    self.begin(event, Stage::Event);
+                    self.event_step(words)
+                }
+            },
+        }
+    }
+
+    /// Makes the next access of a Drop: it unmaps the first page that the link holds, the ring's page before the event
+    /// page. It is done with the last of them, or without an access where the link holds none.
+    pub fn drop_step<W: Words>(&mut self, words: &mut W) -> Turn<()>
+        requires idle { idle self.old ≡ true }
+        requires may { MayGo (W.may words.old) (drop_left self.old) }
+        ensures leads { Leads (drop_left self.old) result.access result.done (drop_left self.new) }
+        ensures made { Makes W.makes words.old result.access words.new }
+        ensures stays { AccessIn (held_of self.old) result.access }
+        ensures held { held_of self.new ≡ rest_of (held_of self.old) }
+        ensures dom { dom_of self.new ≡ dom_of self.old }
+        ensures apart { is_joined self.new ≡ false }
+        ensures idle { idle self.new ≡ true }
+    {
+        self.joined = false;
+        match self.kept {
+            Kept::Nothing => Turn {
+                access: None,
+                done: Some(()),
+            },
+            Kept::Ring => {
+                let access = unmap(&self.ring_page, words);
+                self.kept = Kept::Nothing;
+                Turn {
+                    access: Some(access),
+                    done: Some(()),
+                }
+            }
+            Kept::Event => {
+                let access = unmap(&self.event_page, words);
+                self.kept = Kept::Nothing;
+                Turn {
+                    access: Some(access),
+                    done: Some(()),
+                }
+            }
+            Kept::Both => {
+                let first = unmap(&self.ring_page, words);
+                self.kept = Kept::Event;
+                Turn {
+                    access: Some(first),
+                    done: None,
+                }
+            }
+        }
+    }
+
     /// Makes the one load of a Look: what requests there are.
     pub fn look_step<W: Words>(&mut self, words: &mut W) -> Turn<Looked>
         requires { MayGo (W.may words.old) (look_plan (page_of self.old) (rsp_of self.old)) }
         ensures turns { (new : Plan Looked) → Turns (look_plan (page_of self.old) (rsp_of self.old)) result.access result.done new }
         ensures done { IsSome result.done }
         ensures made { Makes W.makes words.old result.access words.new }
+        ensures stays { length (held_of self.old) ≡ 2 → AccessIn (held_of self.old) result.access }
         ensures same { self.new ≡ self.old }
     {
-        let at = Place::Cell(self.dom, self.frame, REQ_PROD);
+        let at = Place::Cell(self.ring_page.dom, self.ring_page.frame, REQ_PROD);
         let prod = words.load(at);
         Turn {
             access: Some(Access::Load(at, prod)),
@@ -104,12 +431,17 @@ impl Link {
         requires { MayGo (W.may words.old) (take_left self.old) }
         ensures turns { Turns (take_left self.old) result.access result.done (take_left self.new) }
         ensures made { Makes W.makes words.old result.access words.new }
-        ensures page { page_of self.new ≡ page_of self.old }
-        ensures rsp { rsp_of self.new ≡ rsp_of self.old }
+        ensures stays { length (held_of self.old) ≡ 2 → AccessIn (held_of self.old) result.access }
+        ensures keeps { Keeps self.old self.new }
+        ensures joined { joined_of self.new ≡ joined_of self.old }
         ensures rests { OnSome result.done (idle self.new ≡ true) }
     {
         let n = self.taken();
-        let at = Place::Cell(self.dom, self.frame, self.ring.slot_word(n));
+        let at = Place::Cell(
+            self.ring_page.dom,
+            self.ring_page.frame,
+            self.ring.slot_word(n),
+        );
         let word = words.load(at);
         self.words[n as usize] = word;
         if n == 15 {
@@ -134,13 +466,18 @@ impl Link {
         requires { MayGo (W.may words.old) (answer_left self.old reply.now) }
         ensures turns { Turns (answer_left self.old reply.now) result.access result.done (answer_left self.new reply.now) }
         ensures made { Makes W.makes words.old result.access words.new }
-        ensures page { page_of self.new ≡ page_of self.old }
-        ensures rsp { rsp_of self.new ≡ (if is_some result.done then next_index (rsp_of self.old) else rsp_of self.old) }
+        ensures stays { length (held_of self.old) ≡ 2 → AccessIn (held_of self.old) result.access }
+        ensures keeps { Keeps self.old self.new }
+        ensures joined { joined_of self.new ≡ (if is_some result.done then answered_of (joined_of self.old) else joined_of self.old) }
         ensures rests { OnSome result.done (idle self.new ≡ true) }
     {
         let n = self.answered();
         if n < 16 {
-            let at = Place::Cell(self.dom, self.frame, self.ring.slot_word(n));
+            let at = Place::Cell(
+                self.ring_page.dom,
+                self.ring_page.frame,
+                self.ring.slot_word(n),
+            );
             let word = reply[n as usize];
             words.store(at, word);
             self.stage = Stage::Answer;
@@ -151,7 +488,7 @@ impl Link {
             };
         }
         if n == 16 {
-            let at = Place::Cell(self.dom, self.frame, RSP_PROD);
+            let at = Place::Cell(self.ring_page.dom, self.ring_page.frame, RSP_PROD);
             let next = self.ring.rsp().wrapping_add(1);
             words.store(at, next);
             self.stage = Stage::Answer;
@@ -161,7 +498,7 @@ impl Link {
                 done: None,
             };
         }
-        let at = Place::Cell(self.dom, self.frame, RSP_EVENT);
+        let at = Place::Cell(self.ring_page.dom, self.ring_page.frame, RSP_EVENT);
         let event = words.load(at);
         let old = self.ring.rsp();
         let new = self.ring.answered();
@@ -179,13 +516,14 @@ impl Link {
         requires { MayGo (W.may words.old) (sleep_left self.old) }
         ensures turns { Turns (sleep_left self.old) result.access result.done (sleep_left self.new) }
         ensures made { Makes W.makes words.old result.access words.new }
-        ensures page { page_of self.new ≡ page_of self.old }
-        ensures rsp { rsp_of self.new ≡ rsp_of self.old }
+        ensures stays { length (held_of self.old) ≡ 2 → AccessIn (held_of self.old) result.access }
+        ensures keeps { Keeps self.old self.new }
+        ensures joined { joined_of self.new ≡ joined_of self.old }
         ensures rests { OnSome result.done (idle self.new ≡ true) }
     {
         let rsp = self.ring.rsp();
         if self.slept() == 0 {
-            let at = Place::Cell(self.dom, self.frame, REQ_EVENT);
+            let at = Place::Cell(self.ring_page.dom, self.ring_page.frame, REQ_EVENT);
             let next = rsp.wrapping_add(1);
             words.store(at, next);
             self.stage = Stage::Sleep;
@@ -195,7 +533,7 @@ impl Link {
                 done: None,
             };
         }
-        let at = Place::Cell(self.dom, self.frame, REQ_PROD);
+        let at = Place::Cell(self.ring_page.dom, self.ring_page.frame, REQ_PROD);
         let prod = words.load(at);
         self.stage = Stage::Rest;
         self.count = 0;

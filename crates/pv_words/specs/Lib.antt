@@ -1,9 +1,11 @@
 pub mod Along
 pub mod Held
 pub mod Layout
+pub mod ListPort
 pub mod ListWords
 pub mod Memory
 pub mod Place
 pub mod Plan
+pub mod Port
 pub mod Room
 pub mod Sizes

@@ -31,6 +31,13 @@ seen_by (access.Store at v) = 0
 seen_by (access.Cas at old new seen) = seen
 seen_by (access.Clear at mask seen) = seen
 
+-- the access, with the word that it found
+abbrev pub found : Want → ℕ → Access
+found (Load at) seen = access.Load at seen
+found (Store at v) seen = access.Store at v
+found (Swap at old new) seen = access.Cas at old new seen
+found (Clear at mask) seen = access.Clear at mask seen
+
 -- what an access is for
 pub data Note : Type 0 where
   -- a word of a page that the device holds as a ring, or a domain's own word
@@ -76,6 +83,11 @@ abbrev pub mapped : {A B : Type 0} → (A → B) → Plan A → Plan B
 mapped f (Finished x) = Finished (f x)
 mapped f (Make want note next) = Make want note (λ v. mapped f (next v))
 
+-- one plan after another, which is chosen by the result of the first
+abbrev pub joined : {A B : Type 0} → Plan A → (A → Plan B) → Plan B
+joined (Finished x) more = more x
+joined (Make want note next) more = Make want note (λ v. joined (next v) more)
+
 -- the next access may be made through a port
 abbrev pub MayGo : {A : Type 0} → (Want → Type 0) → Plan A → Type 0
 MayGo may (Finished x) = Unit {0}
@@ -85,3 +97,9 @@ MayGo may (Make want note next) = may want
 abbrev pub Fits : {A : Type 0} → (Want → Note → Type 0) → (A → Type 0) → Plan A → Type 0
 Fits Means Q (Finished x) = Q x
 Fits Means Q (Make want note next) = Means want note × ((v : ℕ) → Fits Means Q (next v))
+
+-- The same of what was made so far: `after` tells it after each access with the word that it found. Each access is as
+-- `May` says of what was made before it, and the result is as Q says of what was made by then.
+abbrev pub FitsFrom : {S A : Type 0} → (S → Want → Note → Type 0) → (S → Note → Access → S) → (S → A → Type 0) → S → Plan A → Type 0
+FitsFrom May after Q s (Finished x) = Q s x
+FitsFrom May after Q s (Make want note next) = May s want note × ((v : ℕ) → FitsFrom May after Q (after s note (found want v)) (next v))

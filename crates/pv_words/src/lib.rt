@@ -7,6 +7,7 @@ pub mod entry;
 pub mod grant;
 pub mod journal;
 pub mod list_words;
+pub mod page_list;
 pub mod place;
 pub mod setup;
 pub mod words;
@@ -17,6 +18,10 @@ pub use entry::{End, Entry, Told};
 pub use grant::{GrantRefusal, Hold, Mode};
 pub use journal::{JOURNAL_LIMIT, Journal, Stop};
 pub use list_words::ListWords;
-pub use place::{DevId, DomId, Frame, GrantRef, Half, Place};
+pub use page_list::PageList;
+pub use place::{DevId, DomId, Frame, GrantRef, Half, Place, Who};
 pub use setup::{DeviceKind, DeviceSetup, Devices, DomainSize, Kind, Setup, Sizes};
 pub use words::{Machine, Words};
+
+#[cfg(test)]
+mod tests;

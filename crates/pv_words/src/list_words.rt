@@ -4,7 +4,7 @@ ghost use Rattle.std.specs.Prelude.{◌≡◌, ℕ, ◌+◌, ◌*◌, ◌/◌, �
 ghost use Rattle.pv_words.specs.Layout.{start_of, frames_in, grants_in};
 ghost use Rattle.pv_words.specs.Sizes.{AreSizes, frames_by, grants_by, blocks_by};
 
-use crate::place::{DomId, Half, Place};
+use crate::place::{DevId, DomId, Half, Place, Who};
 use crate::setup::{DomainSize, Sizes};
 use crate::words::{Machine, Words};
 use std::alloc::{AllocError, Global};
@@ -12,13 +12,16 @@ use std::alloc::{AllocError, Global};
 /// Blocks of words: those of a domain's frames and of its grant entries, for domains 0 to 4.
 const BLOCKS: usize = 10;
 
-/// The words of the domains' pages and grant entries, as one list. Any place in range may be accessed.
+/// The words of the domains' pages and grant entries, as one list. Any place in range may be accessed. It knows every
+/// domain, and every device as one of any domain.
 #[derive(Drop)]
 pub struct ListWords {
     words: Vec<u32>,
     // How many words each block has, and where it begins.
     blocks: [usize; 10],
     starts: [usize; 10],
+    // The device whose turn it is, or none where it is a domain's.
+    device: Option<DevId>,
     ghost small: { (b : ℕ) → b < 10 → slice_index blocks b ≤ 2 ^ 24 },
     ghost whole: { vec_len words ≡ sum blocks },
     ghost laid_out: { (b : ℕ) → b < 10 → slice_index starts b ≡ start_of blocks b },
@@ -93,6 +96,7 @@ impl ListWords {
             words,
             blocks,
             starts,
+            device: None,
         })
     }
 
@@ -119,14 +123,17 @@ impl ListWords {
 
 impl Words for ListWords {
     ghost use Rattle.std.proofs.Common.{ap};
-    ghost use Rattle.pv_words.specs.ListWords.{Makes};
+    ghost use Rattle.pv_words.specs.ListWords.{Makes, port_of};
     ghost use Rattle.pv_words.specs.Layout.{frames_in, grants_in};
     ghost use Rattle.pv_words.specs.Place.{InRange};
     ghost use Rattle.pv_words.specs.Plan.{aim_of};
+    ghost use Rattle.pv_words.specs.ListPort.{list_leaves, list_tells};
 
     ghost frames_of = { λ w. frames_in w.blocks };
 
     ghost grants_of = { λ w. grants_in w.blocks };
+
+    ghost port = { port_of };
 
     ghost may = { λ w want. InRange (frames_in w.blocks) (grants_in w.blocks) (aim_of want) };
 
@@ -135,6 +142,12 @@ impl Words for ListWords {
     ghost keeps_frames = { λ old a new made d. ap (λ blocks. frames_in blocks d) made.blocks };
 
     ghost keeps_grants = { λ old a new made d. ap (λ blocks. grants_in blocks d) made.blocks };
+
+    ghost allows = { λ w want h. h.0 };
+
+    ghost leaves = { list_leaves };
+
+    ghost tells = { list_tells };
 
     fn load(&mut self, at: Place) -> u32 {
         let i = self.index(at);
@@ -186,7 +199,24 @@ impl Machine for ListWords {
 
     ghost word = { word_at };
 
-    ghost everywhere = { λ w want r. r };
+    ghost whole = { λ w. Unit {0} };
+
+    ghost knows_device = { λ w d dom. Unit {0} };
+
+    ghost knows_domain = { λ w d. Unit {0} };
 
     ghost remembers = { λ old a new made. made.answers };
+
+    ghost keeps_whole = { λ old a new made h. h };
+
+    ghost keeps_devices = { λ old a new made d dom h. h };
+
+    ghost keeps_domains = { λ old a new made d h. h };
+
+    fn turn(&mut self, who: Who) {
+        self.device = match who {
+            Who::Dev(dev) => Some(dev),
+            Who::Dom(_) => None,
+        };
+    }
 }

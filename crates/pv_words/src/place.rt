@@ -33,3 +33,10 @@ pub enum Place {
     /// A half of a grant entry of a domain.
     Grant(DomId, GrantRef, Half),
 }
+
+/// Who acts: a device, or a domain.
+#[derive(Clone, Copy, Debug, PartialEq, Eq)]
+pub enum Who {
+    Dev(DevId),
+    Dom(DomId),
+}

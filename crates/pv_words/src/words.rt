@@ -4,12 +4,12 @@ ghost use Rattle.std.specs.Prelude.{◌≡◌, ℕ};
 ghost use Rattle.pv_words.specs.declared.place.Place.{Place};
 ghost use Rattle.pv_words.specs.declared.access.Access.{Access};
 ghost use Rattle.pv_words.specs.declared.access.Access.TheVariants as access;
-ghost use Rattle.pv_words.specs.Place.{InRange};
-ghost use Rattle.pv_words.specs.Plan.{Want, aim_of};
+ghost use Rattle.pv_words.specs.Plan.{Want};
 ghost use Rattle.pv_words.specs.Plan as plan;
 ghost use Rattle.pv_words.specs.Memory.{Answers};
+ghost use Rattle.pv_words.specs.Port.{Port, PortMay, Leaves, FindsTold, Knows, Turned};
 
-use crate::place::{DomId, Place};
+use crate::place::{DomId, Place, Who};
 
 /// A port to 32-bit words that others may change at any moment. Each call but `frames` and `grants` makes
 /// one access, which is one atomic step. No call fails.
@@ -19,6 +19,11 @@ pub trait Words {
 
     /// How many grant entries a domain has.
     ghost grants_of: { Self → ℕ → ℕ };
+
+    /// Whose port it is: the device that acts through it, or none where a domain does, and for which domains it
+    /// stands; whether it may touch every place in range; the mappings that it lists of each device; and the words
+    /// that it tells, where it tells them.
+    ghost port: { Self → Port };
 
     /// Whether the access may be made through this port.
     ghost may: { Self → Want → Type 0 };
@@ -58,16 +63,55 @@ pub trait Words {
     ghost keeps_frames: { (old : Self) (a : Access) (new : Self) → makes old a new → (d : ℕ) → frames_of new d ≡ frames_of old d };
 
     ghost keeps_grants: { (old : Self) (a : Access) (new : Self) → makes old a new → (d : ℕ) → grants_of new d ≡ grants_of old d };
+
+    /// What the port may touch: every place in range; or for a device the words of the pages that it lists, and the
+    /// entries that it maps and unmaps; or for a domain the domain's own words.
+    ghost allows: { (w : Self) (want : Want) → PortMay (frames_of w) (grants_of w) (port w) want → may w want };
+
+    /// An access leaves it the port of the same one, which may touch what it might. It lists the mapping that the
+    /// access began, and the page that it got, with those of the device that acted; and it lists the mappings of one
+    /// reference and mode until as many clears of them were made as there are of them.
+    ghost leaves: { (old : Self) (a : Access) (new : Self) → makes old a new → Leaves (frames_of old) (port old) a (port new) };
+
+    /// Where it tells a word, this is the one that an access finds.
+    ghost tells: { (old : Self) (a : Access) (new : Self) → makes old a new → FindsTold (port old) a };
 }
 
-/// Words that only the calls made through this port change: each answer is the word last written there.
+/// Words that only the calls made through this port change: each answer is the word last written there. The port is
+/// handed from one device or domain to another.
 pub trait Machine: Words {
     /// The word at each place.
     ghost word: { Self → Place → ℕ };
 
-    /// Every place in range may be accessed.
-    ghost everywhere: { (w : Self) (want : Want) → InRange (Self.frames_of w) (Self.grants_of w) (aim_of want) → Self.may w want };
+    /// Whether it is whole, and so can be handed on.
+    ghost whole: { Self → Type 0 };
+
+    /// Which devices it knows, each as one of a domain.
+    ghost knows_device: { Self → ℕ → ℕ → Type 0 };
+
+    /// Which domains it knows.
+    ghost knows_domain: { Self → ℕ → Type 0 };
+
+    /// From here on the port is that of the device or the domain. No word changes, and the mappings of a device that
+    /// were listed before are listed still.
+    fn turn(&mut self, who: Who)
+        requires whole { whole self.old }
+        requires known { Knows (knows_device self.old) (knows_domain self.old) who }
+        ensures turned { Turned (Self.port self.old) (knows_device self.old) who (Self.port self.new) }
+        ensures words { (at : Place) → word self.new at ≡ word self.old at }
+        ensures frames { (d : ℕ) → Self.frames_of self.new d ≡ Self.frames_of self.old d }
+        ensures grants { (d : ℕ) → Self.grants_of self.new d ≡ Self.grants_of self.old d }
+        ensures whole { whole self.new }
+        ensures devices { (d dom : ℕ) → knows_device self.old d dom → knows_device self.new d dom }
+        ensures domains { (d : ℕ) → knows_domain self.old d → knows_domain self.new d };
 
     /// An access finds the word that stands there, and changes that word alone.
     ghost remembers: { (old : Self) (a : Access) (new : Self) → Self.makes old a new → Answers (Self.frames_of old) (Self.grants_of old) (word old) a (word new) };
+
+    /// No access changes whether it is whole, nor whom it knows.
+    ghost keeps_whole: { (old : Self) (a : Access) (new : Self) → Self.makes old a new → whole old → whole new };
+
+    ghost keeps_devices: { (old : Self) (a : Access) (new : Self) → Self.makes old a new → (d dom : ℕ) → knows_device old d dom → knows_device new d dom };
+
+    ghost keeps_domains: { (old : Self) (a : Access) (new : Self) → Self.makes old a new → (d : ℕ) → knows_domain old d → knows_domain new d };
 }

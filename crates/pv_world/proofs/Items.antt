@@ -1,14 +1,16 @@
 -- Items of steps, and what a device does in them.
-use Rattle.std.proofs.Common.{◌≡◌, ℕ, ◌==◌, Bool, true, false, cond, List, [], ◌∷◌, ◌++◌, Option, Some, None, refl, sym, subst, ◌∙◌, ap, append_assoc, eq-eqb}
+use Rattle.std.proofs.Common.{◌≡◌, ℕ, suc, ◌+◌, ◌≤◌, ◌==◌, Bool, true, false, cond, List, [], ◌∷◌, ◌++◌, length, arith, Option, Some, None, refl, sym, subst, ◌∙◌, ap, append_assoc, eq-eqb}
 use Rattle.pv_words.specs.declared.access.Access.{Access}
 use Rattle.pv_words.specs.declared.entry.Entry.{Entry}
 use Rattle.pv_words.specs.declared.entry.Entry.TheVariants as entry
 use Rattle.pv_words.specs.declared.place.DevId.{DevId}
 use Rattle.pv_words.specs.declared.device.Said.{Said}
 use Rattle.pv_words.specs.declared.device.Said.TheVariants as said
+use Rattle.pv_words.specs.declared.device.NodeValue.{NodeValue}
+use Rattle.pv_words.specs.Along.{after}
 use Rattle.link_core.specs.Order.{Own, Did, Spoke, Rested, steps_of}
-use Rattle.pv_world.specs.Marked.{Item, Entered, Idle, entries, told_by, told_in, own, entry_of, items_of, IsStepOf, AreSteps}
-use Rattle.pv_world.specs.Record.{is_busy}
+use Rattle.pv_world.specs.Marked.{Item, Entered, Idle, entries, told_by, told_in, own_from, node_set, nodes_next, entry_of, items_of, is_access, accesses_in, IsStepOf, AreSteps}
+use Rattle.pv_world.specs.Record.{progress}
 
 abbrev pub rest_of : DevId → Option Said → List Item
 rest_of dev None = []
@@ -31,9 +33,11 @@ entries_append [] n = refl
 entries_append (Entered e ∷ m) n = ap (λ (es : List Entry). e ∷ es) (entries_append m n)
 entries_append (Idle d ∷ m) n = entries_append m n
 
-pub own_append : (d : ℕ) (m n : List Item) → own d (m ++ n) ≡ own d m ++ own d n
-own_append d [] n = refl
-own_append d (i ∷ m) n = ap (λ (es : List Own). told_in d i ++ es) (own_append d m n) ∙ sym (append_assoc (told_in d i) (own d m) (own d n))
+pub own_append : (d : ℕ) (nodes : List NodeValue) (m n : List Item) → own_from d nodes (m ++ n) ≡ own_from d nodes m ++ own_from d (after (nodes_next d) nodes m) n
+own_append d nodes [] n = refl
+own_append d nodes (i ∷ m) n =
+    let later : List NodeValue = nodes_next d nodes i in
+    ap (λ (es : List Own). told_in d nodes i ++ es) (own_append d later m n) ∙ sym (append_assoc (told_in d nodes i) (own_from d later m) (own_from d (after (nodes_next d) later m) n))
 
 chosen : (b : Bool) (xs : List Own) → b ≡ true → cond b xs [] ≡ xs
 chosen true xs e = refl
@@ -42,28 +46,76 @@ chosen false xs e = let wrong : ⊥ = cc in absurd wrong
 same_device : (dev : DevId) → (dev.0 == dev.0) ≡ true
 same_device dev = eq-eqb dev.0 dev.0 refl
 
-told_said : (dev : DevId) (s : Said) → told_by dev.0 (entry_of dev s) ≡ Spoke s ∷ []
-told_said dev (said.State s) = chosen (dev.0 == dev.0) _ (same_device dev)
-told_said dev (said.Request part id op) = chosen (dev.0 == dev.0) _ (same_device dev)
-told_said dev (said.Denied r) = chosen (dev.0 == dev.0) _ (same_device dev)
-told_said dev (said.Replied part id status n) = chosen (dev.0 == dev.0) _ (same_device dev)
-told_said dev (said.Raised part cookie) = chosen (dev.0 == dev.0) _ (same_device dev)
-told_said dev (said.Pos part position) = chosen (dev.0 == dev.0) _ (same_device dev)
-told_said dev (said.Full part) = chosen (dev.0 == dev.0) _ (same_device dev)
-told_said dev (said.Blank part) = chosen (dev.0 == dev.0) _ (same_device dev)
-told_said dev (said.Shown part pixels mark) = chosen (dev.0 == dev.0) _ (same_device dev)
-told_said dev (said.Moved part octets mark) = chosen (dev.0 == dev.0) _ (same_device dev)
-told_said dev (said.Published events) = chosen (dev.0 == dev.0) _ (same_device dev)
-told_said dev (said.Closed why) = chosen (dev.0 == dev.0) _ (same_device dev)
+told_said : (dev : DevId) (nodes : List NodeValue) (s : Said) → told_by dev.0 nodes (entry_of dev s) ≡ Spoke s ∷ []
+told_said dev nodes (said.State s) = chosen (dev.0 == dev.0) _ (same_device dev)
+told_said dev nodes (said.Request part id op) = chosen (dev.0 == dev.0) _ (same_device dev)
+told_said dev nodes (said.Denied r) = chosen (dev.0 == dev.0) _ (same_device dev)
+told_said dev nodes (said.Replied part id status n) = chosen (dev.0 == dev.0) _ (same_device dev)
+told_said dev nodes (said.Raised part cookie) = chosen (dev.0 == dev.0) _ (same_device dev)
+told_said dev nodes (said.Pos part position) = chosen (dev.0 == dev.0) _ (same_device dev)
+told_said dev nodes (said.Full part) = chosen (dev.0 == dev.0) _ (same_device dev)
+told_said dev nodes (said.Blank part) = chosen (dev.0 == dev.0) _ (same_device dev)
+told_said dev nodes (said.Shown part pixels mark) = chosen (dev.0 == dev.0) _ (same_device dev)
+told_said dev nodes (said.Moved part octets mark) = chosen (dev.0 == dev.0) _ (same_device dev)
+told_said dev nodes (said.Published events) = chosen (dev.0 == dev.0) _ (same_device dev)
+told_said dev nodes (said.Closed why) = chosen (dev.0 == dev.0) _ (same_device dev)
 
--- the items of a step are that step
-pub own_step : (dev : DevId) (a : Option Access) (s : Option Said) → own dev.0 (items_of dev a s) ≡ steps_of a s
-own_step dev None None = ap (λ (es : List Own). es ++ []) (chosen (dev.0 == dev.0) (Rested ∷ []) (same_device dev))
-own_step dev None (Some s) = ap (λ (es : List Own). es ++ []) (told_said dev s)
-own_step dev (Some a) None = ap (λ (es : List Own). es ++ []) (chosen (dev.0 == dev.0) (Did a ∷ []) (same_device dev))
-own_step dev (Some a) (Some s) =
-    ap (λ (es : List Own). es ++ (told_by dev.0 (entry_of dev s) ++ [])) (chosen (dev.0 == dev.0) (Did a ∷ []) (same_device dev))
-    ∙ ap (λ (es : List Own). Did a ∷ (es ++ [])) (told_said dev s)
+-- what a device says sets no node
+said_sets : (d : ℕ) (dev : DevId) (nodes : List NodeValue) (s : Said) → node_set d nodes (entry_of dev s) ≡ nodes
+said_sets d dev nodes (said.State s) = refl
+said_sets d dev nodes (said.Request part id op) = refl
+said_sets d dev nodes (said.Denied r) = refl
+said_sets d dev nodes (said.Replied part id status n) = refl
+said_sets d dev nodes (said.Raised part cookie) = refl
+said_sets d dev nodes (said.Pos part position) = refl
+said_sets d dev nodes (said.Full part) = refl
+said_sets d dev nodes (said.Blank part) = refl
+said_sets d dev nodes (said.Shown part pixels mark) = refl
+said_sets d dev nodes (said.Moved part octets mark) = refl
+said_sets d dev nodes (said.Published events) = refl
+said_sets d dev nodes (said.Closed why) = refl
+
+-- the items of a step are that step, and set no node
+pub own_step : (dev : DevId) (nodes : List NodeValue) (a : Option Access) (s : Option Said) → own_from dev.0 nodes (items_of dev a s) ≡ steps_of a s
+own_step dev nodes None None = ap (λ (es : List Own). es ++ []) (chosen (dev.0 == dev.0) (Rested ∷ []) (same_device dev))
+own_step dev nodes None (Some s) = ap (λ (es : List Own). es ++ []) (told_said dev nodes s)
+own_step dev nodes (Some a) None = ap (λ (es : List Own). es ++ []) (chosen (dev.0 == dev.0) (Did a ∷ []) (same_device dev))
+own_step dev nodes (Some a) (Some s) =
+    ap (λ (es : List Own). es ++ (told_by dev.0 nodes (entry_of dev s) ++ [])) (chosen (dev.0 == dev.0) (Did a ∷ []) (same_device dev))
+    ∙ ap (λ (es : List Own). Did a ∷ (es ++ [])) (told_said dev nodes s)
+
+pub nodes_step : (d : ℕ) (dev : DevId) (nodes : List NodeValue) (a : Option Access) (s : Option Said) → after (nodes_next d) nodes (items_of dev a s) ≡ nodes
+nodes_step d dev nodes None None = refl
+nodes_step d dev nodes None (Some s) = said_sets d dev nodes s
+nodes_step d dev nodes (Some a) None = refl
+nodes_step d dev nodes (Some a) (Some s) = said_sets d dev nodes s
+
+-- they are nothing of another device
+not_chosen : (b : Bool) (xs : List Own) → b ≡ false → cond b xs [] ≡ []
+not_chosen false xs e = refl
+not_chosen true xs e = let wrong : ⊥ = cc in absurd wrong
+
+told_other : (d : ℕ) (dev : DevId) (nodes : List NodeValue) (s : Said) → (dev.0 == d) ≡ false → told_by d nodes (entry_of dev s) ≡ []
+told_other d dev nodes (said.State s) e = not_chosen (dev.0 == d) _ e
+told_other d dev nodes (said.Request part id op) e = not_chosen (dev.0 == d) _ e
+told_other d dev nodes (said.Denied r) e = not_chosen (dev.0 == d) _ e
+told_other d dev nodes (said.Replied part id status n) e = not_chosen (dev.0 == d) _ e
+told_other d dev nodes (said.Raised part cookie) e = not_chosen (dev.0 == d) _ e
+told_other d dev nodes (said.Pos part position) e = not_chosen (dev.0 == d) _ e
+told_other d dev nodes (said.Full part) e = not_chosen (dev.0 == d) _ e
+told_other d dev nodes (said.Blank part) e = not_chosen (dev.0 == d) _ e
+told_other d dev nodes (said.Shown part pixels mark) e = not_chosen (dev.0 == d) _ e
+told_other d dev nodes (said.Moved part octets mark) e = not_chosen (dev.0 == d) _ e
+told_other d dev nodes (said.Published events) e = not_chosen (dev.0 == d) _ e
+told_other d dev nodes (said.Closed why) e = not_chosen (dev.0 == d) _ e
+
+pub own_other : (d : ℕ) (dev : DevId) (nodes : List NodeValue) (a : Option Access) (s : Option Said) → (dev.0 == d) ≡ false → own_from d nodes (items_of dev a s) ≡ []
+own_other d dev nodes None None e = ap (λ (es : List Own). es ++ []) (not_chosen (dev.0 == d) (Rested ∷ []) e)
+own_other d dev nodes None (Some s) e = ap (λ (es : List Own). es ++ []) (told_other d dev nodes s e)
+own_other d dev nodes (Some a) None e = ap (λ (es : List Own). es ++ []) (not_chosen (dev.0 == d) (Did a ∷ []) e)
+own_other d dev nodes (Some a) (Some s) e =
+    ap (λ (es : List Own). es ++ (told_by d nodes (entry_of dev s) ++ [])) (not_chosen (dev.0 == d) (Did a ∷ []) e)
+    ∙ ap (λ (es : List Own). es ++ []) (told_other d dev nodes s e)
 
 is_step_said : (dev : DevId) (s : Said) → IsStepOf dev.0 (entry_of dev s)
 is_step_said dev (said.State s) = refl
@@ -79,18 +131,68 @@ is_step_said dev (said.Moved part octets mark) = refl
 is_step_said dev (said.Published events) = refl
 is_step_said dev (said.Closed why) = refl
 
--- a step that isn't idle has steps alone, an idle one a mark alone
-pub busy_steps : (dev : DevId) (a : Option Access) (s : Option Said) → is_busy (items_of dev a s) ≡ true → AreSteps dev.0 (items_of dev a s)
-busy_steps dev None None e = let wrong : ⊥ = cc in absurd wrong
-busy_steps dev None (Some s) e = (is_step_said dev s, tt)
-busy_steps dev (Some a) None e = (refl, tt)
-busy_steps dev (Some a) (Some s) e = (refl, (is_step_said dev s, tt))
+-- a step that isn't idle has steps alone, with one access or none; an idle one has a mark alone
+pub busy_steps : (dev : DevId) (a : Option Access) (s : Option Said) (b : Bool) → Some b ≡ progress a s → AreSteps dev.0 (items_of dev a s)
+busy_steps dev None None b e = let wrong : ⊥ = cc in absurd wrong
+busy_steps dev None (Some s) b e = (is_step_said dev s, tt)
+busy_steps dev (Some a) None b e = (refl, tt)
+busy_steps dev (Some a) (Some s) b e = (refl, (is_step_said dev s, tt))
 
-pub idle_mark : (dev : DevId) (a : Option Access) (s : Option Said) → is_busy (items_of dev a s) ≡ false → items_of dev a s ≡ Idle dev.0 ∷ []
+no_access_said : (dev : DevId) (s : Said) → is_access (Entered (entry_of dev s)) ≡ false
+no_access_said dev (said.State s) = refl
+no_access_said dev (said.Request part id op) = refl
+no_access_said dev (said.Denied r) = refl
+no_access_said dev (said.Replied part id status n) = refl
+no_access_said dev (said.Raised part cookie) = refl
+no_access_said dev (said.Pos part position) = refl
+no_access_said dev (said.Full part) = refl
+no_access_said dev (said.Blank part) = refl
+no_access_said dev (said.Shown part pixels mark) = refl
+no_access_said dev (said.Moved part octets mark) = refl
+no_access_said dev (said.Published events) = refl
+no_access_said dev (said.Closed why) = refl
+
+said_counts : (dev : DevId) (s : Said) → accesses_in (Entered (entry_of dev s) ∷ []) ≡ 0
+said_counts dev s = ap (λ (b : Bool). cond b 1 0 + 0) (no_access_said dev s)
+
+pub one_access : (dev : DevId) (a : Option Access) (s : Option Said) → Some true ≡ progress a s → (x : Access) × (a ≡ Some x) × (accesses_in (items_of dev a s) ≡ 1)
+one_access dev None None e = let wrong : ⊥ = cc in absurd wrong
+one_access dev None (Some s) e = let wrong : ⊥ = cc in absurd wrong
+one_access dev (Some a) None e = (a, refl, refl)
+one_access dev (Some a) (Some s) e = (a, refl, ap (λ n. 1 + n) (said_counts dev s))
+
+pub no_access : (dev : DevId) (a : Option Access) (s : Option Said) → Some false ≡ progress a s → accesses_in (items_of dev a s) ≡ 0
+no_access dev None None e = let wrong : ⊥ = cc in absurd wrong
+no_access dev None (Some s) e = said_counts dev s
+no_access dev (Some a) None e = let wrong : ⊥ = cc in absurd wrong
+no_access dev (Some a) (Some s) e = let wrong : ⊥ = cc in absurd wrong
+
+pub most_one : (dev : DevId) (a : Option Access) (s : Option Said) → accesses_in (items_of dev a s) ≤ 1
+most_one dev None None = omega arith
+most_one dev None (Some s) = let n = said_counts dev s in omega (arith, n)
+most_one dev (Some a) None = omega arith
+most_one dev (Some a) (Some s) = let n = said_counts dev s in omega (arith, n)
+
+pub idle_mark : (dev : DevId) (a : Option Access) (s : Option Said) → None ≡ progress a s → items_of dev a s ≡ Idle dev.0 ∷ []
 idle_mark dev None None e = refl
 idle_mark dev None (Some s) e = let wrong : ⊥ = cc in absurd wrong
 idle_mark dev (Some a) None e = let wrong : ⊥ = cc in absurd wrong
 idle_mark dev (Some a) (Some s) e = let wrong : ⊥ = cc in absurd wrong
+
+-- accesses are counted one after another, and a part of a step has no more of them
+pub counts_append : (m n : List Item) → accesses_in (m ++ n) ≡ accesses_in m + accesses_in n
+counts_append [] n = omega arith
+counts_append (i ∷ m) n = let rest = counts_append m n in omega (arith, rest)
+
+-- each access is an entry
+counted : (b : Bool) (m : List Item) → accesses_in m ≤ length (entries m) → cond b 1 0 + accesses_in m ≤ suc (length (entries m))
+counted true m h = omega (arith, h)
+counted false m h = omega (arith, h)
+
+pub counts_entries : (m : List Item) → accesses_in m ≤ length (entries m)
+counts_entries [] = omega arith
+counts_entries (Idle d ∷ m) = let rest = counts_entries m in omega (arith, rest)
+counts_entries (Entered e ∷ m) = counted (is_access (Entered e)) m (counts_entries m)
 
 -- the front of a step's items up to an entry are steps, and so is that entry
 steps_front : (d : ℕ) (m : List Item) (due : Entry) (n : List Item) → AreSteps d (m ++ Entered due ∷ n) → AreSteps d m × IsStepOf d due

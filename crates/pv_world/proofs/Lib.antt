@@ -1,6 +1,11 @@
+pub mod Beginnings
+pub mod Buses
 pub mod Consequences
-pub mod Extends
-pub mod Fronts
+pub mod Devices
+pub mod Histories
 pub mod Items
 pub mod Owners
 pub mod Serving
+pub mod Standings
+pub mod Stepping
+pub mod Swapping

@@ -1,7 +1,6 @@
 -- A domain's permits and ends, from single accesses.
 use Rattle.std.proofs.Common.{◌≡◌, ℕ, ◌<◌, ◌==◌, ◌⊎◌, inl, inr, Bool, true, false, cond, List, [], ◌∷◌, ◌++◌, Option, Some, None, Result, Ok, Err, refl, sym, subst, ◌∙◌, ap, append_assoc}
 use Rattle.std.proofs.lemmas.List.{append-nil}
-use Rattle.std.specs.List.{AllByRecursion}
 use Rattle.pv_words.specs.declared.access.Access.{Access}
 use Rattle.pv_words.specs.declared.entry.Entry.{Entry}
 use Rattle.pv_words.specs.declared.entry.Entry.TheVariants as entry
@@ -15,55 +14,54 @@ use Rattle.pv_words.specs.declared.place.Half.TheVariants.{Flags, FrameNo}
 use Rattle.pv_words.specs.declared.place.Place.{Place}
 use Rattle.pv_words.specs.declared.place.Place.TheVariants.{Grant}
 use Rattle.pv_words.specs.declared.setup.DeviceSetup.{DeviceSetup}
-use Rattle.pv_words.specs.Along.{after, after-append, Along-append}
-use Rattle.pv_words.specs.Memory.{Memory, Answers, IsLawful, IsTrueOf, access_of, memory_after, place_of, remembered, zeros}
+use Rattle.pv_words.specs.Memory.{place_of}
 use Rattle.pv_words.specs.Place.{InRange}
 use Rattle.pv_words.specs.Plan.{Plan, Finished, Make, Want, Goes, IsUnfinished, Makes, MayGo, Turns, aim_of, seen_by}
-use Rattle.link_core.specs.Order.{Own, IsExplained, next}
-use Rattle.display_backend.specs.Display.{stand_of}
-use Rattle.display_backend.specs.Work.{display}
+use Rattle.pv_words.specs.Port.{Port, PortMay}
+use Rattle.pv_words.proofs.Listing.{port_may_own}
 use Rattle.grant_table.specs.declared.owner.Owned.{Owned}
 use Rattle.grant_table.specs.Owning.{permit_plan, name_plan, open_plan, end_plan}
 use Rattle.pv_world.specs.declared.world.Placed.{Placed}
-use Rattle.pv_world.specs.Marked.{Item, Entered, entries, own}
-use Rattle.pv_world.specs.History.{IsHistory, Belongs, IsExplainedIn, first_stand}
+use Rattle.pv_world.specs.Marked.{Item, Entered, entries}
+use Rattle.pv_world.specs.History.{IsHistory}
 use Rattle.pv_world.specs.Owner.{Leads, IsDone, IsUnderWay, HasCauseAt, StopsOwning, Owns, OwnsOn, EntersTurn, KeepsToEntry, told_of, told_items}
 use Rattle.pv_world.specs.Record.{IsAtLimit}
-use Rattle.pv_world.specs.World.{Stands, IsPlacedIn, front_access, setups}
-use Rattle.pv_world.proofs.Items.{entries_append, own_append}
-use Rattle.pv_world.proofs.Extends.{aimed, all_append, all_weaker, history_front}
-use Rattle.pv_world.proofs.Fronts.{front_stands}
+use Rattle.pv_world.specs.World.{Sight, Stands, front_access, setups}
+use Rattle.pv_world.proofs.Items.{entries_append}
+use Rattle.pv_world.proofs.Histories.{IsNextIn, aimed, all_of, history_front, history_more}
+use Rattle.pv_world.proofs.Standings.{Behaves, front_stands, silent_stands}
 
 -- each access goes to the entry, which the domain has
 pub goes_in_range : (fs gs : ℕ → ℕ) (dom gref : ℕ) (p k : Plan Owned) (a : Access) → KeepsToEntry dom gref p → gref < gs dom → Goes p a k → InRange fs gs (place_of a)
 goes_in_range fs gs dom gref (Finished x) k a fits r g = absurd g
 goes_in_range fs gs dom gref (Make want note more) k a fits r g =
-    let e : place_of a ≡ Grant (record { 0 = dom }) (record { 0 = gref }) fits.0.0 = aimed a ∙ (ap aim_of g.0 ∙ fits.0.1) in
+    let e : place_of a ≡ Grant (record { 0 = dom }) (record { 0 = gref }) fits.0.0.0 = aimed a ∙ (ap aim_of g.0 ∙ fits.0.0.1) in
     subst (λ (q : Place). InRange fs gs q) (sym e) r
 
 pub goes_fits : (dom gref : ℕ) (p k : Plan Owned) (a : Access) → KeepsToEntry dom gref p → Goes p a k → KeepsToEntry dom gref k
 goes_fits dom gref (Finished x) k a fits g = absurd g
 goes_fits dom gref (Make want note more) k a fits g = subst (λ (q : Plan Owned). KeepsToEntry dom gref q) (sym g.1) (fits.1 (seen_by a))
 
-pub may_go : (may : Want → Type 0) (fs gs : ℕ → ℕ) (dom gref : ℕ) (p : Plan Owned) → KeepsToEntry dom gref p → gref < gs dom → ((want : Want) → InRange fs gs (aim_of want) → may want) → MayGo may p
-may_go may fs gs dom gref (Finished x) fits r every = tt
-may_go may fs gs dom gref (Make want note more) fits r every = every want (subst (λ (q : Place). InRange fs gs q) (sym fits.0.1) r)
+pub may_go : (may : Want → Type 0) (fs gs : ℕ → ℕ) (p : Port) (dom gref : ℕ) (plan : Plan Owned) → KeepsToEntry dom gref plan → gref < gs dom → p.device ≡ None → p.serves dom ≡ true → ((want : Want) → PortMay fs gs p want → may want) → MayGo may plan
+may_go may fs gs p dom gref (Finished x) fits r own serves allows = tt
+may_go may fs gs p dom gref (Make want note more) fits r own serves allows =
+    allows want (port_may_own fs gs p dom want own serves (subst (λ (q : Place). InRange fs gs q) (sym fits.0.0.1) r) fits.0.1)
 
 either : (dom gref : ℕ) (b : Bool) (p q : Plan Owned) → KeepsToEntry dom gref p → KeepsToEntry dom gref q → KeepsToEntry dom gref (cond b p q)
 either dom gref true p q f g = f
 either dom gref false p q f g = g
 
 open_keeps : (dom gref : ℕ) (mode : Mode) → KeepsToEntry dom gref (open_plan dom gref mode)
-open_keeps dom gref mode = ((Flags, refl), λ seen. tt)
+open_keeps dom gref mode = (((Flags, refl), refl), λ seen. tt)
 
 name_keeps : (dom gref frame : ℕ) (mode : Mode) → KeepsToEntry dom gref (name_plan dom gref frame mode)
-name_keeps dom gref frame mode = ((FrameNo, refl), λ seen. open_keeps dom gref mode)
+name_keeps dom gref frame mode = (((FrameNo, refl), refl), λ seen. open_keeps dom gref mode)
 
 pub permit_keeps : (dom gref frame : ℕ) (mode : Mode) → KeepsToEntry dom gref (permit_plan dom gref frame mode)
-permit_keeps dom gref frame mode = ((Flags, refl), λ word. either dom gref (word == 0) (name_plan dom gref frame mode) (Finished _) (name_keeps dom gref frame mode) tt)
+permit_keeps dom gref frame mode = (((Flags, refl), refl), λ word. either dom gref (word == 0) (name_plan dom gref frame mode) (Finished _) (name_keeps dom gref frame mode) tt)
 
 pub end_keeps : (dom gref : ℕ) → KeepsToEntry dom gref (end_plan dom gref)
-end_keeps dom gref = ((Flags, refl), λ word. ((Flags, refl), λ seen. tt))
+end_keeps dom gref = (((Flags, refl), refl), λ word. (((Flags, refl), refl), λ seen. tt))
 
 -- what a step leads to
 pub goes_of : (p q : Plan Owned) (a : Access) (o : Option Owned) → Turns p (Some a) o q → (k : Plan Owned) × Goes p a k
@@ -89,42 +87,15 @@ done_after dom gref p q xs ys h d =
 under_way_after : (p q : Plan Owned) (xs ys : List Item) → Leads p xs q → IsUnderWay q ys → IsUnderWay p (xs ++ ys)
 under_way_after p q xs ys h u = record { left = u.left; leads = leads_append p q u.left xs ys h u.leads }
 
--- what a domain is told is nothing that a device does, and changes no word
-own_told : (d : ℕ) (m : List Item) (dom : DomId) (t : Told) → own d (m ++ Entered (entry.Told dom t) ∷ []) ≡ own d m
-own_told d m dom t = own_append d m (Entered (entry.Told dom t) ∷ []) ∙ append-nil (own d m)
-
-explained_told : (m : List Item) (dom : DomId) (t : Told) (s : DeviceSetup) → IsExplainedIn m s → IsExplainedIn (m ++ Entered (entry.Told dom t) ∷ []) s
-explained_told m dom t s h = subst (λ (es : List Own). IsExplained display (first_stand s) es) (sym (own_told s.dev.0 m dom t)) h
-
-module _ {W : Type 0} (word : W → Place → ℕ) (fs gs : W → ℕ → ℕ) (frames grants : ℕ → ℕ) where
+module _ {W : Type 0} (g : Sight W) (frames grants : ℕ → ℕ) where
   told_history : (devices : List DeviceSetup) (m : List Item) (dom : DomId) (t : Told) → IsHistory frames grants devices m → IsHistory frames grants devices (m ++ Entered (entry.Told dom t) ∷ [])
   told_history devices m dom t h =
-      let entered : entries (m ++ Entered (entry.Told dom t) ∷ []) ≡ entries m ++ entry.Told dom t ∷ [] = entries_append m (Entered (entry.Told dom t) ∷ []) in
-      record {
-        lawful = subst (λ (es : List Entry). IsLawful frames grants es) (sym entered)
-            (Along-append remembered (λ x e. IsTrueOf frames grants x (access_of e)) zeros (entries m) (entry.Told dom t ∷ []) h.lawful (tt, tt));
-        belongs = subst (λ (es : List Entry). AllByRecursion (Belongs devices) es) (sym entered) (all_append (Belongs devices) (entries m) (entry.Told dom t ∷ []) h.belongs (tt, tt));
-        explained = all_weaker (IsExplainedIn m) (IsExplainedIn (m ++ Entered (entry.Told dom t) ∷ [])) (explained_told m dom t) devices h.explained;
-      }
+      history_more frames grants devices m (Entered (entry.Told dom t) ∷ []) h (tt, tt) (tt, tt) (all_of (IsNextIn frames grants m (Entered (entry.Told dom t) ∷ [])) (λ s. tt) devices)
 
-  placed_told : (device : Option Placed) (m : List Item) (dom : DomId) (t : Told) → IsPlacedIn m frames device → IsPlacedIn (m ++ Entered (entry.Told dom t) ∷ []) frames device
-  placed_told None m dom t h = tt
-  placed_told (Some p) m dom t h =
-      (subst (λ (es : List Own). stand_of p.display ≡ after (next display) (first_stand p.setup) es) (sym (own_told p.setup.dev.0 m dom t)) h.0, h.1)
-
-  told_stands : (memory : W) (device : Option Placed) (m : List Item) (dom : DomId) (t : Option Told) → Stands word fs gs frames grants memory device m → Stands word fs gs frames grants memory device (m ++ told_items dom t)
-  told_stands memory device m dom None st = subst (λ (x : List Item). Stands word fs gs frames grants memory device x) (sym (append-nil m)) st
-  told_stands memory device m dom (Some t) st =
-      let entered : entries (m ++ Entered (entry.Told dom t) ∷ []) ≡ entries m ++ entry.Told dom t ∷ [] = entries_append m (Entered (entry.Told dom t) ∷ []) in
-      let left : (q : Place) → memory_after (entries (m ++ Entered (entry.Told dom t) ∷ [])) q ≡ memory_after (entries m) q = λ q.
-      ap (λ (es : List Entry). memory_after es q) entered ∙ ap (λ (x : Memory). x q) (after-append remembered zeros (entries m) (entry.Told dom t ∷ [])) in
-      record {
-        frames_are = st.frames_are;
-        grants_are = st.grants_are;
-        words_are = λ q r. st.words_are q r ∙ sym (left q);
-        placed = placed_told device m dom t st.placed;
-        so_far = told_history (setups device) m dom t st.so_far;
-      }
+  told_stands : (memory : W) (devices : List Placed) (m : List Item) (dom : DomId) (t : Option Told) → Stands g frames grants memory devices m → Stands g frames grants memory devices (m ++ told_items dom t)
+  told_stands memory devices m dom None st = subst (λ (x : List Item). Stands g frames grants memory devices x) (sym (append-nil m)) st
+  told_stands memory devices m dom (Some t) st =
+      silent_stands g frames grants memory devices m (Entered (entry.Told dom t) ∷ []) (λ s. record { owns = refl; sets = refl }) (λ q. refl) (tt, tt) (tt, tt) st
 
   -- the access of a step found no room
   access_cause : (devices : List DeviceSetup) (dom : DomId) (gref : GrantRef) (p k : Plan Owned) (a : Access) (stop : Stop) (m : List Item) (es : List Entry) → Goes p a k → IsHistory frames grants devices (m ++ front_access a ∷ []) → IsAtLimit stop es → HasCauseAt frames grants devices dom gref p m [] es stop
@@ -149,37 +120,37 @@ module _ {W : Type 0} (word : W → Place → ℕ) (fs gs : W → ℕ → ℕ) (
   told_cause devices dom gref p a x t OutOfMemory m es g n h limit = tt
 
   -- what was entered of one step, and what the world stands for after it
-  pub turned : (memory : W) (device : Option Placed) (dom : DomId) (gref : GrantRef) (p q : Plan Owned) (a : Access) (o : Option Owned) (es grown : List Entry) (m : List Item) (r : Result Bool Stop) → Stands word fs gs frames grants memory device (m ++ front_access a ∷ []) → Turns p (Some a) o q → entries m ≡ es → EntersTurn dom gref (Some a) o es grown r → OwnsOn word fs gs frames grants memory device dom gref p q grown m r
-  turned memory device dom gref p q a None es grown m (Ok true) st t e r =
+  pub turned : (memory : W) (devices : List Placed) (dom : DomId) (gref : GrantRef) (p q : Plan Owned) (a : Access) (o : Option Owned) (es grown : List Entry) (m : List Item) (r : Result Bool Stop) → Stands g frames grants memory devices (m ++ front_access a ∷ []) → Turns p (Some a) o q → entries m ≡ es → EntersTurn dom gref (Some a) o es grown r → OwnsOn g frames grants memory devices dom gref p q grown m r
+  turned memory devices dom gref p q a None es grown m (Ok true) st t e r =
       (front_access a ∷ [], (a, q, refl, t.0, refl), t.1, st, entries_append m (front_access a ∷ []) ∙ (ap (λ (y : List Entry). y ++ entries (front_access a ∷ [])) e ∙ sym r.0))
-  turned memory device dom gref p q a (Some x) es grown m (Ok true) st t e r = let wrong : ⊥ = cc (r.1) in absurd wrong
-  turned memory device dom gref p q a None es grown m (Ok false) st t e r = let wrong : ⊥ = cc (r.1) in absurd wrong
-  turned memory device dom gref p q a (Some x) es grown m (Ok false) st t e r =
+  turned memory devices dom gref p q a (Some x) es grown m (Ok true) st t e r = let wrong : ⊥ = cc (r.1) in absurd wrong
+  turned memory devices dom gref p q a None es grown m (Ok false) st t e r = let wrong : ⊥ = cc (r.1) in absurd wrong
+  turned memory devices dom gref p q a (Some x) es grown m (Ok false) st t e r =
       let news : List Item = told_items dom (told_of gref x) in
       let here : List Item = (front_access a ∷ []) ++ news in
       let joined : (m ++ front_access a ∷ []) ++ news ≡ m ++ here = append_assoc m (front_access a ∷ []) news in (
         here,
         record { made = front_access a ∷ []; owned = x; leads = (a, Finished x, refl, t, refl); then_told = refl },
-        subst (λ (y : List Item). Stands word fs gs frames grants memory device y) joined (told_stands memory device (m ++ front_access a ∷ []) dom (told_of gref x) st),
+        subst (λ (y : List Item). Stands g frames grants memory devices y) joined (told_stands memory devices (m ++ front_access a ∷ []) dom (told_of gref x) st),
         entries_append m here ∙ (ap (λ (y : List Entry). y ++ entries here) e ∙ (ap (λ (y : List Entry). es ++ y) (entries_append (front_access a ∷ []) news) ∙ sym r.0)),
       )
-  turned memory device dom gref p q a o es grown m (Err stop) st t e (inl r) =
+  turned memory devices dom gref p q a o es grown m (Err stop) st t e (inl r) =
       let g = goes_of p q a o t in
       record {
         part = [];
         of = record { left = p; leads = refl };
-        so_far = subst (λ (y : List Item). IsHistory frames grants (setups device) y) (sym (append-nil m)) (history_front frames grants (setups device) m (front_access a ∷ []) st.so_far);
+        so_far = subst (λ (y : List Item). IsHistory frames grants (setups devices) y) (sym (append-nil m)) (history_front frames grants (setups devices) m (front_access a ∷ []) st.so_far);
         entered = ap entries (append-nil m) ∙ (e ∙ sym r.0);
-        cause = access_cause (setups device) dom gref p g.0 a stop m grown g.1 st.so_far r.1;
+        cause = access_cause (setups devices) dom gref p g.0 a stop m grown g.1 st.so_far r.1;
       }
-  turned memory device dom gref p q a None es grown m (Err stop) st t e (inr r) = let wrong : ⊥ = cc (r.1) in absurd wrong
-  turned memory device dom gref p q a (Some x) es grown m (Err stop) st t e (inr r) =
+  turned memory devices dom gref p q a None es grown m (Err stop) st t e (inr r) = let wrong : ⊥ = cc (r.1) in absurd wrong
+  turned memory devices dom gref p q a (Some x) es grown m (Err stop) st t e (inr r) =
       record {
         part = front_access a ∷ [];
         of = record { left = Finished x; leads = (a, Finished x, refl, t, refl) };
         so_far = st.so_far;
         entered = entries_append m (front_access a ∷ []) ∙ (ap (λ (y : List Entry). y ++ entries (front_access a ∷ [])) e ∙ sym r.2);
-        cause = told_cause (setups device) dom gref p a x r.0 stop m grown t r.1 st.so_far r.3;
+        cause = told_cause (setups devices) dom gref p a x r.0 stop m grown t r.1 st.so_far r.3;
       }
 
   -- one that was stopped later
@@ -198,29 +169,29 @@ module _ {W : Type 0} (word : W → Place → ℕ) (fs gs : W → ℕ → ℕ) (
   later_cause devices dom gref p q OutOfMemory m here part es leads h = tt
 
   -- a step after the steps so far
-  pub owns_on : (memory later : W) (device then : Option Placed) (dom : DomId) (gref : GrantRef) (p q r : Plan Owned) (es new : List Entry) (m : List Item) → OwnsOn word fs gs frames grants memory device dom gref p q es m (Ok true) → ((n : List Item) → Stands word fs gs frames grants memory device n → entries n ≡ es → OwnsOn word fs gs frames grants later then dom gref q r new n (Ok true)) → OwnsOn word fs gs frames grants later then dom gref p r new m (Ok true)
-  owns_on memory later device then dom gref p q r es new m a f =
+  pub owns_on : (memory later : W) (devices then : List Placed) (dom : DomId) (gref : GrantRef) (p q r : Plan Owned) (es new : List Entry) (m : List Item) → OwnsOn g frames grants memory devices dom gref p q es m (Ok true) → ((n : List Item) → Stands g frames grants memory devices n → entries n ≡ es → OwnsOn g frames grants later then dom gref q r new n (Ok true)) → OwnsOn g frames grants later then dom gref p r new m (Ok true)
+  owns_on memory later devices then dom gref p q r es new m a f =
       let b = f (m ++ a.0) a.3 a.4 in
       let joined : (m ++ a.0) ++ b.0 ≡ m ++ (a.0 ++ b.0) = append_assoc m a.0 b.0 in (
         a.0 ++ b.0,
         leads_append p q r a.0 b.0 a.1 b.1,
         b.2,
-        subst (λ (x : List Item). Stands word fs gs frames grants later then x) joined b.3,
+        subst (λ (x : List Item). Stands g frames grants later then x) joined b.3,
         subst (λ (x : List Item). entries x ≡ new) joined b.4,
       )
 
-  pub owns_all : {A : Type 0} (x : A) (memory later : W) (device then : Option Placed) (dom : DomId) (gref : GrantRef) (p q r : Plan Owned) (es new : List Entry) (m : List Item) → OwnsOn word fs gs frames grants memory device dom gref p q es m (Ok true) → ((n : List Item) → Stands word fs gs frames grants memory device n → entries n ≡ es → OwnsOn word fs gs frames grants later then dom gref q r new n (Ok false)) → Owns word fs gs frames grants later then dom gref p new m (Ok x)
-  owns_all x memory later device then dom gref p q r es new m a f =
+  pub owns_all : {A : Type 0} (x : A) (memory later : W) (devices then : List Placed) (dom : DomId) (gref : GrantRef) (p q r : Plan Owned) (es new : List Entry) (m : List Item) → OwnsOn g frames grants memory devices dom gref p q es m (Ok true) → ((n : List Item) → Stands g frames grants memory devices n → entries n ≡ es → OwnsOn g frames grants later then dom gref q r new n (Ok false)) → Owns g frames grants later then dom gref p new m (Ok x)
+  owns_all x memory later devices then dom gref p q r es new m a f =
       let b = f (m ++ a.0) a.3 a.4 in
       let joined : (m ++ a.0) ++ b.0 ≡ m ++ (a.0 ++ b.0) = append_assoc m a.0 b.0 in (
         a.0 ++ b.0,
         done_after dom gref p q a.0 b.0 a.1 b.1,
-        subst (λ (y : List Item). Stands word fs gs frames grants later then y) joined b.2,
+        subst (λ (y : List Item). Stands g frames grants later then y) joined b.2,
         subst (λ (y : List Item). entries y ≡ new) joined b.3,
       )
 
-  pub owns_stopped : (memory later : W) (device then : Option Placed) (dom : DomId) (gref : GrantRef) (p q r : Plan Owned) (es new : List Entry) (m : List Item) (stop : Stop) → OwnsOn word fs gs frames grants memory device dom gref p q es m (Ok true) → ((n : List Item) → Stands word fs gs frames grants memory device n → entries n ≡ es → OwnsOn word fs gs frames grants later then dom gref q r new n (Err stop)) → StopsOwning frames grants (setups then) dom gref p stop m new
-  owns_stopped memory later device then dom gref p q r es new m stop a f =
+  pub owns_stopped : (memory later : W) (devices then : List Placed) (dom : DomId) (gref : GrantRef) (p q r : Plan Owned) (es new : List Entry) (m : List Item) (stop : Stop) → OwnsOn g frames grants memory devices dom gref p q es m (Ok true) → ((n : List Item) → Stands g frames grants memory devices n → entries n ≡ es → OwnsOn g frames grants later then dom gref q r new n (Err stop)) → StopsOwning frames grants (setups then) dom gref p stop m new
+  owns_stopped memory later devices then dom gref p q r es new m stop a f =
       let b = f (m ++ a.0) a.3 a.4 in
       let joined : (m ++ a.0) ++ b.part ≡ m ++ (a.0 ++ b.part) = append_assoc m a.0 b.part in
       record {
@@ -232,18 +203,15 @@ module _ {W : Type 0} (word : W → Place → ℕ) (fs gs : W → ℕ → ℕ) (
       }
 
   -- no step yet
-  pub owns_nothing : (memory : W) (device : Option Placed) (dom : DomId) (gref : GrantRef) (p : Plan Owned) (es : List Entry) (m : List Item) → IsUnfinished p → Stands word fs gs frames grants memory device m → entries m ≡ es → OwnsOn word fs gs frames grants memory device dom gref p p es m (Ok true)
-  owns_nothing memory device dom gref p es m live st e =
-      ([], refl, live, subst (λ (x : List Item). Stands word fs gs frames grants memory device x) (sym (append-nil m)) st, subst (λ (x : List Item). entries x ≡ es) (sym (append-nil m)) e)
+  pub owns_nothing : (memory : W) (devices : List Placed) (dom : DomId) (gref : GrantRef) (p : Plan Owned) (es : List Entry) (m : List Item) → IsUnfinished p → Stands g frames grants memory devices m → entries m ≡ es → OwnsOn g frames grants memory devices dom gref p p es m (Ok true)
+  owns_nothing memory devices dom gref p es m live st e =
+      ([], refl, live, subst (λ (x : List Item). Stands g frames grants memory devices x) (sym (append-nil m)) st, subst (λ (x : List Item). entries x ≡ es) (sym (append-nil m)) e)
 
-  -- a step of the world
-  pub owned_turn : (makes : W → Access → W → Type 0)
-      (keeps_frames : (old : W) (a : Access) (new : W) → makes old a new → (d : ℕ) → fs new d ≡ fs old d)
-      (keeps_grants : (old : W) (a : Access) (new : W) → makes old a new → (d : ℕ) → gs new d ≡ gs old d)
-      (remembers : (old : W) (a : Access) (new : W) → makes old a new → Answers (fs old) (gs old) (word old) a (word new))
-      (old new : W) (device : Option Placed) (dom : DomId) (gref : GrantRef) (p q : Plan Owned) (x : Option Access) (o : Option Owned) (es grown : List Entry) (m : List Item) (r : Result Bool Stop) → KeepsToEntry dom.0 gref.0 p → gref.0 < gs old dom.0 → Stands word fs gs frames grants old device m → Makes makes old x new → Turns p x o q → entries m ≡ es → EntersTurn dom gref x o es grown r → OwnsOn word fs gs frames grants new device dom gref p q grown m r
-  owned_turn makes keeps_frames keeps_grants remembers old new device dom gref p q None o es grown m r keeps range st made t e enters = absurd t
-  owned_turn makes keeps_frames keeps_grants remembers old new device dom gref p q (Some a) o es grown m r keeps range st made t e enters =
-      let g = goes_of p q a o t in
-      let there : InRange (fs old) (gs old) (place_of a) = goes_in_range (fs old) (gs old) dom.0 gref.0 p g.0 a keeps range g.1 in
-      turned new device dom gref p q a o es grown m r (front_stands frames grants word fs gs makes keeps_frames keeps_grants remembers old new device m a there made st) t e enters
+  -- a step of the world, once the port is the domain's
+  pub owned_turn : (makes : W → Access → W → Type 0) (b : Behaves g makes)
+      (old new : W) (devices : List Placed) (dom : DomId) (gref : GrantRef) (p q : Plan Owned) (x : Option Access) (o : Option Owned) (es grown : List Entry) (m : List Item) (r : Result Bool Stop) → KeepsToEntry dom.0 gref.0 p → gref.0 < grants dom.0 → (g.port old).device ≡ None → Stands g frames grants old devices m → Makes makes old x new → Turns p x o q → entries m ≡ es → EntersTurn dom gref x o es grown r → OwnsOn g frames grants new devices dom gref p q grown m r
+  owned_turn makes b old new devices dom gref p q None o es grown m r keeps range own st made t e enters = absurd t
+  owned_turn makes b old new devices dom gref p q (Some a) o es grown m r keeps range own st made t e enters =
+      let goes = goes_of p q a o t in
+      let there : InRange frames grants (place_of a) = goes_in_range frames grants dom.0 gref.0 p goes.0 a keeps range goes.1 in
+      turned new devices dom gref p q a o es grown m r (front_stands g frames grants makes b old new devices m a own there made st) t e enters

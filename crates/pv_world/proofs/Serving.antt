@@ -1,88 +1,171 @@
 -- From single steps to a device that is served.
-use Rattle.std.proofs.Common.{◌≡◌, ℕ, Bool, true, false, List, [], ◌∷◌, ◌++◌, Option, Some, Result, Ok, Err, sym, subst, ◌∙◌, ap, append_assoc}
+use Rattle.std.proofs.Common.{◌≡◌, ◌≢◌, ℕ, nat_eq, ◌+◌, ◌<◌, ◌≤◌, inl, inr, Bool, true, false, List, [], ◌∷◌, ◌++◌, Option, Some, None, Result, Ok, Err, sym, subst, ◌∙◌, ap, append_assoc, refl, arith}
+use Rattle.std.proofs.lemmas.Bool.Decides.{nat_tests}
 use Rattle.std.proofs.lemmas.List.{append-nil}
+use Rattle.std.specs.Option.{option_eq}
 use Rattle.pv_words.specs.declared.access.Access.{Access}
 use Rattle.pv_words.specs.declared.entry.Entry.{Entry}
 use Rattle.pv_words.specs.declared.journal.Stop.{Stop}
 use Rattle.pv_words.specs.declared.journal.Stop.TheVariants.{JournalFull, OutOfMemory}
-use Rattle.pv_words.specs.declared.place.Place.{Place}
+use Rattle.pv_words.specs.declared.place.DevId.{DevId}
 use Rattle.pv_words.specs.declared.device.Said.{Said}
 use Rattle.pv_words.specs.declared.setup.DeviceSetup.{DeviceSetup}
 use Rattle.pv_world.specs.declared.world.Placed.{Placed}
-use Rattle.pv_world.specs.Marked.{Item, Entered, Idle, entries, items_of, IsStepOf, AreSteps}
-use Rattle.pv_world.specs.Record.{Records, IsAtLimit}
+use Rattle.pv_world.specs.Marked.{Item, Entered, Idle, entries, items_of, accesses_in, IsStepOf, AreSteps}
+use Rattle.pv_world.specs.Record.{Records, IsAtLimit, progress}
 use Rattle.pv_world.specs.History.{IsHistory}
-use Rattle.pv_world.specs.World.{Stands, StopsIn, HasCause, Advanced, Served}
-use Rattle.pv_world.proofs.Items.{entries_append, busy_steps, idle_mark, front_steps, steps_append}
-use Rattle.pv_world.proofs.Extends.{history_front}
+use Rattle.pv_world.specs.World.{Sight, Stands, StopsIn, HasCause, AtMost, Advanced, SteppedBy, setups}
+use Rattle.pv_world.proofs.Items.{entries_append, busy_steps, idle_mark, one_access, no_access, most_one, front_steps, steps_append, counts_append}
+use Rattle.pv_world.proofs.Histories.{history_front}
 
-module _ {W : Type 0} (word : W → Place → ℕ) (fs gs : W → ℕ → ℕ) (frames grants : ℕ → ℕ) where
-  cause_of : (s : DeviceSetup) (stop : Stop) (m : List Item) (due : Entry) (rest : List Item) (es : List Entry) → IsStepOf s.dev.0 due → IsHistory frames grants (s ∷ []) (m ++ Entered due ∷ rest) → IsAtLimit stop es → HasCause frames grants (s ∷ []) s.dev.0 m es stop
-  cause_of s JournalFull m due rest es of h limit =
-      record { length_is = limit; due = due; of_device = of; goes_on = history_front frames grants (s ∷ []) (m ++ Entered due ∷ []) rest (subst (λ (x : List Item). IsHistory frames grants (s ∷ []) x) (sym (append_assoc m (Entered due ∷ []) rest)) h) }
-  cause_of s OutOfMemory m due rest es of h limit = tt
+-- a number that was asked for
+pub all_asked : (most : Option ℕ) (n : ℕ) → option_eq nat_eq most (Some n) ≡ true → most ≡ Some n
+all_asked None n e = let wrong : ⊥ = cc in absurd wrong
+all_asked (Some k) n e = let same : k ≡ n = grind (arith, nat_tests) in ap (λ x. Some x) same
+
+pub fewer_still : (most : Option ℕ) (made : ℕ) → ((n : ℕ) → most ≡ Some n → made < n) → option_eq nat_eq most (Some (made + 1)) ≡ false → (n : ℕ) → most ≡ Some n → made + 1 < n
+fewer_still None made f e n h = let wrong : ⊥ = cc in absurd wrong
+fewer_still (Some k) made f e n h =
+    let l = f k refl in
+    let same : k ≡ n = cc in
+    let apart : k ≢ made + 1 = grind (arith, nat_tests) in
+    omega (arith, l, same, apart)
+
+module _ {W : Type 0} (g : Sight W) (frames grants : ℕ → ℕ) where
+  cause_of : (devices : List DeviceSetup) (d : ℕ) (most : Option ℕ) (stop : Stop) (m here : List Item) (due : Entry) (rest : List Item) (es : List Entry) → IsStepOf d due → IsHistory frames grants devices ((m ++ here) ++ Entered due ∷ rest) → AtMost most (accesses_in (here ++ Entered due ∷ [])) → IsAtLimit stop es → HasCause frames grants devices d most m here es stop
+  cause_of devices d most JournalFull m here due rest es of h within limit =
+      record {
+        length_is = limit;
+        due = due;
+        of_device = of;
+        goes_on = history_front frames grants devices ((m ++ here) ++ Entered due ∷ []) rest (subst (λ (x : List Item). IsHistory frames grants devices x) (sym (append_assoc (m ++ here) (Entered due ∷ []) rest)) h);
+        within = within;
+      }
+  cause_of devices d most OutOfMemory m here due rest es of h within limit = tt
 
   -- what was entered of a step, and what the world stands for after it
-  pub recorded : (memory : W) (p : Placed) (a : Option Access) (s : Option Said) (old new : List Entry) (m : List Item) (result : Result Bool Stop) → Stands word fs gs frames grants memory (Some p) (m ++ items_of p.setup.dev a s) → entries m ≡ old → Records (items_of p.setup.dev a s) old new result → Advanced word fs gs frames grants memory p new m result
-  recorded memory p a s old new m (Ok true) st e r =
-      let items : List Item = items_of p.setup.dev a s in
-      (items, busy_steps p.setup.dev a s (sym r.1), st, entries_append m items ∙ (ap (λ (x : List Entry). x ++ entries items) e ∙ sym r.0))
-  recorded memory p a s old new m (Ok false) st e r =
-      let items : List Item = items_of p.setup.dev a s in
-      let mark : items ≡ Idle p.setup.dev.0 ∷ [] = idle_mark p.setup.dev a s (sym r.1) in (
-        subst (λ (x : List Item). Stands word fs gs frames grants memory (Some p) (m ++ x)) mark st,
-        subst (λ (x : List Item). entries (m ++ x) ≡ new) mark (entries_append m items ∙ (ap (λ (x : List Entry). x ++ entries items) e ∙ sym r.0)),
-      )
-  recorded memory p a s old new m (Err stop) st e r =
-      let whole : m ++ items_of p.setup.dev a s ≡ (m ++ r.done) ++ Entered r.due ∷ r.rest = ap (λ (x : List Item). m ++ x) r.split ∙ sym (append_assoc m r.done (Entered r.due ∷ r.rest)) in
-      let h : IsHistory frames grants (p.setup ∷ []) ((m ++ r.done) ++ Entered r.due ∷ r.rest) = subst (λ (x : List Item). IsHistory frames grants (p.setup ∷ []) x) whole st.so_far in
-      let steps = front_steps p.setup.dev a s r.done r.due r.rest r.split in
+  pub recorded : (memory : W) (devices : List Placed) (dev : DevId) (a : Option Access) (s : Option Said) (old new : List Entry) (m : List Item) (result : Result (Option Bool) Stop) → Stands g frames grants memory devices (m ++ items_of dev a s) → entries m ≡ old → Records (items_of dev a s) a s old new result → Advanced g frames grants memory devices dev new m result
+  recorded memory devices dev a s old new m (Ok did) st e r =
+      (a, s, r.1, st, entries_append m (items_of dev a s) ∙ (ap (λ (x : List Entry). x ++ entries (items_of dev a s)) e ∙ sym r.0))
+  recorded memory devices dev a s old new m (Err stop) st e r =
+      let whole : m ++ items_of dev a s ≡ (m ++ r.done) ++ Entered r.due ∷ r.rest = ap (λ (x : List Item). m ++ x) r.split ∙ sym (append_assoc m r.done (Entered r.due ∷ r.rest)) in
+      let h : IsHistory frames grants (setups devices) ((m ++ r.done) ++ Entered r.due ∷ r.rest) = subst (λ (x : List Item). IsHistory frames grants (setups devices) x) whole st.so_far in
+      let steps = front_steps dev a s r.done r.due r.rest r.split in
+      let parts = counts_append r.done (Entered r.due ∷ r.rest) in
+      let some = counts_append r.done (Entered r.due ∷ []) in
+      let all = ap accesses_in r.split in
+      let few = most_one dev a s in
       record {
         here = r.done;
         steps = steps.0;
-        so_far = history_front frames grants (p.setup ∷ []) (m ++ r.done) (Entered r.due ∷ r.rest) h;
+        within = omega (arith, parts, all, few);
+        so_far = history_front frames grants (setups devices) (m ++ r.done) (Entered r.due ∷ r.rest) h;
         entered = entries_append m r.done ∙ (ap (λ (x : List Entry). x ++ entries r.done) e ∙ sym r.entered);
-        cause = cause_of p.setup stop (m ++ r.done) r.due r.rest new steps.1 h r.limit;
+        cause = cause_of (setups devices) dev.0 (Some 1) stop m r.done r.due r.rest new steps.1 h (omega (arith, parts, some, all, few)) r.limit;
       }
 
-  -- steps of a device that were stopped, after some that weren't
-  stopped_later : (s : DeviceSetup) (stop : Stop) (m here : List Item) (es : List Entry) → AreSteps s.dev.0 here → StopsIn frames grants (s ∷ []) s.dev.0 stop (m ++ here) es → StopsIn frames grants (s ∷ []) s.dev.0 stop m es
-  stopped_later s stop m here es steps h =
-      let joined : (m ++ here) ++ h.here ≡ m ++ (here ++ h.here) = append_assoc m here h.here in
+  -- steps of a device, with so many accesses, led here
+  pub record HasStepped (memory : W) (devices : List Placed) (d made : ℕ) (es : List Entry) (m : List Item) : Type 0 where
+    pub here : List Item
+    pub steps : AreSteps d here
+    pub counted : accesses_in here ≡ made
+    pub stands : Stands g frames grants memory devices (m ++ here)
+    pub entered : entries (m ++ here) ≡ es
+
+  -- none yet
+  pub not_yet : (memory : W) (devices : List Placed) (d : ℕ) (es : List Entry) (m : List Item) → Stands g frames grants memory devices m → entries m ≡ es → HasStepped memory devices d 0 es m
+  not_yet memory devices d es m st e =
       record {
-        here = here ++ h.here;
-        steps = steps_append s.dev.0 here h.here steps h.steps;
-        so_far = subst (λ (x : List Item). IsHistory frames grants (s ∷ []) x) joined h.so_far;
-        entered = subst (λ (x : List Item). entries x ≡ es) joined h.entered;
-        cause = subst (λ (x : List Item). HasCause frames grants (s ∷ []) s.dev.0 x es stop) joined h.cause;
+        here = [];
+        steps = tt;
+        counted = refl;
+        stands = subst (λ (x : List Item). Stands g frames grants memory devices x) (sym (append-nil m)) st;
+        entered = ap entries (append-nil m) ∙ e;
       }
 
-  -- a step after the steps so far
-  pub goes_on : (memory later : W) (p q : Placed) (es fs' : List Entry) (m : List Item) → p.setup ≡ q.setup → Advanced word fs gs frames grants memory p es m (Ok true) → ((n : List Item) → Stands word fs gs frames grants memory (Some p) n → entries n ≡ es → Advanced word fs gs frames grants later q fs' n (Ok true)) → Advanced word fs gs frames grants later q fs' m (Ok true)
-  goes_on memory later p q es new m same a f =
-      let b = f (m ++ a.0) a.2 a.3 in
-      let joined : (m ++ a.0) ++ b.0 ≡ m ++ (a.0 ++ b.0) = append_assoc m a.0 b.0 in (
-        a.0 ++ b.0,
-        steps_append q.setup.dev.0 a.0 b.0 (subst (λ (x : DeviceSetup). AreSteps x.dev.0 a.0) same a.1) b.1,
-        subst (λ (x : List Item). Stands word fs gs frames grants later (Some q) x) joined b.2,
-        subst (λ (x : List Item). entries x ≡ new) joined b.3,
+  -- one step more
+  stepped_more : (later : W) (devices then : List Placed) (memory : W) (dev : DevId) (made : ℕ) (b : Bool) (es new : List Entry) (m : List Item) (h : HasStepped memory devices dev.0 made es m) (a : Option Access) (s : Option Said) (n : ℕ) → Some b ≡ progress a s → accesses_in (items_of dev a s) ≡ n → Stands g frames grants later then ((m ++ h.here) ++ items_of dev a s) → entries ((m ++ h.here) ++ items_of dev a s) ≡ new → HasStepped later then dev.0 (made + n) new m
+  stepped_more later devices then memory dev made b es new m h a s n p counts st e =
+      let joined : (m ++ h.here) ++ items_of dev a s ≡ m ++ (h.here ++ items_of dev a s) = append_assoc m h.here (items_of dev a s) in
+      let sum = counts_append h.here (items_of dev a s) in
+      let so_far = h.counted in
+      record {
+        here = h.here ++ items_of dev a s;
+        steps = steps_append dev.0 h.here (items_of dev a s) h.steps (busy_steps dev a s b p);
+        counted = omega (arith, sum, so_far, counts);
+        stands = subst (λ (x : List Item). Stands g frames grants later then x) joined st;
+        entered = subst (λ (x : List Item). entries x ≡ new) joined e;
+      }
+
+  pub accessed : (memory later : W) (devices then : List Placed) (dev : DevId) (made : ℕ) (es new : List Entry) (m : List Item) → HasStepped memory devices dev.0 made es m → ((n : List Item) → Stands g frames grants memory devices n → entries n ≡ es → Advanced g frames grants later then dev new n (Ok (Some true))) → HasStepped later then dev.0 (made + 1) new m
+  accessed memory later devices then dev made es new m h f =
+      let x = f (m ++ h.here) h.stands h.entered in
+      stepped_more later devices then memory dev made true es new m h x.0 x.1 1 x.2 (one_access dev x.0 x.1 x.2).2 x.3 x.4
+
+  pub said_more : (memory later : W) (devices then : List Placed) (dev : DevId) (made : ℕ) (es new : List Entry) (m : List Item) → HasStepped memory devices dev.0 made es m → ((n : List Item) → Stands g frames grants memory devices n → entries n ≡ es → Advanced g frames grants later then dev new n (Ok (Some false))) → HasStepped later then dev.0 made new m
+  said_more memory later devices then dev made es new m h f =
+      let x = f (m ++ h.here) h.stands h.entered in
+      let y = stepped_more later devices then memory dev made false es new m h x.0 x.1 0 x.2 (no_access dev x.0 x.1 x.2) x.3 x.4 in
+      let same : made + 0 ≡ made = omega arith in
+      subst (λ n. HasStepped later then dev.0 n new m) same y
+
+  -- the device came to rest
+  pub rested : {A : Type 0} (u : A) (memory later : W) (devices then : List Placed) (dev : DevId) (most : Option ℕ) (made : ℕ) (es new : List Entry) (m : List Item) → ((n : ℕ) → most ≡ Some n → made < n) → HasStepped memory devices dev.0 made es m → ((n : List Item) → Stands g frames grants memory devices n → entries n ≡ es → Advanced g frames grants later then dev new n (Ok None)) → SteppedBy g frames grants later then dev most new m (Ok u)
+  rested u memory later devices then dev most made es new m fewer h f =
+      let x = f (m ++ h.here) h.stands h.entered in
+      let mark = idle_mark dev x.0 x.1 x.2 in
+      let joined : (m ++ h.here) ++ items_of dev x.0 x.1 ≡ m ++ (h.here ++ Idle dev.0 ∷ []) = append_assoc m h.here (items_of dev x.0 x.1) ∙ ap (λ (y : List Item). m ++ (h.here ++ y)) mark in (
+        h.here ++ Idle dev.0 ∷ [],
+        inl (record { steps = h.here; are_steps = h.steps; rests = refl; fewer = λ n e. subst (λ k. k < n) (sym h.counted) (fewer n e) }),
+        subst (λ (y : List Item). Stands g frames grants later then y) joined x.3,
+        subst (λ (y : List Item). entries y ≡ new) joined x.4,
       )
 
-  pub comes_to_rest : {A : Type 0} (x : A) (memory later : W) (p q : Placed) (es new : List Entry) (m : List Item) → p.setup ≡ q.setup → Advanced word fs gs frames grants memory p es m (Ok true) → ((n : List Item) → Stands word fs gs frames grants memory (Some p) n → entries n ≡ es → Advanced word fs gs frames grants later q new n (Ok false)) → Served word fs gs frames grants later q new m (Ok x)
-  comes_to_rest x memory later p q es new m same a f =
-      let b = f (m ++ a.0) a.2 a.3 in
-      let joined : (m ++ a.0) ++ Idle q.setup.dev.0 ∷ [] ≡ m ++ (a.0 ++ Idle q.setup.dev.0 ∷ []) = append_assoc m a.0 (Idle q.setup.dev.0 ∷ []) in (
-        a.0,
-        subst (λ (y : DeviceSetup). AreSteps y.dev.0 a.0) same a.1,
-        subst (λ (y : List Item). Stands word fs gs frames grants later (Some q) y) joined b.0,
-        subst (λ (y : List Item). entries y ≡ new) joined b.1,
+  -- it made all accesses that were asked for
+  pub made_all : {A : Type 0} (u : A) (memory later : W) (devices then : List Placed) (dev : DevId) (most : Option ℕ) (made : ℕ) (es new : List Entry) (m : List Item) → most ≡ Some (made + 1) → HasStepped memory devices dev.0 made es m → ((n : List Item) → Stands g frames grants memory devices n → entries n ≡ es → Advanced g frames grants later then dev new n (Ok (Some true))) → SteppedBy g frames grants later then dev most new m (Ok u)
+  made_all u memory later devices then dev most made es new m all h f =
+      let x = f (m ++ h.here) h.stands h.entered in
+      let one = one_access dev x.0 x.1 x.2 in
+      let joined : (m ++ h.here) ++ items_of dev x.0 x.1 ≡ m ++ (h.here ++ items_of dev (Some one.0) x.1) = append_assoc m h.here (items_of dev x.0 x.1) ∙ ap (λ (y : Option Access). m ++ (h.here ++ items_of dev y x.1)) one.1 in (
+        h.here ++ items_of dev (Some one.0) x.1,
+        inr (record { steps = h.here; last = one.0; said = x.1; are_steps = h.steps; ends = refl; all = all ∙ ap (λ n. Some (n + 1)) (sym h.counted) }),
+        subst (λ (y : List Item). Stands g frames grants later then y) joined x.3,
+        subst (λ (y : List Item). entries y ≡ new) joined x.4,
       )
 
-  pub is_stopped : (memory later : W) (p q : Placed) (es new : List Entry) (m : List Item) (stop : Stop) → p.setup ≡ q.setup → Advanced word fs gs frames grants memory p es m (Ok true) → ((n : List Item) → Stands word fs gs frames grants memory (Some p) n → entries n ≡ es → Advanced word fs gs frames grants later q new n (Err stop)) → StopsIn frames grants (q.setup ∷ []) q.setup.dev.0 stop m new
-  is_stopped memory later p q es new m stop same a f =
-      stopped_later q.setup stop m a.0 new (subst (λ (x : DeviceSetup). AreSteps x.dev.0 a.0) same a.1) (f (m ++ a.0) a.2 a.3)
+  within_most : (most : Option ℕ) (n k : ℕ) → ((j : ℕ) → most ≡ Some j → n < j) → k ≤ n + 1 → AtMost most k
+  within_most None n k f h = tt
+  within_most (Some j) n k f h = let l = f j refl in omega (arith, l, h)
 
-  -- no step yet
-  pub not_yet : (memory : W) (p : Placed) (es : List Entry) (m : List Item) → Stands word fs gs frames grants memory (Some p) m → entries m ≡ es → Advanced word fs gs frames grants memory p es m (Ok true)
-  not_yet memory p es m st e =
-      ([], tt, subst (λ (x : List Item). Stands word fs gs frames grants memory (Some p) x) (sym (append-nil m)) st, subst (λ (x : List Item). entries x ≡ es) (sym (append-nil m)) e)
+  -- the cause of the last step is one of all
+  stopped_cause : (devices : List DeviceSetup) (d : ℕ) (most : Option ℕ) (made : ℕ) (stop : Stop) (m first here : List Item) (es : List Entry) → ((n : ℕ) → most ≡ Some n → made < n) → accesses_in first ≡ made → HasCause frames grants devices d (Some 1) (m ++ first) here es stop → HasCause frames grants devices d most m (first ++ here) es stop
+  stopped_cause devices d most made JournalFull m first here es fewer counted h =
+      let more : List Item = here ++ Entered h.due ∷ [] in
+      let one = h.within in
+      let sum = counts_append first more in
+      let joined : (first ++ here) ++ Entered h.due ∷ [] ≡ first ++ more = append_assoc first here (Entered h.due ∷ []) in
+      record {
+        length_is = h.length_is;
+        due = h.due;
+        of_device = h.of_device;
+        goes_on = subst (λ (x : List Item). IsHistory frames grants devices (x ++ Entered h.due ∷ [])) (append_assoc m first here) h.goes_on;
+        within = subst (λ (x : List Item). AtMost most (accesses_in x)) (sym joined) (within_most most made (accesses_in (first ++ more)) fewer (omega (arith, sum, counted, one)));
+      }
+  stopped_cause devices d most made OutOfMemory m first here es fewer counted h = tt
+
+  -- it was stopped, after some steps that weren't
+  pub stopped : (memory : W) (devices then : List Placed) (dev : DevId) (most : Option ℕ) (made : ℕ) (stop : Stop) (es new : List Entry) (m : List Item) → ((n : ℕ) → most ≡ Some n → made < n) → HasStepped memory devices dev.0 made es m → ((n : List Item) → Stands g frames grants memory devices n → entries n ≡ es → StopsIn frames grants (setups then) dev.0 (Some 1) stop n new) → StopsIn frames grants (setups then) dev.0 most stop m new
+  stopped memory devices then dev most made stop es new m fewer h f =
+      let x = f (m ++ h.here) h.stands h.entered in
+      let joined : (m ++ h.here) ++ x.here ≡ m ++ (h.here ++ x.here) = append_assoc m h.here x.here in
+      let sum = counts_append h.here x.here in
+      let so_far = h.counted in
+      let one = x.within in
+      record {
+        here = h.here ++ x.here;
+        steps = steps_append dev.0 h.here x.here h.steps x.steps;
+        within = within_most most made (accesses_in (h.here ++ x.here)) fewer (omega (arith, sum, so_far, one));
+        so_far = subst (λ (y : List Item). IsHistory frames grants (setups then) y) joined x.so_far;
+        entered = subst (λ (y : List Item). entries y ≡ new) joined x.entered;
+        cause = stopped_cause (setups then) dev.0 most made stop m h.here x.here new fewer h.counted x.cause;
+      }

@@ -1,5 +1,5 @@
 -- A journal with marks where a device was idle.
-use Rattle.std.specs.Prelude.{◌≡◌, ℕ, ◌==◌, List, [], ◌∷◌, ◌++◌, Option, Some, None, if◌then◌else◌}
+use Rattle.std.specs.Prelude.{◌≡◌, ℕ, ◌==◌, ◌+◌, Bool, true, false, List, [], ◌∷◌, ◌++◌, Option, Some, None, if◌then◌else◌}
 use Rattle.pv_words.specs.declared.access.Access.{Access}
 use Rattle.pv_words.specs.declared.entry.Entry.{Entry}
 use Rattle.pv_words.specs.declared.entry.Entry.TheVariants as entry
@@ -7,7 +7,10 @@ use Rattle.pv_words.specs.declared.entry.End.TheVariants as end
 use Rattle.pv_words.specs.declared.place.DevId.{DevId}
 use Rattle.pv_words.specs.declared.device.Said.{Said}
 use Rattle.pv_words.specs.declared.device.Said.TheVariants as said
-use Rattle.link_core.specs.Order.{Own, Did, Spoke, Rested}
+use Rattle.pv_words.specs.declared.device.NodeValue.{NodeValue}
+use Rattle.pv_words.specs.Along.{after}
+use Rattle.link_core.specs.Order.{Own, Did, Spoke, Rested, Heard}
+use Rattle.xenbus_states.specs.Nodes.{no_nodes, with_node}
 
 -- an entry, or a mark: the device of this number was stepped and was idle
 pub data Item : Type 0 where
@@ -20,27 +23,51 @@ entries [] = []
 entries (Entered e ∷ m) = e ∷ entries m
 entries (Idle d ∷ m) = entries m
 
--- what an entry tells of the device of this number: a state that it says is entered as a state of the bus
-abbrev pub told_by : ℕ → Entry → List Own
-told_by d (entry.Back dev a) = if dev.0 == d then Did a ∷ [] else []
-told_by d (entry.Said dev s) = if dev.0 == d then Spoke s ∷ [] else []
-told_by d (entry.Bus dev end.Back s) = if dev.0 == d then Spoke (said.State s) ∷ [] else []
-told_by d (entry.Bus dev end.Front s) = []
-told_by d (entry.Front dom a) = []
-told_by d (entry.Wake dev) = []
-told_by d (entry.Host dev e) = []
-told_by d (entry.Refused dev r) = []
-told_by d (entry.Node dev p k v) = []
-told_by d (entry.Told dom t) = []
+-- the nodes of the device of this number, after one more entry
+abbrev pub node_set : ℕ → List NodeValue → Entry → List NodeValue
+node_set d nodes (entry.Node dev part key v) = if dev.0 == d then with_node nodes part key v else nodes
+node_set d nodes (entry.Back dev a) = nodes
+node_set d nodes (entry.Said dev s) = nodes
+node_set d nodes (entry.Bus dev end s) = nodes
+node_set d nodes (entry.Front dom a) = nodes
+node_set d nodes (entry.Wake dev) = nodes
+node_set d nodes (entry.Host dev e) = nodes
+node_set d nodes (entry.Refused dev r) = nodes
+node_set d nodes (entry.Told dom t) = nodes
 
-abbrev pub told_in : ℕ → Item → List Own
-told_in d (Entered e) = told_by d e
-told_in d (Idle dev) = if dev == d then Rested ∷ [] else []
+abbrev pub nodes_next : ℕ → List NodeValue → Item → List NodeValue
+nodes_next d nodes (Entered e) = node_set d nodes e
+nodes_next d nodes (Idle dev) = nodes
 
--- what the device of this number does, in order
+-- the nodes as they were set in the journal
+abbrev pub nodes_in : ℕ → List Item → List NodeValue
+nodes_in d m = after (nodes_next d) no_nodes m
+
+-- What an entry tells of the device of this number, while its nodes stand so: a state that it says is entered as a state
+-- of the bus, and one that its frontend sets is heard.
+abbrev pub told_by : ℕ → List NodeValue → Entry → List Own
+told_by d nodes (entry.Back dev a) = if dev.0 == d then Did a ∷ [] else []
+told_by d nodes (entry.Said dev s) = if dev.0 == d then Spoke s ∷ [] else []
+told_by d nodes (entry.Bus dev end.Back s) = if dev.0 == d then Spoke (said.State s) ∷ [] else []
+told_by d nodes (entry.Bus dev end.Front s) = if dev.0 == d then Heard s nodes ∷ [] else []
+told_by d nodes (entry.Front dom a) = []
+told_by d nodes (entry.Wake dev) = []
+told_by d nodes (entry.Host dev e) = []
+told_by d nodes (entry.Refused dev r) = []
+told_by d nodes (entry.Node dev p k v) = []
+told_by d nodes (entry.Told dom t) = []
+
+abbrev pub told_in : ℕ → List NodeValue → Item → List Own
+told_in d nodes (Entered e) = told_by d nodes e
+told_in d nodes (Idle dev) = if dev == d then Rested ∷ [] else []
+
+-- what the device of this number does and hears, in order
+abbrev pub own_from : ℕ → List NodeValue → List Item → List Own
+own_from d nodes [] = []
+own_from d nodes (i ∷ m) = told_in d nodes i ++ own_from d (nodes_next d nodes i) m
+
 abbrev pub own : ℕ → List Item → List Own
-own d [] = []
-own d (i ∷ m) = told_in d i ++ own d m
+own d m = own_from d no_nodes m
 
 -- how what a device says is entered
 abbrev pub entry_of : DevId → Said → Entry
@@ -82,3 +109,21 @@ abbrev pub AreSteps : ℕ → List Item → Type 0
 AreSteps d [] = Unit {0}
 AreSteps d (Entered e ∷ m) = IsStepOf d e × AreSteps d m
 AreSteps d (Idle dev ∷ m) = ⊥
+
+-- an access of the device
+abbrev pub is_access : Item → Bool
+is_access (Entered (entry.Back dev a)) = true
+is_access (Entered (entry.Said dev s)) = false
+is_access (Entered (entry.Bus dev end s)) = false
+is_access (Entered (entry.Front dom a)) = false
+is_access (Entered (entry.Wake dev)) = false
+is_access (Entered (entry.Host dev e)) = false
+is_access (Entered (entry.Refused dev r)) = false
+is_access (Entered (entry.Node dev p k v)) = false
+is_access (Entered (entry.Told dom t)) = false
+is_access (Idle dev) = false
+
+-- how many accesses of devices there are
+abbrev pub accesses_in : List Item → ℕ
+accesses_in [] = 0
+accesses_in (i ∷ m) = (if is_access i then 1 else 0) + accesses_in m

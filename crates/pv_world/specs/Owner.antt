@@ -10,10 +10,10 @@ use Rattle.pv_words.specs.declared.journal.Stop.TheVariants.{JournalFull, OutOfM
 use Rattle.pv_words.specs.declared.place.DomId.{DomId}
 use Rattle.pv_words.specs.declared.place.GrantRef.{GrantRef}
 use Rattle.pv_words.specs.declared.place.Half.{Half}
-use Rattle.pv_words.specs.declared.place.Place.{Place}
 use Rattle.pv_words.specs.declared.place.Place.TheVariants.{Grant}
 use Rattle.pv_words.specs.declared.setup.DeviceSetup.{DeviceSetup}
 use Rattle.pv_words.specs.Plan.{Plan, Finished, Want, Note, Fits, Goes, IsUnfinished, aim_of}
+use Rattle.pv_words.specs.Port as port
 use Rattle.grant_table.specs.declared.owner.Owned.{Owned}
 use Rattle.grant_table.specs.declared.owner.Owned.TheVariants as owned
 use Rattle.grant_table.specs.OwnerLeft.{permit_left, end_left}
@@ -23,16 +23,17 @@ use Rattle.pv_world.specs.declared.world.Placed.{Placed}
 use Rattle.pv_world.specs.Marked.{Item, Entered, entries}
 use Rattle.pv_world.specs.History.{IsHistory}
 use Rattle.pv_world.specs.Record.{IsAtLimit}
-use Rattle.pv_world.specs.World.{Stands, front_access, setups}
+use Rattle.pv_world.specs.World.{Sight, Stands, front_access, setups}
 
 -- what is left of a permit or an end
 abbrev pub left_of : Owning → Plan Owned
 left_of (owning.Permits o) = permit_left o
 left_of (owning.Ends o) = end_left o
 
--- an access to the entry
+-- a load, store or exchange of the entry by its domain
 abbrev pub OnEntry : (dom gref : ℕ) → Want → Note → Type 0
-OnEntry dom gref want note = (h : Half) × (aim_of want ≡ Grant (record { 0 = dom }) (record { 0 = gref }) h)
+OnEntry dom gref want note =
+    ((h : Half) × (aim_of want ≡ Grant (record { 0 = dom }) (record { 0 = gref }) h)) × port.Owns dom want
 
 -- what the domain is told: nothing where the entry was opened
 abbrev pub told_of : GrantRef → Owned → Option Told
@@ -83,18 +84,18 @@ pub record StopsOwning (frames grants : ℕ → ℕ) (devices : List DeviceSetup
   pub cause : HasCauseAt frames grants devices dom gref plan m part es stop
 
 -- a permit or an end was made, or was stopped
-abbrev pub Owns : {W : Type 0} (word : W → Place → ℕ) (frames_of grants_of : W → ℕ → ℕ) (frames grants : ℕ → ℕ) (memory : W) (device : Option Placed) (dom : DomId) (gref : GrantRef) (plan : Plan Owned) (es : List Entry) (m : List Item) {A : Type 0} → Result A Stop → Type 0
-Owns word fs gs frames grants memory device dom gref plan es m (Ok x) =
-    (here : List Item) × IsDone dom gref plan here × Stands word fs gs frames grants memory device (m ++ here) × (entries (m ++ here) ≡ es)
-Owns word fs gs frames grants memory device dom gref plan es m (Err stop) = StopsOwning frames grants (setups device) dom gref plan stop m es
+abbrev pub Owns : {W : Type 0} → Sight W → (frames grants : ℕ → ℕ) (memory : W) (devices : List Placed) (dom : DomId) (gref : GrantRef) (plan : Plan Owned) (es : List Entry) (m : List Item) {A : Type 0} → Result A Stop → Type 0
+Owns g frames grants memory devices dom gref plan es m (Ok x) =
+    (here : List Item) × IsDone dom gref plan here × Stands g frames grants memory devices (m ++ here) × (entries (m ++ here) ≡ es)
+Owns g frames grants memory devices dom gref plan es m (Err stop) = StopsOwning frames grants (setups devices) dom gref plan stop m es
 
 -- accesses were made, and this is left; or it was made whole, or was stopped
-abbrev pub OwnsOn : {W : Type 0} (word : W → Place → ℕ) (frames_of grants_of : W → ℕ → ℕ) (frames grants : ℕ → ℕ) (memory : W) (device : Option Placed) (dom : DomId) (gref : GrantRef) (plan left : Plan Owned) (es : List Entry) (m : List Item) → Result Bool Stop → Type 0
-OwnsOn word fs gs frames grants memory device dom gref plan left es m (Ok true) =
-    (here : List Item) × Leads plan here left × IsUnfinished left × Stands word fs gs frames grants memory device (m ++ here) × (entries (m ++ here) ≡ es)
-OwnsOn word fs gs frames grants memory device dom gref plan left es m (Ok false) =
-    (here : List Item) × IsDone dom gref plan here × Stands word fs gs frames grants memory device (m ++ here) × (entries (m ++ here) ≡ es)
-OwnsOn word fs gs frames grants memory device dom gref plan left es m (Err stop) = StopsOwning frames grants (setups device) dom gref plan stop m es
+abbrev pub OwnsOn : {W : Type 0} → Sight W → (frames grants : ℕ → ℕ) (memory : W) (devices : List Placed) (dom : DomId) (gref : GrantRef) (plan left : Plan Owned) (es : List Entry) (m : List Item) → Result Bool Stop → Type 0
+OwnsOn g frames grants memory devices dom gref plan left es m (Ok true) =
+    (here : List Item) × Leads plan here left × IsUnfinished left × Stands g frames grants memory devices (m ++ here) × (entries (m ++ here) ≡ es)
+OwnsOn g frames grants memory devices dom gref plan left es m (Ok false) =
+    (here : List Item) × IsDone dom gref plan here × Stands g frames grants memory devices (m ++ here) × (entries (m ++ here) ≡ es)
+OwnsOn g frames grants memory devices dom gref plan left es m (Err stop) = StopsOwning frames grants (setups devices) dom gref plan stop m es
 
 -- what is entered of one step: its access, and what is told of its result
 abbrev pub access_items : Option Access → List Item

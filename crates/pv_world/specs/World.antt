@@ -1,91 +1,141 @@
--- What a world stands for.
-use Rattle.std.specs.Prelude.{◌≡◌, ℕ, ◌<◌, Bool, true, false, List, [], ◌∷◌, ◌++◌, length, Option, Some, None, Result, Ok, Err}
+-- What a world stands for, and what each of its calls enters.
+use Rattle.std.specs.Prelude.{◌≡◌, ◌⊎◌, ℕ, ◌+◌, ◌<◌, ◌≤◌, Bool, true, List, [], ◌∷◌, ◌++◌, length, slice_get, Option, Some, None, Result, Ok, Err}
 use Rattle.std.specs.List.{AllByRecursion}
-use Rattle.pv_words.specs.declared.entry.Entry.{Entry}
-use Rattle.pv_words.specs.declared.journal.Stop.{Stop}
-use Rattle.pv_words.specs.declared.journal.Stop.TheVariants.{JournalFull, OutOfMemory}
-use Rattle.pv_words.specs.declared.place.Place.{Place}
-use Rattle.pv_words.specs.declared.setup.DeviceSetup.{DeviceSetup}
-use Rattle.pv_words.specs.Along.{after}
-use Rattle.pv_words.specs.Memory.{memory_after, place_of}
-use Rattle.pv_words.specs.Place.{InRange, domain_of}
-use Rattle.link_core.specs.Order.{next}
-use Rattle.display_backend.specs.Display.{stand_of}
-use Rattle.display_backend.specs.Work.{display}
 use Rattle.pv_words.specs.declared.access.Access.{Access}
 use Rattle.pv_words.specs.declared.access.Access.TheVariants as access
+use Rattle.pv_words.specs.declared.entry.Entry.{Entry}
 use Rattle.pv_words.specs.declared.entry.Entry.TheVariants as entry
+use Rattle.pv_words.specs.declared.journal.Stop.{Stop}
+use Rattle.pv_words.specs.declared.journal.Stop.TheVariants.{JournalFull, OutOfMemory}
+use Rattle.pv_words.specs.declared.place.DevId.{DevId}
+use Rattle.pv_words.specs.declared.place.Place.{Place}
+use Rattle.pv_words.specs.declared.device.Said.{Said}
+use Rattle.pv_words.specs.declared.setup.DeviceSetup.{DeviceSetup}
+use Rattle.pv_words.specs.Memory.{memory_after, place_of}
+use Rattle.pv_words.specs.Place.{InRange, domain_of}
+use Rattle.pv_words.specs.Port.{Port, IsListed, no_listing}
+use Rattle.display_backend.specs.Display as backend
 use Rattle.pv_world.specs.declared.world.Placed.{Placed}
 use Rattle.pv_world.specs.declared.world.World.{World}
-use Rattle.pv_world.specs.Record.{IsAtLimit}
-use Rattle.pv_world.specs.Marked.{Item, Entered, Idle, entries, own, IsStepOf, AreSteps}
-use Rattle.pv_world.specs.History.{IsHistory, first_stand}
+use Rattle.pv_world.specs.Record.{IsAtLimit, progress}
+use Rattle.pv_world.specs.Marked.{Item, Entered, Idle, entries, nodes_in, items_of, accesses_in, IsStepOf, AreSteps}
+use Rattle.xenbus_states.specs.Nodes.{no_nodes}
+use Rattle.display_backend.specs.Machine.{Site}
+use Rattle.pv_world.specs.History.{IsHistory, AreApart, first_stand, parts_of, site_of, stand_after, held_in}
+
+-- what a machine shows of itself
+pub record Sight (W : Type 0) : Type 1 where
+  pub word : W → Place → ℕ
+  pub frames : W → ℕ → ℕ
+  pub grants : W → ℕ → ℕ
+  pub port : W → Port
+  pub whole : W → Type 0
+  pub knows_device : W → ℕ → ℕ → Type 0
+  pub knows_domain : W → ℕ → Type 0
+
+abbrev pub sight : {W : Type 0} → (W → Place → ℕ) → (W → ℕ → ℕ) → (W → ℕ → ℕ) → (W → Port) → (W → Type 0) → (W → ℕ → ℕ → Type 0) → (W → ℕ → Type 0) → Sight W
+sight word frames grants port whole device domain =
+    record { word = word; frames = frames; grants = grants; port = port; whole = whole; knows_device = device; knows_domain = domain }
 
 -- the devices of a world
-abbrev pub setups : Option Placed → List DeviceSetup
-setups None = []
-setups (Some p) = p.setup ∷ []
+abbrev pub setups : List Placed → List DeviceSetup
+setups [] = []
+setups (p ∷ ps) = p.setup ∷ setups ps
 
--- a device stands where its entries left it, and its domain has its ring's page
-abbrev pub IsPlacedIn : List Item → (frames : ℕ → ℕ) → Option Placed → Type 0
-IsPlacedIn m frames None = Unit {0}
-IsPlacedIn m frames (Some p) =
-    (stand_of p.display ≡ after (next display) (first_stand p.setup) (own p.setup.dev.0 m)) × (0 < frames p.setup.dom.0)
+-- A device stands where its entries left it, with the nodes as they were set; the memory knows it as one of its domain, and
+-- lists what it mapped.
+pub record IsPlaced {W : Type 0} (g : Sight W) (frames grants : ℕ → ℕ) (memory : W) (m : List Item) (p : Placed) : Type 0 where
+  pub stands : backend.stand_of (site_of frames grants p.setup) p.display ≡ stand_after frames grants m p.setup
+  pub dom_is : backend.dom_of p.display ≡ p.setup.dom.0
+  pub parts_are : backend.parts_of p.display ≡ parts_of p.setup.kind
+  pub nodes_are : p.nodes ≡ nodes_in p.setup.dev.0 m
+  pub known : g.knows_device memory p.setup.dev.0 p.setup.dom.0
+  pub listed : IsListed (g.port memory) p.setup.dev.0 (held_in frames grants m p.setup)
 
--- The memory holds what the journal's entries left, and has frames and grants of these numbers; the devices stand where
--- their entries left them.
-pub record Stands {W : Type 0} (word : W → Place → ℕ) (frames_of grants_of : W → ℕ → ℕ) (frames grants : ℕ → ℕ) (memory : W) (device : Option Placed) (m : List Item) : Type 0 where
-  pub frames_are : (d : ℕ) → frames_of memory d ≡ frames d
-  pub grants_are : (d : ℕ) → grants_of memory d ≡ grants d
-  pub words_are : (q : Place) → InRange frames grants q → word memory q ≡ memory_after (entries m) q
-  pub placed : IsPlacedIn m frames device
-  pub so_far : IsHistory frames grants (setups device) m
+-- The memory is whole, knows all domains, holds what the journal's entries left, and has frames and grants of these
+-- numbers; the devices, of which no two have one number, stand where their entries left them.
+pub record Stands {W : Type 0} (g : Sight W) (frames grants : ℕ → ℕ) (memory : W) (devices : List Placed) (m : List Item) : Type 0 where
+  pub frames_are : (d : ℕ) → g.frames memory d ≡ frames d
+  pub grants_are : (d : ℕ) → g.grants memory d ≡ grants d
+  pub words_are : (q : Place) → InRange frames grants q → g.word memory q ≡ memory_after (entries m) q
+  pub whole : g.whole memory
+  pub domains : (d : ℕ) → 0 < frames d + grants d → g.knows_domain memory d
+  pub apart : AreApart (setups devices)
+  pub placed : AllByRecursion (IsPlaced g frames grants memory m) devices
+  pub so_far : IsHistory frames grants (setups devices) m
 
 -- some history of the world's has these entries
-abbrev pub Standing : {W : Type 0} (word : W → Place → ℕ) (frames_of grants_of : W → ℕ → ℕ) (memory : W) (device : Option Placed) → List Entry → Type 0
-Standing word frames_of grants_of memory device es =
-    (frames : ℕ → ℕ) × (grants : ℕ → ℕ) × (m : List Item) × Stands word frames_of grants_of frames grants memory device m × (entries m ≡ es)
+abbrev pub Standing : {W : Type 0} → Sight W → W → List Placed → List Entry → Type 0
+Standing g memory devices es =
+    (frames : ℕ → ℕ) × (grants : ℕ → ℕ) × (m : List Item) × Stands g frames grants memory devices m × (entries m ≡ es)
 
--- The journal is full, and a further step of the device is due: with that one it would be a history too.
-pub record IsFull (frames grants : ℕ → ℕ) (devices : List DeviceSetup) (d : ℕ) (m : List Item) (es : List Entry) : Type 0 where
+-- at most so many accesses, where a number is asked for
+abbrev pub AtMost : Option ℕ → ℕ → Type 0
+AtMost None n = Unit {0}
+AtMost (Some most) n = n ≤ most
+
+-- The journal is full, and a further step of the device is due: with that one it would be a history too, with no more
+-- accesses than were asked for.
+pub record IsFull (frames grants : ℕ → ℕ) (devices : List DeviceSetup) (d : ℕ) (most : Option ℕ) (m here : List Item) (es : List Entry) : Type 0 where
   pub length_is : length es ≡ 8388608
   pub due : Entry
   pub of_device : IsStepOf d due
-  pub goes_on : IsHistory frames grants devices (m ++ Entered due ∷ [])
+  pub goes_on : IsHistory frames grants devices ((m ++ here) ++ Entered due ∷ [])
+  pub within : AtMost most (accesses_in (here ++ Entered due ∷ []))
 
-abbrev pub HasCause : (frames grants : ℕ → ℕ) (devices : List DeviceSetup) (d : ℕ) (m : List Item) (es : List Entry) → Stop → Type 0
-HasCause frames grants devices d m es JournalFull = IsFull frames grants devices d m es
-HasCause frames grants devices d m es OutOfMemory = Unit {0}
+abbrev pub HasCause : (frames grants : ℕ → ℕ) (devices : List DeviceSetup) (d : ℕ) (most : Option ℕ) (m here : List Item) (es : List Entry) → Stop → Type 0
+HasCause frames grants devices d most m here es JournalFull = IsFull frames grants devices d most m here es
+HasCause frames grants devices d most m here es OutOfMemory = Unit {0}
 
 -- The device was stopped after some of its steps. What has been entered is a history.
-pub record StopsIn (frames grants : ℕ → ℕ) (devices : List DeviceSetup) (d : ℕ) (stop : Stop) (m : List Item) (es : List Entry) : Type 0 where
+pub record StopsIn (frames grants : ℕ → ℕ) (devices : List DeviceSetup) (d : ℕ) (most : Option ℕ) (stop : Stop) (m : List Item) (es : List Entry) : Type 0 where
   pub here : List Item
   pub steps : AreSteps d here
+  pub within : AtMost most (accesses_in here)
   pub so_far : IsHistory frames grants devices (m ++ here)
   pub entered : entries (m ++ here) ≡ es
-  pub cause : HasCause frames grants devices d (m ++ here) es stop
+  pub cause : HasCause frames grants devices d most m here es stop
 
--- one step of a device: it made steps, or was idle, or was stopped
-abbrev pub Advanced : {W : Type 0} (word : W → Place → ℕ) (frames_of grants_of : W → ℕ → ℕ) (frames grants : ℕ → ℕ) (memory : W) (p : Placed) (es : List Entry) (m : List Item) → Result Bool Stop → Type 0
-Advanced word fs gs frames grants memory p es m (Ok true) =
-    (here : List Item) × AreSteps p.setup.dev.0 here × Stands word fs gs frames grants memory (Some p) (m ++ here) × (entries (m ++ here) ≡ es)
-Advanced word fs gs frames grants memory p es m (Ok false) =
-    Stands word fs gs frames grants memory (Some p) (m ++ Idle p.setup.dev.0 ∷ []) × (entries (m ++ Idle p.setup.dev.0 ∷ []) ≡ es)
-Advanced word fs gs frames grants memory p es m (Err stop) = StopsIn frames grants (p.setup ∷ []) p.setup.dev.0 stop m es
+-- One step of a device: it made an access or said something (true where it made an access), or was idle (None), or was
+-- stopped.
+abbrev pub Advanced : {W : Type 0} → Sight W → (frames grants : ℕ → ℕ) (memory : W) (devices : List Placed) (dev : DevId) (es : List Entry) (m : List Item) → Result (Option Bool) Stop → Type 0
+Advanced g frames grants memory devices dev es m (Ok did) =
+    (a : Option Access) × (s : Option Said) × (did ≡ progress a s)
+    × Stands g frames grants memory devices (m ++ items_of dev a s) × (entries (m ++ items_of dev a s) ≡ es)
+Advanced g frames grants memory devices dev es m (Err stop) = StopsIn frames grants (setups devices) dev.0 (Some 1) stop m es
 
--- the device was stepped until it was idle, or was stopped
-abbrev pub Served : {W : Type 0} (word : W → Place → ℕ) (frames_of grants_of : W → ℕ → ℕ) (frames grants : ℕ → ℕ) (memory : W) (p : Placed) (es : List Entry) (m : List Item) {A : Type 0} → Result A Stop → Type 0
-Served word fs gs frames grants memory p es m (Ok x) =
-    (here : List Item) × AreSteps p.setup.dev.0 here
-    × Stands word fs gs frames grants memory (Some p) (m ++ (here ++ Idle p.setup.dev.0 ∷ [])) × (entries (m ++ (here ++ Idle p.setup.dev.0 ∷ [])) ≡ es)
-Served word fs gs frames grants memory p es m (Err stop) = StopsIn frames grants (p.setup ∷ []) p.setup.dev.0 stop m es
+-- a device's steps until it was idle, with fewer accesses than were asked for
+pub record ComesToRest (d : ℕ) (most : Option ℕ) (here : List Item) : Type 0 where
+  pub steps : List Item
+  pub are_steps : AreSteps d steps
+  pub rests : here ≡ steps ++ Idle d ∷ []
+  pub fewer : (n : ℕ) → most ≡ Some n → accesses_in steps < n
 
--- a world's memory and its device
+-- a device's steps up to the one with the last access that was asked for
+pub record MakesAll (dev : DevId) (most : Option ℕ) (here : List Item) : Type 0 where
+  pub steps : List Item
+  pub last : Access
+  pub said : Option Said
+  pub are_steps : AreSteps dev.0 steps
+  pub ends : here ≡ steps ++ items_of dev (Some last) said
+  pub all : most ≡ Some (accesses_in steps + 1)
+
+-- a device was stepped: until it was idle, or, where a number of accesses was asked for, until it had made as many
+abbrev pub IsStepped : DevId → Option ℕ → List Item → Type 0
+IsStepped dev most here = ComesToRest dev.0 most here ⊎ MakesAll dev most here
+
+-- the device was stepped so, or was stopped before
+abbrev pub SteppedBy : {W : Type 0} → Sight W → (frames grants : ℕ → ℕ) (memory : W) (devices : List Placed) (dev : DevId) (most : Option ℕ) (es : List Entry) (m : List Item) {A : Type 0} → Result A Stop → Type 0
+SteppedBy g frames grants memory devices dev most es m (Ok x) =
+    (here : List Item) × IsStepped dev most here × Stands g frames grants memory devices (m ++ here) × (entries (m ++ here) ≡ es)
+SteppedBy g frames grants memory devices dev most es m (Err stop) = StopsIn frames grants (setups devices) dev.0 most stop m es
+
+-- a world's memory and its devices
 abbrev pub memory_of : {W : Type 0} → World W → W
 memory_of w = w.memory
 
-abbrev pub device_of : {W : Type 0} → World W → Option Placed
-device_of w = w.device
+abbrev pub devices_of : {W : Type 0} → World W → List Placed
+devices_of w = w.devices.items
 
 -- what a domain enters where it makes an access
 abbrev pub front_access : Access → Item
@@ -99,30 +149,48 @@ front_store at v = front_access (access.Store at v)
 abbrev pub front_swap : Place → ℕ → ℕ → ℕ → Item
 front_swap at old new seen = front_access (access.Cas at old new seen)
 
--- a new world: no entry, all words 0, as many frames and grants as declared, and each device's domain has its ring's page
-pub record IsNew {W : Type 0} (word : W → Place → ℕ) (frames_of grants_of : W → ℕ → ℕ) (frames grants : ℕ → ℕ) (memory : W) (devices : List DeviceSetup) : Type 0 where
-  pub frames_are : (d : ℕ) → frames_of memory d ≡ frames d
-  pub grants_are : (d : ℕ) → grants_of memory d ≡ grants d
-  pub words_are : (q : Place) → word memory q ≡ 0
-  pub rooms : AllByRecursion (λ s. 0 < frames s.dom.0) devices
+-- The memory of a new world: whole, with as many frames and grants as declared, knowing the domains and each device as one
+-- of its domain; all its words are 0, and it lists no mapping.
+pub record IsNew {W : Type 0} (g : Sight W) (frames grants : ℕ → ℕ) (memory : W) (devices : List DeviceSetup) : Type 0 where
+  pub frames_are : (d : ℕ) → g.frames memory d ≡ frames d
+  pub grants_are : (d : ℕ) → g.grants memory d ≡ grants d
+  pub words_are : (q : Place) → g.word memory q ≡ 0
+  pub whole : g.whole memory
+  pub domains : (d : ℕ) → 0 < frames d + grants d → g.knows_domain memory d
+  pub known : AllByRecursion (λ s. g.knows_device memory s.dev.0 s.dom.0) devices
+  pub listed : (d : ℕ) → ((g.port memory).everywhere ≡ true) ⊎ ((g.port memory).listed d ≡ no_listing)
+  pub apart : AreApart devices
 
--- a word was stored, or there was no room for the entry
-abbrev pub Stored : {W : Type 0} (word : W → Place → ℕ) (frames_of grants_of : W → ℕ → ℕ) (frames grants : ℕ → ℕ) (memory : W) (device : Option Placed) (at : Place) (v : ℕ) (es : List Entry) (m : List Item) {A : Type 0} → Result A Stop → Type 0
-Stored word fs gs frames grants memory device at v es m (Ok x) =
-    Stands word fs gs frames grants memory device (m ++ front_store at v ∷ []) × (entries (m ++ front_store at v ∷ []) ≡ es)
-Stored word fs gs frames grants memory device at v es m (Err stop) =
-    IsHistory frames grants (setups device) (m ++ front_store at v ∷ []) × ((entries m ≡ es) × IsAtLimit stop es)
+-- one entry was entered, or found no room
+abbrev pub Enters : {W : Type 0} → Sight W → (frames grants : ℕ → ℕ) (memory : W) (devices : List Placed) (due : Item) (es : List Entry) (m : List Item) {A : Type 0} → Result A Stop → Type 0
+Enters g frames grants memory devices due es m (Ok x) =
+    Stands g frames grants memory devices (m ++ due ∷ []) × (entries (m ++ due ∷ []) ≡ es)
+Enters g frames grants memory devices due es m (Err stop) =
+    IsHistory frames grants (setups devices) (m ++ due ∷ []) × ((entries m ≡ es) × IsAtLimit stop es)
 
 -- a word was exchanged where it was `old`, or there was no room for the entry
-abbrev pub Exchanged : {W : Type 0} (word : W → Place → ℕ) (frames_of grants_of : W → ℕ → ℕ) (frames grants : ℕ → ℕ) (memory : W) (device : Option Placed) (at : Place) (old new : ℕ) (es : List Entry) (m : List Item) {A : Type 0} → Result A Stop → Type 0
-Exchanged word fs gs frames grants memory device at old new es m (Ok x) =
-    (seen : ℕ) × Stands word fs gs frames grants memory device (m ++ front_swap at old new seen ∷ []) × (entries (m ++ front_swap at old new seen ∷ []) ≡ es)
-Exchanged word fs gs frames grants memory device at old new es m (Err stop) =
-    (seen : ℕ) × IsHistory frames grants (setups device) (m ++ front_swap at old new seen ∷ []) × (entries m ≡ es) × IsAtLimit stop es
+abbrev pub Exchanged : {W : Type 0} → Sight W → (frames grants : ℕ → ℕ) (memory : W) (devices : List Placed) (at : Place) (old new : ℕ) (es : List Entry) (m : List Item) {A : Type 0} → Result A Stop → Type 0
+Exchanged g frames grants memory devices at old new es m r =
+    (seen : ℕ) × Enters g frames grants memory devices (front_swap at old new seen) es m r
 
--- the device was stepped until it was idle, or was stopped
-abbrev pub ServedBy : {W : Type 0} (word : W → Place → ℕ) (frames_of grants_of : W → ℕ → ℕ) (frames grants : ℕ → ℕ) (memory : W) (device : Option Placed) (d : ℕ) (es : List Entry) (m : List Item) {A : Type 0} → Result A Stop → Type 0
-ServedBy word fs gs frames grants memory device d es m (Ok x) =
-    (here : List Item) × AreSteps d here
-    × Stands word fs gs frames grants memory device (m ++ (here ++ Idle d ∷ [])) × (entries (m ++ (here ++ Idle d ∷ [])) ≡ es)
-ServedBy word fs gs frames grants memory device d es m (Err stop) = StopsIn frames grants (setups device) d stop m es
+-- a device that was just declared
+pub record IsDeclaredAs (s : DeviceSetup) (p : Placed) : Type 0 where
+  pub setup_is : p.setup ≡ s
+  pub stands : (site : Site) → backend.stand_of site p.display ≡ first_stand
+  pub dom_is : backend.dom_of p.display ≡ s.dom.0
+  pub parts_are : backend.parts_of p.display ≡ parts_of s.kind
+  pub nodes_are : p.nodes ≡ no_nodes
+
+abbrev pub AreDeclaredAs : List DeviceSetup → List Placed → Type 0
+AreDeclaredAs [] [] = Unit {0}
+AreDeclaredAs [] (p ∷ ps) = ⊥
+AreDeclaredAs (s ∷ ss) [] = ⊥
+AreDeclaredAs (s ∷ ss) (p ∷ ps) = IsDeclaredAs s p × AreDeclaredAs ss ps
+
+-- a device has 1 to 4 parts
+abbrev pub HasParts : DeviceSetup → Type 0
+HasParts s = (1 ≤ parts_of s.kind) × (parts_of s.kind ≤ 4)
+
+-- the device of this number stands there
+abbrev pub IsAt : List Placed → ℕ → DevId → Type 0
+IsAt devices i dev = (p : Placed) × (slice_get devices i ≡ Some p) × (p.setup.dev ≡ dev)

@@ -1,32 +1,39 @@
 //! The world of a scenario.
 
-ghost use Rattle.std.specs.Prelude.{◌≡◌, ◌++◌, ◌∷◌, [], ◌<◌, ◌≤◌, OnOk, OnErr, IfErr, IsSome, Ok, true, length};
-ghost use Rattle.pv_world.specs.Marked.{entry_of, items_of};
+ghost use Rattle.std.specs.Prelude.{◌≡◌, ◌++◌, ◌∷◌, [], ◌<◌, ◌≤◌, ◌+◌, OnOk, OnErr, IfErr, IfOk, IsSome, Ok, Some, true, length, slice_get};
+ghost use Rattle.std.specs.List.{AllByRecursion};
+ghost use Rattle.pv_world.specs.Marked.{entry_of, items_of, Entered};
+ghost use Rattle.pv_words.specs.declared.entry.Entry.TheVariants as entry;
+ghost use Rattle.pv_words.specs.declared.entry.End.TheVariants as end;
 ghost use Rattle.pv_words.specs.Place.{domain_of};
-ghost use Rattle.pv_world.specs.History.{HistoriesAreRuns};
-ghost use Rattle.pv_world.specs.Record.{Records, IsAtLimit, IsLonger};
+ghost use Rattle.pv_world.specs.History.{HistoriesAreRuns, parts_of};
+ghost use Rattle.pv_world.specs.Record.{Records, Grows, IsAtLimit, IsLonger};
+ghost use Rattle.pv_world.specs.World.{AreDeclaredAs, HasParts, IsDeclaredAs};
 ghost use Rattle.pv_world.specs.Owner.{EntersTurn};
 
 use crate::owner::{Owning, news, place};
 use display_backend::{Display, Step};
 use grant_table::{Owned, OwnerStep};
 use pv_words::{
-    Access, DevId, DeviceSetup, DomId, End, Entry, Frame, GrantRef, JOURNAL_LIMIT, Journal,
-    Machine, Mode, Place, Said, Stop, Turn,
+    Access, DevId, DeviceKind, DeviceSetup, DomId, End, Entry, Frame, GrantRef, JOURNAL_LIMIT,
+    Journal, Machine, Mode, NodeValue, Place, Said, Setup, State, Stop, Turn, Who,
 };
+use std::alloc::{AllocError, Global};
+use xenbus_states::Nodes;
 
-/// A device, and what was declared of it.
+/// A device, what was declared of it, and its nodes as they are set.
 #[derive(Drop)]
 pub struct Placed {
     setup: DeviceSetup,
     display: Display,
+    nodes: Nodes,
 }
 
-/// The memory of all domains, and the device that serves one of them.
+/// The memory of all domains, and the devices that serve them.
 #[derive(Drop)]
 pub struct World<W> {
     memory: W,
-    device: Option<Placed>,
+    devices: Vec<Placed>,
 }
 
 // Appends an entry, for which it makes room.
@@ -56,55 +63,23 @@ fn said_entry(dev: DevId, said: Said) -> Entry
     }
 }
 
-// Enters what a step did, and tells whether it wasn't idle.
-fn record(journal: &mut Journal, dev: DevId, step: &Step) -> Result<bool, Stop>
-    ensures records { Records (items_of dev step.now.access step.now.said) journal.old.entries journal.new.entries result }
-    ensures grows { result ≡ Ok true → IsLonger journal.old.entries journal.new.entries }
+// Enters what a step did, and tells whether it made an access, or was idle.
+fn record(journal: &mut Journal, dev: DevId, step: &Step) -> Result<Option<bool>, Stop>
+    ensures records { Records (items_of dev step.now.access step.now.said) step.now.access step.now.said journal.old.entries journal.new.entries result }
+    ensures grows { Grows result journal.old.entries journal.new.entries }
 {
     if let Some(access) = step.access {
         enter(journal, Entry::Back(dev, access))?;
         if let Some(said) = step.said {
             enter(journal, said_entry(dev, said))?;
         }
-        return Ok(true);
+        return Ok(Some(true));
     }
     if let Some(said) = step.said {
         enter(journal, said_entry(dev, said))?;
-        return Ok(true);
+        return Ok(Some(false));
     }
-    Ok(false)
-}
-
-impl Placed {
-    ghost use Rattle.std.specs.Prelude.{ℕ, List, Some};
-    ghost use Rattle.pv_world.specs.Marked.{Item, entries};
-    ghost use Rattle.pv_world.specs.World.{Standing, Stands, Advanced, Served};
-
-    // Makes one step and enters it. Tells whether it wasn't idle.
-    fn advance<W: Machine>(&mut self, memory: &mut W, journal: &mut Journal) -> Result<bool, Stop>
-        requires { Standing W.word W.frames_of W.grants_of memory.old (Some self.old) journal.old.entries }
-        ensures advanced { (frames grants : ℕ → ℕ) (m : List Item) →
-            Stands W.word W.frames_of W.grants_of frames grants memory.old (Some self.old) m → entries m ≡ journal.old.entries →
-            Advanced W.word W.frames_of W.grants_of frames grants memory.new self.new journal.new.entries m result }
-        ensures same { self.new.setup ≡ self.old.setup }
-        ensures grows { result ≡ Ok true → IsLonger journal.old.entries journal.new.entries }
-    {
-        let dev = self.setup.dev;
-        let step = self.display.step(memory);
-        record(journal, dev, &step)
-    }
-
-    // Makes steps until one is idle.
-    fn serve<W: Machine>(&mut self, memory: &mut W, journal: &mut Journal) -> Result<(), Stop>
-        requires { Standing W.word W.frames_of W.grants_of memory.old (Some self.old) journal.old.entries }
-        ensures served { (frames grants : ℕ → ℕ) (m : List Item) →
-            Stands W.word W.frames_of W.grants_of frames grants memory.old (Some self.old) m → entries m ≡ journal.old.entries →
-            Served W.word W.frames_of W.grants_of frames grants memory.new self.new journal.new.entries m result }
-        ensures same { self.new.setup ≡ self.old.setup }
-    {
-        'serving: while self.advance(memory, journal)? {}
-        Ok(())
-    }
+    Ok(None)
 }
 
 // Whose word it is.
@@ -138,52 +113,92 @@ fn enter_turn(
     Ok(turn.done.is_none())
 }
 
-/// Whatever was played, what a device said is a run of the display machine, and each of its accesses lies in a page
-/// that it holds.
+/// Whatever was played, what a device said and heard is a run of the display machine, and each of its accesses lies in a
+/// page that it mapped and holds.
 pub fn histories_are_runs()
     ensures { HistoriesAreRuns }
 {}
 
-impl<W: Machine> World<W> {
-    ghost use Rattle.std.specs.Prelude.{ℕ, List, [], true};
-    ghost use Rattle.std.specs.List.{AllByRecursion};
-    ghost use Rattle.pv_words.specs.Place.{InRange};
-    ghost use Rattle.pv_world.specs.Marked.{Item, entries};
-    ghost use Rattle.grant_table.specs.Owning.{end_plan, permit_plan};
-    ghost use Rattle.pv_words.specs.Plan.{IsUnfinished};
-    ghost use Rattle.pv_world.specs.History.{is_declared};
-    ghost use Rattle.pv_world.specs.Owner.{KeepsToEntry, Owns, OwnsOn, left_of};
-    ghost use Rattle.pv_world.specs.World.{Exchanged, IsNew, ServedBy, Standing, Stands, Stored, device_of, memory_of, setups};
+// A device as it is declared.
+fn declare(alloc: Global, setup: &DeviceSetup) -> Result<Placed, AllocError>
+    requires least { 1 ≤ parts_of setup.now.kind }
+    requires most { parts_of setup.now.kind ≤ 4 }
+    ensures { IfOk result (λ p. IsDeclaredAs setup.now p) }
+{
+    let display = match setup.kind {
+        DeviceKind::Display(connectors) => Display::new(alloc, setup.dom, connectors)?,
+    };
+    Ok(Placed {
+        setup: *setup,
+        display,
+        nodes: Nodes::new(),
+    })
+}
 
-    /// The world of these devices, of which there may be one, over a memory of zeros.
-    pub fn new(memory: W, devices: &[DeviceSetup]) -> World<W>
-        requires { length devices.now ≤ 1 }
-        ensures stands { (frames grants : ℕ → ℕ) → IsNew W.word W.frames_of W.grants_of frames grants memory devices.now →
-            Stands W.word W.frames_of W.grants_of frames grants (memory_of result) (device_of result) [] }
-        ensures devices { setups (device_of result) ≡ devices.now }
+// All devices as they are declared.
+fn declare_all(alloc: Global, setups: &[DeviceSetup]) -> Result<Vec<Placed>, AllocError>
+    requires parts { AllByRecursion HasParts setups.now }
+    ensures { IfOk result (λ ps. AreDeclaredAs setups.now ps.items) }
+{
+    let mut devices = Vec::new(alloc);
+    for setup in setups {
+        let device = declare(alloc, setup)?;
+        devices.push(device)?;
+    }
+    Ok(devices)
+}
+
+impl<W: Machine + Drop> World<W> {
+    ghost use Rattle.std.specs.Prelude.{ℕ};
+    ghost use Rattle.pv_world.specs.World.{IsNew, Stands, devices_of, memory_of, setups, sight};
+
+    /// The world of these domains and devices, each of 1 to 4 parts, over a memory of zeros. Where memory is refused, it
+    /// is dropped.
+    pub fn new(alloc: Global, memory: W, setup: &Setup) -> Result<World<W>, AllocError>
+        requires parts { AllByRecursion HasParts setup.now.devices }
+        ensures stands { IfOk result (λ w. (frames grants : ℕ → ℕ) → IsNew (sight W.word W.frames_of W.grants_of W.port W.whole W.knows_device W.knows_domain) frames grants memory setup.now.devices →
+            Stands (sight W.word W.frames_of W.grants_of W.port W.whole W.knows_device W.knows_domain) frames grants (memory_of w) (devices_of w) []) }
+        ensures devices { IfOk result (λ w. setups (devices_of w) ≡ setup.now.devices) }
     {
-        let device = match devices {
-            [setup, ..] => Some(Placed {
-                setup: *setup,
-                display: Display::over(setup.dom, Frame(0)),
-            }),
-            [] => None,
-        };
-        World { memory, device }
+        let devices = declare_all(alloc, setup.devices.as_slice())?;
+        Ok(World { memory, devices })
+    }
+}
+
+impl<W: Machine> World<W> {
+    ghost use Rattle.std.specs.Prelude.{ℕ, List, Option};
+    ghost use Rattle.pv_words.specs.Plan.{IsUnfinished};
+    ghost use Rattle.pv_words.specs.Place.{InRange};
+    ghost use Rattle.grant_table.specs.Owning.{end_plan, permit_plan};
+    ghost use Rattle.pv_world.specs.Marked.{Item, entries};
+    ghost use Rattle.pv_world.specs.History.{is_declared, parts_by};
+    ghost use Rattle.pv_world.specs.Owner.{KeepsToEntry, Owns, OwnsOn, left_of};
+    ghost use Rattle.pv_world.specs.World.{Advanced, Enters, Exchanged, IsAt, Standing, Stands, SteppedBy, devices_of, front_store, memory_of, setups, sight};
+
+    // Where a device stands among the devices.
+    fn position(&self, dev: DevId) -> usize
+        requires { is_declared (setups (devices_of self.now)) dev.0 ≡ true }
+        ensures { IsAt (devices_of self.now) result dev }
+    {
+        let mut i = 0;
+        'finding: while self.devices[i].setup.dev.0 != dev.0 {
+            i += 1;
+        }
+        i
     }
 
     /// A domain stores a word. Where the entry finds no room, nothing changes.
     pub fn put(&mut self, place: Place, v: u32, journal: &mut Journal) -> Result<(), Stop>
-        requires { InRange (W.frames_of (memory_of self.old)) (W.grants_of (memory_of self.old)) place }
+        requires standing { Standing (sight W.word W.frames_of W.grants_of W.port W.whole W.knows_device W.knows_domain) (memory_of self.old) (devices_of self.old) journal.old.entries }
+        requires range { InRange (W.frames_of (memory_of self.old)) (W.grants_of (memory_of self.old)) place }
         ensures stored { (frames grants : ℕ → ℕ) (m : List Item) →
-            Stands W.word W.frames_of W.grants_of frames grants (memory_of self.old) (device_of self.old) m → entries m ≡ journal.old.entries →
-            Stored W.word W.frames_of W.grants_of frames grants (memory_of self.new) (device_of self.new) place v journal.new.entries m result }
-        ensures devices { setups (device_of self.new) ≡ setups (device_of self.old) }
+            Stands (sight W.word W.frames_of W.grants_of W.port W.whole W.knows_device W.knows_domain) frames grants (memory_of self.old) (devices_of self.old) m → entries m ≡ journal.old.entries →
+            Enters (sight W.word W.frames_of W.grants_of W.port W.whole W.knows_device W.knows_domain) frames grants (memory_of self.new) (devices_of self.new) (front_store place v) journal.new.entries m result }
+        ensures devices { setups (devices_of self.new) ≡ setups (devices_of self.old) }
     {
-        enter(
-            journal,
-            Entry::Front(domain(place), Access::Store(place, v)),
-        )?;
+        let dom = domain(place);
+        enter(journal, Entry::Front(dom, Access::Store(place, v)))?;
+        self.memory.turn(Who::Dom(dom));
         self.memory.store(place, v);
         Ok(())
     }
@@ -197,16 +212,19 @@ impl<W: Machine> World<W> {
         new: u32,
         journal: &mut Journal,
     ) -> Result<(), Stop>
-        requires { InRange (W.frames_of (memory_of self.old)) (W.grants_of (memory_of self.old)) place }
+        requires standing { Standing (sight W.word W.frames_of W.grants_of W.port W.whole W.knows_device W.knows_domain) (memory_of self.old) (devices_of self.old) journal.old.entries }
+        requires range { InRange (W.frames_of (memory_of self.old)) (W.grants_of (memory_of self.old)) place }
         ensures exchanged { (frames grants : ℕ → ℕ) (m : List Item) →
-            Stands W.word W.frames_of W.grants_of frames grants (memory_of self.old) (device_of self.old) m → entries m ≡ journal.old.entries →
-            Exchanged W.word W.frames_of W.grants_of frames grants (memory_of self.new) (device_of self.new) place old new journal.new.entries m result }
-        ensures devices { setups (device_of self.new) ≡ setups (device_of self.old) }
+            Stands (sight W.word W.frames_of W.grants_of W.port W.whole W.knows_device W.knows_domain) frames grants (memory_of self.old) (devices_of self.old) m → entries m ≡ journal.old.entries →
+            Exchanged (sight W.word W.frames_of W.grants_of W.port W.whole W.knows_device W.knows_domain) frames grants (memory_of self.new) (devices_of self.new) place old new journal.new.entries m result }
+        ensures devices { setups (devices_of self.new) ≡ setups (devices_of self.old) }
     {
+        let dom = domain(place);
+        self.memory.turn(Who::Dom(dom));
         let seen = self.memory.swap_if(place, old, new);
         enter(
             journal,
-            Entry::Front(domain(place), Access::Cas(place, old, new, seen)),
+            Entry::Front(dom, Access::Cas(place, old, new, seen)),
         )
     }
 
@@ -218,17 +236,19 @@ impl<W: Machine> World<W> {
         gref: GrantRef,
         journal: &mut Journal,
     ) -> Result<bool, Stop>
+        requires standing { Standing (sight W.word W.frames_of W.grants_of W.port W.whole W.knows_device W.knows_domain) (memory_of self.old) (devices_of self.old) journal.old.entries }
         requires live { IsUnfinished (left_of owning.old) }
         requires keeps { KeepsToEntry dom.0 gref.0 (left_of owning.old) }
         requires range { gref.0 < W.grants_of (memory_of self.old) dom.0 }
         ensures owns { (frames grants : ℕ → ℕ) (m : List Item) →
-            Stands W.word W.frames_of W.grants_of frames grants (memory_of self.old) (device_of self.old) m → entries m ≡ journal.old.entries →
-            OwnsOn W.word W.frames_of W.grants_of frames grants (memory_of self.new) (device_of self.new) dom gref (left_of owning.old) (left_of owning.new) journal.new.entries m result }
+            Stands (sight W.word W.frames_of W.grants_of W.port W.whole W.knows_device W.knows_domain) frames grants (memory_of self.old) (devices_of self.old) m → entries m ≡ journal.old.entries →
+            OwnsOn (sight W.word W.frames_of W.grants_of W.port W.whole W.knows_device W.knows_domain) frames grants (memory_of self.new) (devices_of self.new) dom gref (left_of owning.old) (left_of owning.new) journal.new.entries m result }
         ensures live { result ≡ Ok true → IsUnfinished (left_of owning.new) × KeepsToEntry dom.0 gref.0 (left_of owning.new) }
         ensures range { W.grants_of (memory_of self.new) dom.0 ≡ W.grants_of (memory_of self.old) dom.0 }
-        ensures same { device_of self.new ≡ device_of self.old }
+        ensures same { devices_of self.new ≡ devices_of self.old }
         ensures grows { result ≡ Ok true → IsLonger journal.old.entries journal.new.entries }
     {
+        self.memory.turn(Who::Dom(dom));
         let turn = owning.step(&mut self.memory);
         enter_turn(journal, dom, gref, &turn)
     }
@@ -241,14 +261,15 @@ impl<W: Machine> World<W> {
         gref: GrantRef,
         journal: &mut Journal,
     ) -> Result<(), Stop>
+        requires standing { Standing (sight W.word W.frames_of W.grants_of W.port W.whole W.knows_device W.knows_domain) (memory_of self.old) (devices_of self.old) journal.old.entries }
         requires live { IsUnfinished (left_of owning) }
         requires keeps { KeepsToEntry dom.0 gref.0 (left_of owning) }
         requires range { gref.0 < W.grants_of (memory_of self.old) dom.0 }
         ensures owns { (frames grants : ℕ → ℕ) (m : List Item) →
-            Stands W.word W.frames_of W.grants_of frames grants (memory_of self.old) (device_of self.old) m → entries m ≡ journal.old.entries →
-            Owns W.word W.frames_of W.grants_of frames grants (memory_of self.new) (device_of self.new) dom gref (left_of owning) journal.new.entries m result }
+            Stands (sight W.word W.frames_of W.grants_of W.port W.whole W.knows_device W.knows_domain) frames grants (memory_of self.old) (devices_of self.old) m → entries m ≡ journal.old.entries →
+            Owns (sight W.word W.frames_of W.grants_of W.port W.whole W.knows_device W.knows_domain) frames grants (memory_of self.new) (devices_of self.new) dom gref (left_of owning) journal.new.entries m result }
         ensures grants { W.grants_of (memory_of self.new) dom.0 ≡ W.grants_of (memory_of self.old) dom.0 }
-        ensures same { device_of self.new ≡ device_of self.old }
+        ensures same { devices_of self.new ≡ devices_of self.old }
     {
         let mut owning = owning;
         'owning: while self.own_turn(&mut owning, dom, gref, journal)? {}
@@ -265,12 +286,13 @@ impl<W: Machine> World<W> {
         mode: Mode,
         journal: &mut Journal,
     ) -> Result<(), Stop>
-        requires { gref.0 < W.grants_of (memory_of self.old) dom.0 }
+        requires standing { Standing (sight W.word W.frames_of W.grants_of W.port W.whole W.knows_device W.knows_domain) (memory_of self.old) (devices_of self.old) journal.old.entries }
+        requires range { gref.0 < W.grants_of (memory_of self.old) dom.0 }
         ensures owns { (frames grants : ℕ → ℕ) (m : List Item) →
-            Stands W.word W.frames_of W.grants_of frames grants (memory_of self.old) (device_of self.old) m → entries m ≡ journal.old.entries →
-            Owns W.word W.frames_of W.grants_of frames grants (memory_of self.new) (device_of self.new) dom gref (permit_plan dom.0 gref.0 frame.0 mode) journal.new.entries m result }
+            Stands (sight W.word W.frames_of W.grants_of W.port W.whole W.knows_device W.knows_domain) frames grants (memory_of self.old) (devices_of self.old) m → entries m ≡ journal.old.entries →
+            Owns (sight W.word W.frames_of W.grants_of W.port W.whole W.knows_device W.knows_domain) frames grants (memory_of self.new) (devices_of self.new) dom gref (permit_plan dom.0 gref.0 frame.0 mode) journal.new.entries m result }
         ensures grants { W.grants_of (memory_of self.new) dom.0 ≡ W.grants_of (memory_of self.old) dom.0 }
-        ensures devices { setups (device_of self.new) ≡ setups (device_of self.old) }
+        ensures devices { setups (devices_of self.new) ≡ setups (devices_of self.old) }
     {
         let step = OwnerStep::permit(dom, gref, frame, mode);
         self.own(Owning::Permits(step), dom, gref, journal)
@@ -283,29 +305,107 @@ impl<W: Machine> World<W> {
         gref: GrantRef,
         journal: &mut Journal,
     ) -> Result<(), Stop>
-        requires { gref.0 < W.grants_of (memory_of self.old) dom.0 }
+        requires standing { Standing (sight W.word W.frames_of W.grants_of W.port W.whole W.knows_device W.knows_domain) (memory_of self.old) (devices_of self.old) journal.old.entries }
+        requires range { gref.0 < W.grants_of (memory_of self.old) dom.0 }
         ensures owns { (frames grants : ℕ → ℕ) (m : List Item) →
-            Stands W.word W.frames_of W.grants_of frames grants (memory_of self.old) (device_of self.old) m → entries m ≡ journal.old.entries →
-            Owns W.word W.frames_of W.grants_of frames grants (memory_of self.new) (device_of self.new) dom gref (end_plan dom.0 gref.0) journal.new.entries m result }
+            Stands (sight W.word W.frames_of W.grants_of W.port W.whole W.knows_device W.knows_domain) frames grants (memory_of self.old) (devices_of self.old) m → entries m ≡ journal.old.entries →
+            Owns (sight W.word W.frames_of W.grants_of W.port W.whole W.knows_device W.knows_domain) frames grants (memory_of self.new) (devices_of self.new) dom gref (end_plan dom.0 gref.0) journal.new.entries m result }
         ensures grants { W.grants_of (memory_of self.new) dom.0 ≡ W.grants_of (memory_of self.old) dom.0 }
-        ensures devices { setups (device_of self.new) ≡ setups (device_of self.old) }
+        ensures devices { setups (devices_of self.new) ≡ setups (devices_of self.old) }
     {
         let step = OwnerStep::end(dom, gref);
         self.own(Owning::Ends(step), dom, gref, journal)
     }
 
-    /// Steps a device until it is idle. After a Stop the entries so far stand.
-    pub fn serve(&mut self, dev: DevId, journal: &mut Journal) -> Result<(), Stop>
-        requires standing { Standing W.word W.frames_of W.grants_of (memory_of self.old) (device_of self.old) journal.old.entries }
-        requires declared { is_declared (setups (device_of self.old)) dev.0 ≡ true }
-        ensures served { (frames grants : ℕ → ℕ) (m : List Item) →
-            Stands W.word W.frames_of W.grants_of frames grants (memory_of self.old) (device_of self.old) m → entries m ≡ journal.old.entries →
-            ServedBy W.word W.frames_of W.grants_of frames grants (memory_of self.new) (device_of self.new) dev.0 journal.new.entries m result }
-        ensures devices { setups (device_of self.new) ≡ setups (device_of self.old) }
+    /// A frontend sets a node of its device. The device sees it once the frontend sets its state.
+    pub fn node(
+        &mut self,
+        dev: DevId,
+        part: u8,
+        key: u8,
+        v: NodeValue,
+        journal: &mut Journal,
+    ) -> Result<(), Stop>
+        requires declared { is_declared (setups (devices_of self.old)) dev.0 ≡ true }
+        requires part { part < parts_by (setups (devices_of self.old)) dev.0 }
+        requires parts { part < 4 }
+        requires key { key < 4 }
+        ensures set { (frames grants : ℕ → ℕ) (m : List Item) →
+            Stands (sight W.word W.frames_of W.grants_of W.port W.whole W.knows_device W.knows_domain) frames grants (memory_of self.old) (devices_of self.old) m → entries m ≡ journal.old.entries →
+            Enters (sight W.word W.frames_of W.grants_of W.port W.whole W.knows_device W.knows_domain) frames grants (memory_of self.new) (devices_of self.new) (Entered (entry.Node dev part key v)) journal.new.entries m result }
+        ensures devices { setups (devices_of self.new) ≡ setups (devices_of self.old) }
+        ensures memory { memory_of self.new ≡ memory_of self.old }
     {
-        match &mut self.device {
-            Some(placed) => placed.serve(&mut self.memory, journal),
-            None => unreachable!(),
+        let i = self.position(dev);
+        enter(journal, Entry::Node(dev, part, key, v))?;
+        self.devices[i].nodes.set(part, key, v);
+        Ok(())
+    }
+
+    /// A frontend sets its state, and its device hears it, with the nodes as they are set by then.
+    pub fn bus(&mut self, dev: DevId, s: State, journal: &mut Journal) -> Result<(), Stop>
+        requires declared { is_declared (setups (devices_of self.old)) dev.0 ≡ true }
+        ensures heard { (frames grants : ℕ → ℕ) (m : List Item) →
+            Stands (sight W.word W.frames_of W.grants_of W.port W.whole W.knows_device W.knows_domain) frames grants (memory_of self.old) (devices_of self.old) m → entries m ≡ journal.old.entries →
+            Enters (sight W.word W.frames_of W.grants_of W.port W.whole W.knows_device W.knows_domain) frames grants (memory_of self.new) (devices_of self.new) (Entered (entry.Bus dev end.Front s)) journal.new.entries m result }
+        ensures devices { setups (devices_of self.new) ≡ setups (devices_of self.old) }
+        ensures memory { memory_of self.new ≡ memory_of self.old }
+    {
+        let i = self.position(dev);
+        enter(journal, Entry::Bus(dev, End::Front, s))?;
+        let placed = &mut self.devices[i];
+        placed.display.bus(s, &placed.nodes);
+        Ok(())
+    }
+
+    /// A frontend raises its device's pending word.
+    pub fn wake(&mut self, dev: DevId, journal: &mut Journal) -> Result<(), Stop>
+        requires declared { is_declared (setups (devices_of self.old)) dev.0 ≡ true }
+        ensures woken { (frames grants : ℕ → ℕ) (m : List Item) →
+            Stands (sight W.word W.frames_of W.grants_of W.port W.whole W.knows_device W.knows_domain) frames grants (memory_of self.old) (devices_of self.old) m → entries m ≡ journal.old.entries →
+            Enters (sight W.word W.frames_of W.grants_of W.port W.whole W.knows_device W.knows_domain) frames grants (memory_of self.new) (devices_of self.new) (Entered (entry.Wake dev)) journal.new.entries m result }
+        ensures same { self.new ≡ self.old }
+    {
+        enter(journal, Entry::Wake(dev))
+    }
+
+    // Makes one step of a device and enters it. Tells whether it made an access, or was idle.
+    fn advance(&mut self, i: usize, dev: DevId, journal: &mut Journal) -> Result<Option<bool>, Stop>
+        requires standing { Standing (sight W.word W.frames_of W.grants_of W.port W.whole W.knows_device W.knows_domain) (memory_of self.old) (devices_of self.old) journal.old.entries }
+        requires at { IsAt (devices_of self.old) i dev }
+        ensures advanced { (frames grants : ℕ → ℕ) (m : List Item) →
+            Stands (sight W.word W.frames_of W.grants_of W.port W.whole W.knows_device W.knows_domain) frames grants (memory_of self.old) (devices_of self.old) m → entries m ≡ journal.old.entries →
+            Advanced (sight W.word W.frames_of W.grants_of W.port W.whole W.knows_device W.knows_domain) frames grants (memory_of self.new) (devices_of self.new) dev journal.new.entries m result }
+        ensures at { IsAt (devices_of self.new) i dev }
+        ensures devices { setups (devices_of self.new) ≡ setups (devices_of self.old) }
+        ensures grows { Grows result journal.old.entries journal.new.entries }
+    {
+        self.memory.turn(Who::Dev(dev));
+        let step = self.devices[i].display.step(&mut self.memory);
+        record(journal, dev, &step)
+    }
+
+    /// Steps a device until it is idle, or, where a number is given, until it has made so many accesses. After a Stop the
+    /// entries so far stand.
+    pub fn back(&mut self, dev: DevId, most: Option<u32>, journal: &mut Journal) -> Result<(), Stop>
+        requires standing { Standing (sight W.word W.frames_of W.grants_of W.port W.whole W.knows_device W.knows_domain) (memory_of self.old) (devices_of self.old) journal.old.entries }
+        requires declared { is_declared (setups (devices_of self.old)) dev.0 ≡ true }
+        requires least { (n : ℕ) → most ≡ Some n → 1 ≤ n }
+        ensures stepped { (frames grants : ℕ → ℕ) (m : List Item) →
+            Stands (sight W.word W.frames_of W.grants_of W.port W.whole W.knows_device W.knows_domain) frames grants (memory_of self.old) (devices_of self.old) m → entries m ≡ journal.old.entries →
+            SteppedBy (sight W.word W.frames_of W.grants_of W.port W.whole W.knows_device W.knows_domain) frames grants (memory_of self.new) (devices_of self.new) dev most journal.new.entries m result }
+        ensures devices { setups (devices_of self.new) ≡ setups (devices_of self.old) }
+    {
+        let i = self.position(dev);
+        let mut made = 0;
+        'stepping: while let Some(accessed) = self.advance(i, dev, journal)? {
+            if accessed {
+                made += 1;
+                if most == Some(made) {
+                    return Ok(());
+                }
+            }
         }
+        Ok(())
     }
 }

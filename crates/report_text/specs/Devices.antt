@@ -10,22 +10,10 @@ use Rattle.pv_words.specs.declared.device.Reason.TheVariants as reason
 use Rattle.pv_words.specs.declared.device.Said.{Said}
 use Rattle.pv_words.specs.declared.device.Said.TheVariants as said
 use Rattle.pv_words.specs.declared.device.State.{State}
-use Rattle.pv_words.specs.declared.device.State.TheVariants as state
 use Rattle.pv_words.specs.declared.entry.End.{End}
 use Rattle.pv_words.specs.declared.entry.End.TheVariants.{Front, Back}
+use Rattle.xenbus_states.specs.States.{number_of}
 use Rattle.report_text.specs.Grants.{refusal_fields}
-
--- the number of a state (xenbus.h)
-abbrev pub state_number : State → ℕ
-state_number state.Unknown = 0
-state_number state.Initialising = 1
-state_number state.InitWait = 2
-state_number state.Initialised = 3
-state_number state.Connected = 4
-state_number state.Closing = 5
-state_number state.Closed = 6
-state_number state.Reconfiguring = 7
-state_number state.Reconfigured = 8
 
 -- which end of a device
 abbrev pub end_word : End → List ℕ
@@ -34,7 +22,7 @@ end_word Back = codes "back"
 
 -- an end of a device took a state
 abbrev pub bus_fields : ℕ → End → State → List (List ℕ)
-bus_fields dev end taken = codes "bus" ∷ decimal dev ∷ end_word end ∷ decimal (state_number taken) ∷ []
+bus_fields dev end taken = codes "bus" ∷ decimal dev ∷ end_word end ∷ decimal (number_of taken) ∷ []
 
 -- what is wrong with a node
 abbrev pub fault_word : NodeFault → List ℕ
@@ -54,7 +42,7 @@ node_fields dev part key value =
 
 -- why a device closed its connection
 abbrev pub reason_fields : Reason → List (List ℕ)
-reason_fields (reason.Asked asked) = codes "asked" ∷ decimal (state_number asked) ∷ []
+reason_fields (reason.Asked asked) = codes "asked" ∷ decimal (number_of asked) ∷ []
 reason_fields (reason.Overrun producer replied) = codes "overrun" ∷ decimal producer ∷ decimal replied ∷ []
 reason_fields (reason.BadCons producer consumer) = codes "badcons" ∷ decimal producer ∷ decimal consumer ∷ []
 reason_fields (reason.Spent producer) = codes "spent" ∷ decimal producer ∷ []

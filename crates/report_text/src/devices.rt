@@ -1,29 +1,13 @@
 //! What devices say, their states and their nodes.
 
 ghost use Rattle.std.specs.Prelude.{◌≡◌, ◌+◌, ◌<◌, ◌≤◌, length};
-ghost use Rattle.report_text.specs.Devices.{bus_fields, node_fields, notify_fields, reason_fields, said_fields, state_number};
+ghost use Rattle.report_text.specs.Devices.{bus_fields, node_fields, notify_fields, reason_fields, said_fields};
 ghost use Rattle.report_text.specs.Fields.{with_fields, joined};
 
 use crate::builder::{Line, MAX_LINE_LEN};
 use crate::grants::push_refusal;
 use pv_words::{DevId, End, NodeFault, NodeValue, Reason, Said, State};
-
-/// The number of a state (xenbus.h).
-fn state_number(state: State) -> u32
-    ensures { result ≡ state_number state }
-{
-    match state {
-        State::Unknown => 0,
-        State::Initialising => 1,
-        State::InitWait => 2,
-        State::Initialised => 3,
-        State::Connected => 4,
-        State::Closing => 5,
-        State::Closed => 6,
-        State::Reconfiguring => 7,
-        State::Reconfigured => 8,
-    }
-}
+use xenbus_states::number_of;
 
 /// Writes that an end of a device took a state.
 pub(crate) fn write_bus(out: &mut Line, dev: DevId, end: End, state: State)
@@ -32,8 +16,8 @@ pub(crate) fn write_bus(out: &mut Line, dev: DevId, end: End, state: State)
 {
     out.start(b"bus", &[u32::from(dev.0)]);
     match end {
-        End::Front => out.push(b" front", &[state_number(state)]),
-        End::Back => out.push(b" back", &[state_number(state)]),
+        End::Front => out.push(b" front", &[number_of(state)]),
+        End::Back => out.push(b" back", &[number_of(state)]),
     }
 }
 
@@ -60,7 +44,7 @@ fn push_reason(out: &mut Line, reason: Reason)
     ensures length { length out.new ≤ length out.old + 36 }
 {
     match reason {
-        Reason::Asked(state) => out.push(b" asked", &[state_number(state)]),
+        Reason::Asked(state) => out.push(b" asked", &[number_of(state)]),
         Reason::Overrun(producer, replied) => out.push(b" overrun", &[producer, replied]),
         Reason::BadCons(producer, consumer) => out.push(b" badcons", &[producer, consumer]),
         Reason::Spent(producer) => out.push(b" spent", &[producer]),

@@ -1,17 +1,27 @@
 // What no clause says: whole scenarios, printed text, and calls that succeed.
 use super::*;
 use pv_ports::{ListSink, ListSource};
-use pv_words::{DevId, Entry, JOURNAL_LIMIT};
+use pv_words::{Access, DevId, DomId, Entry, Frame, JOURNAL_LIMIT, Place};
 use scenario_text::{FaultKind, ScriptFault};
 use std::alloc::AllocError;
 use std::mem::size_of;
 use std::test::Fail;
 
-const DOMAIN_AND_DISPLAY: &str = "domain 1 wild 1 0\ndisplay 1 1 1\n";
+// A domain with two frames, and a display of one connector. Its ring page is frame 0: the device is to notify the frontend
+// of reply 1.
+const DECLARED: &str = "domain 1 wild 2 2\ndisplay 1 1 1\nput 1 0 1 1\nput 1 0 3 1\n";
+
+const OPENED: &str = "open 1 0 0 rw 2\n";
+
+const NODES: &str =
+    "node 1 0 req-ring-ref 0\nnode 1 0 req-event-channel 1\nnode 1 0 evt-ring-ref 1\nnode 1 0 evt-event-channel 2\n";
+
+const CONNECTS: &str = "bus 1 3\nserve 1\n";
+
+const CONNECTED: &str = "bus 1 front 3\nbus 1 back 4\n";
 
 // One SET_CONFIG of zeros.
-const ONE_REQUEST: &str =
-    "domain 1 wild 1 0\ndisplay 1 1 1\nput 1 0 3 1\nput 1 0 16 0x00040001\nput 1 0 0 1\nserve 1\n";
+const ASKS: &str = "put 1 0 16 0x00040001\nput 1 0 0 1\n";
 
 // What came of a run over ports in memory.
 #[derive(Drop)]
@@ -32,7 +42,7 @@ fn run_over(
     octets.extend_from_slice(script)?;
     let mut source = ListSource::new(octets, reads);
     let mut sink = ListSink::new(alloc, writes);
-    sink.reserve(1000)?;
+    sink.reserve(10000)?;
     let mut words = Vec::new(alloc);
     words.push(String::from_str(alloc, "run")?)?;
     let mut journal = Journal::new(alloc);
@@ -46,6 +56,46 @@ fn run_over(
 
 fn run_script(alloc: Global, script: &str) -> Result<Outcome, AllocError> {
     run_over(alloc, script.as_bytes(), Vec::new(alloc), Vec::new(alloc))
+}
+
+// These parts of a script, one after another.
+fn joined(alloc: Global, parts: &[&str]) -> Result<String, AllocError> {
+    let mut script = String::new(alloc);
+    for part in parts {
+        script.push_str(part)?;
+    }
+    Ok(script)
+}
+
+fn run_parts(alloc: Global, parts: &[&str]) -> Result<Outcome, AllocError> {
+    let script = joined(alloc, parts)?;
+    run_script(alloc, script.as_str())
+}
+
+// Runs a script that goes on where the device is connected.
+fn run_connected(alloc: Global, more: &str) -> Result<Outcome, AllocError> {
+    run_parts(alloc, &[DECLARED, OPENED, NODES, CONNECTS, more])
+}
+
+// One request, of which no word is wrong.
+fn one_request_script(alloc: Global) -> Result<String, AllocError> {
+    joined(
+        alloc,
+        &[DECLARED, OPENED, NODES, CONNECTS, ASKS, "serve 1\n"],
+    )
+}
+
+// How many accesses a device made.
+fn accesses(journal: &Journal, dev: DevId) -> usize {
+    let mut made = 0usize;
+    for entry in journal.as_slice() {
+        if let Entry::Back(by, _) = entry
+            && by.0 == dev.0
+        {
+            made = made.saturating_add(1);
+        }
+    }
+    made
 }
 
 fn status_of(alloc: Global, script: &[u8]) -> Result<Status, AllocError> {
@@ -67,46 +117,305 @@ fn an_empty_script(rt: HostRuntime) -> Result<(), Fail> {
 
 #[test]
 fn one_request(rt: HostRuntime) -> Result<(), Fail> {
-    let outcome = run_script(rt.alloc(), ONE_REQUEST)?;
+    let alloc = rt.alloc();
+    let outcome = run_connected(alloc, "")?;
+    assert_eq!(rt; outcome.status, Status::Ok);
+    assert_eq!(rt; outcome.sink.as_slice(), CONNECTED.as_bytes());
+    assert_eq!(rt; accesses(&outcome.journal, DevId(1)), 11);
+    let script = one_request_script(alloc)?;
+    let outcome = run_script(alloc, script.as_str())?;
     assert_eq!(rt; outcome.status, Status::Ok);
     assert_eq!(rt;
         outcome.sink.as_slice(),
-        b"request 1 0 1 4\nreply 1 0 1 0 notify\n".as_slice()
+        b"bus 1 front 3\nbus 1 back 4\nrequest 1 0 1 4\nreply 1 0 1 0 notify\n".as_slice()
     );
-    let entries = outcome.journal.as_slice();
-    let accesses = entries
-        .iter()
-        .filter(|entry| matches!(entry, Entry::Back(DevId(1), _)))
-        .count();
-    assert_eq!(rt; accesses, 38);
+    assert_eq!(rt; accesses(&outcome.journal, DevId(1)), 11 + 38);
     Ok(())
 }
 
 #[test]
-fn an_operation_that_is_not_known(rt: HostRuntime) -> Result<(), Fail> {
-    let outcome = run_script(
-        rt.alloc(),
-        "domain 1 wild 1 0\ndisplay 1 1 1\nput 1 0 3 1\nput 1 0 16 0x00090001\nput 1 0 0 1\nserve 1\n",
+fn what_a_connected_device_answers(rt: HostRuntime) -> Result<(), Fail> {
+    let alloc = rt.alloc();
+    for (more, lines) in [
+        (
+            "put 1 0 16 0x00090001\nput 1 0 0 1\nserve 1\n",
+            "request 1 0 1 9\nreply 1 0 1 -95 notify\n",
+        ),
+        (
+            "put 1 0 0 33\nserve 1\n",
+            "closed 1 overrun 33 0\nbus 1 back 6\n",
+        ),
+        (
+            "bus 1 5\nwake 1\nserve 1\nbus 1 1\nserve 1\nbus 1 3\nserve 1\n",
+            "bus 1 front 5\nclosed 1 asked 5\nbus 1 back 6\nbus 1 front 1\nbus 1 back 2\nbus 1 front 3\nbus 1 back 4\n",
+        ),
+    ] {
+        let outcome = run_connected(alloc, more)?;
+        let wanted = joined(alloc, &[CONNECTED, lines])?;
+        assert_eq!(rt; outcome.status, Status::Ok);
+        assert_eq!(rt; outcome.sink.as_slice(), wanted.as_bytes());
+    }
+    Ok(())
+}
+
+#[test]
+fn as_many_requests_as_slots(rt: HostRuntime) -> Result<(), Fail> {
+    let alloc = rt.alloc();
+    let outcome = run_connected(alloc, "put 1 0 0 32\nserve 1\n")?;
+    let mut wanted = joined(
+        alloc,
+        &[CONNECTED, "request 1 0 0 0\nreply 1 0 0 -95 notify\n"],
+    )?;
+    for _ in 1..32 {
+        wanted.push_str("request 1 0 0 0\nreply 1 0 0 -95\n")?;
+    }
+    assert_eq!(rt; outcome.status, Status::Ok);
+    assert_eq!(rt; outcome.sink.as_slice(), wanted.as_bytes());
+    Ok(())
+}
+
+#[test]
+fn indices_go_on_at_zero(rt: HostRuntime) -> Result<(), Fail> {
+    let alloc = rt.alloc();
+    let outcome = run_parts(
+        alloc,
+        &[
+            DECLARED,
+            OPENED,
+            NODES,
+            "put 1 0 0 4294967294\nput 1 0 2 4294967294\n",
+            CONNECTS,
+            "put 1 0 0 2\nserve 1\n",
+        ],
+    )?;
+    let pair = "request 1 0 0 0\nreply 1 0 0 -95\n";
+    let notified = "request 1 0 0 0\nreply 1 0 0 -95 notify\n";
+    let wanted = joined(alloc, &[CONNECTED, pair, pair, notified, pair])?;
+    assert_eq!(rt; outcome.status, Status::Ok);
+    assert_eq!(rt; outcome.sink.as_slice(), wanted.as_bytes());
+    Ok(())
+}
+
+#[test]
+fn nodes_that_are_faulty(rt: HostRuntime) -> Result<(), Fail> {
+    let alloc = rt.alloc();
+    for (nodes, lines) in [
+        (
+            "node 1 0 req-event-channel 1\nnode 1 0 evt-ring-ref 1\nnode 1 0 evt-event-channel 2\n",
+            "closed 1 node 0 0 missing\n",
+        ),
+        (
+            "node 1 0 req-ring-ref 0\nnode 1 0 req-event-channel x\n",
+            "closed 1 node 0 1 bad\n",
+        ),
+        (
+            "node 1 0 req-ring-ref 0\nnode 1 0 req-event-channel 1\nnode 1 0 evt-ring-ref 0x1\n",
+            "closed 1 node 0 2 bad\n",
+        ),
+        (
+            "node 1 0 req-ring-ref 4294967296\n",
+            "closed 1 node 0 0 bad\n",
+        ),
+    ] {
+        let outcome = run_parts(alloc, &[DECLARED, OPENED, nodes, CONNECTS])?;
+        let wanted = joined(alloc, &["bus 1 front 3\n", lines, "bus 1 back 6\n"])?;
+        assert_eq!(rt; outcome.status, Status::Ok);
+        assert_eq!(rt; outcome.sink.as_slice(), wanted.as_bytes());
+        assert_eq!(rt; accesses(&outcome.journal, DevId(1)), 0);
+    }
+    Ok(())
+}
+
+#[test]
+fn nodes_are_seen_with_the_next_state(rt: HostRuntime) -> Result<(), Fail> {
+    let alloc = rt.alloc();
+    let outcome = run_parts(
+        alloc,
+        &[
+            DECLARED,
+            OPENED,
+            "bus 1 3\n",
+            NODES,
+            "serve 1\nbus 1 1\nserve 1\nbus 1 3\nserve 1\n",
+        ],
     )?;
     assert_eq!(rt; outcome.status, Status::Ok);
     assert_eq!(rt;
         outcome.sink.as_slice(),
-        b"request 1 0 1 9\nreply 1 0 1 -95 notify\n".as_slice()
+        b"bus 1 front 3\nclosed 1 node 0 0 missing\nbus 1 back 6\nbus 1 front 1\nbus 1 back 2\nbus 1 front 3\nbus 1 back 4\n".as_slice()
     );
     Ok(())
 }
 
 #[test]
-fn more_requests_than_slots(rt: HostRuntime) -> Result<(), Fail> {
-    let outcome = run_script(
-        rt.alloc(),
-        "domain 1 wild 1 0\ndisplay 1 1 1\nput 1 0 3 1\nput 1 0 16 0x00040001\nput 1 0 0 33\nserve 1\n",
+fn maps_that_are_refused(rt: HostRuntime) -> Result<(), Fail> {
+    let alloc = rt.alloc();
+    for (opened, changed, lines, made) in [
+        (OPENED, "node 1 0 req-ring-ref 2\n", "noentry 2\n", 0),
+        (OPENED, "node 1 0 evt-ring-ref 2\n", "noentry 2\n", 5),
+        ("", "", "notpermitted 0\n", 1),
+        (OPENED, "putg 1 0 flags 65537\n", "otherdomain 65537\n", 1),
+        ("open 1 0 0 ro 2\n", "", "readonly 5\n", 1),
+        (OPENED, "putg 1 0 flags 9\n", "inuse 9\n", 1),
+        (OPENED, "node 1 0 evt-ring-ref 0\n", "inuse 25\n", 6),
+        (OPENED, "putg 1 1 frame 2\n", "badframe 2\n", 9),
+    ] {
+        let outcome = run_parts(alloc, &[DECLARED, opened, NODES, changed, CONNECTS])?;
+        let wanted = joined(
+            alloc,
+            &["bus 1 front 3\nclosed 1 refused ", lines, "bus 1 back 6\n"],
+        )?;
+        assert_eq!(rt; outcome.status, Status::Ok);
+        assert_eq!(rt; outcome.sink.as_slice(), wanted.as_bytes());
+        assert_eq!(rt; accesses(&outcome.journal, DevId(1)), made);
+    }
+    Ok(())
+}
+
+#[test]
+fn a_refused_connect_leaves_no_page_mapped(rt: HostRuntime) -> Result<(), Fail> {
+    let alloc = rt.alloc();
+    let changed = "node 1 0 evt-ring-ref 0\n";
+    let outcome = run_parts(
+        alloc,
+        &[DECLARED, OPENED, NODES, changed, CONNECTS, "end 1 0 1\n"],
     )?;
     assert_eq!(rt; outcome.status, Status::Ok);
     assert_eq!(rt;
         outcome.sink.as_slice(),
-        b"closed 1 overrun 33 0\nbus 1 back 6\n".as_slice()
+        b"bus 1 front 3\nclosed 1 refused inuse 25\nbus 1 back 6\ngrant 1 0 ended\n".as_slice()
     );
+    Ok(())
+}
+
+#[test]
+fn a_connect_is_cut_and_goes_on(rt: HostRuntime) -> Result<(), Fail> {
+    let alloc = rt.alloc();
+    for (more, lines, made) in [
+        ("back 1 7\n", "", 7),
+        ("back 1 8\n", "bus 1 back 4\n", 8),
+        ("back 1 7\nback 1 100\n", "bus 1 back 4\n", 11),
+        (
+            "back 1 7\nbus 1 5\nserve 1\n",
+            "bus 1 front 5\nbus 1 back 4\nclosed 1 asked 5\nbus 1 back 6\n",
+            10,
+        ),
+    ] {
+        let outcome = run_parts(alloc, &[DECLARED, OPENED, NODES, "bus 1 3\n", more])?;
+        let wanted = joined(alloc, &["bus 1 front 3\n", lines])?;
+        assert_eq!(rt; outcome.status, Status::Ok);
+        assert_eq!(rt; outcome.sink.as_slice(), wanted.as_bytes());
+        assert_eq!(rt; accesses(&outcome.journal, DevId(1)), made);
+    }
+    Ok(())
+}
+
+// Four accesses look at the ring and load the slot's words 0 to 2.
+#[test]
+fn each_word_of_a_slot_is_loaded_once(rt: HostRuntime) -> Result<(), Fail> {
+    let alloc = rt.alloc();
+    for (change, reply) in [
+        ("put 1 0 18 5\n", "reply 1 0 1 0 notify\n"),
+        ("put 1 0 19 5\n", "reply 1 0 1 -2 notify\n"),
+    ] {
+        let more = joined(alloc, &[ASKS, "back 1 4\n", change, "serve 1\n"])?;
+        let outcome = run_connected(alloc, more.as_str())?;
+        let wanted = joined(alloc, &[CONNECTED, "request 1 0 1 4\n", reply])?;
+        assert_eq!(rt; outcome.status, Status::Ok);
+        assert_eq!(rt; outcome.sink.as_slice(), wanted.as_bytes());
+        assert_eq!(rt; accesses(&outcome.journal, DevId(1)), 11 + 38);
+    }
+    Ok(())
+}
+
+// The nodes of a part, whose pages are those of these two grants.
+fn nodes_of(alloc: Global, dev: u8, part: u8, ring: u8, event: u8) -> Result<String, AllocError> {
+    format!(in alloc;
+        "node {dev} {part} req-ring-ref {ring}\nnode {dev} {part} req-event-channel 1\nnode {dev} {part} evt-ring-ref {event}\nnode {dev} {part} evt-event-channel 2\n"
+    )
+}
+
+// Domain 1 has devices 3 and 5, of which 5 has two connectors, and domain 2 has device 1. All of them connect.
+fn three_devices(alloc: Global) -> Result<String, AllocError> {
+    let of_3 = nodes_of(alloc, 3, 0, 0, 1)?;
+    let of_5 = nodes_of(alloc, 5, 0, 2, 3)?;
+    let second_of_5 = nodes_of(alloc, 5, 1, 4, 5)?;
+    let of_1 = nodes_of(alloc, 1, 0, 0, 1)?;
+    joined(
+        alloc,
+        &[
+            "domain 1 wild 6 6\ndomain 2 wild 2 2\ndisplay 3 1 1\ndisplay 5 1 2\ndisplay 1 2 1\n",
+            "open 1 0 0 rw 6\nopen 2 0 0 rw 2\n",
+            of_3.as_str(),
+            of_5.as_str(),
+            second_of_5.as_str(),
+            of_1.as_str(),
+            "bus 3 3\nbus 5 3\nbus 1 3\nserve 5\nserve 1\nserve 3\n",
+        ],
+    )
+}
+
+const ALL_CONNECTED: &str =
+    "bus 3 front 3\nbus 5 front 3\nbus 1 front 3\nbus 5 back 4\nbus 1 back 4\nbus 3 back 4\n";
+
+#[test]
+fn several_devices_connect(rt: HostRuntime) -> Result<(), Fail> {
+    let alloc = rt.alloc();
+    let script = three_devices(alloc)?;
+    let outcome = run_script(alloc, script.as_str())?;
+    assert_eq!(rt; outcome.status, Status::Ok);
+    assert_eq!(rt; outcome.sink.as_slice(), ALL_CONNECTED.as_bytes());
+    assert_eq!(rt; accesses(&outcome.journal, DevId(1)), 11);
+    assert_eq!(rt; accesses(&outcome.journal, DevId(3)), 11);
+    assert_eq!(rt; accesses(&outcome.journal, DevId(5)), 22);
+    Ok(())
+}
+
+// Two requests by connector 0 of device 5, and one by connector 1.
+const ASKS_OF_BOTH: &str =
+    "put 1 2 3 2\nput 1 2 16 0x00040001\nput 1 2 32 0x00040002\nput 1 2 0 2\nput 1 4 3 1\nput 1 4 16 0x00040007\nput 1 4 0 1\n";
+
+#[test]
+fn a_round_goes_by_connectors(rt: HostRuntime) -> Result<(), Fail> {
+    let alloc = rt.alloc();
+    let declared = three_devices(alloc)?;
+    let outcome = run_parts(alloc, &[declared.as_str(), ASKS_OF_BOTH, "serve 5\n"])?;
+    let wanted = joined(
+        alloc,
+        &[
+            ALL_CONNECTED,
+            "request 5 0 1 4\nreply 5 0 1 0\nrequest 5 0 2 4\nreply 5 0 2 0 notify\n",
+            "request 5 1 7 4\nreply 5 1 7 0 notify\n",
+        ],
+    )?;
+    assert_eq!(rt; outcome.status, Status::Ok);
+    assert_eq!(rt; outcome.sink.as_slice(), wanted.as_bytes());
+    assert_eq!(rt; accesses(&outcome.journal, DevId(5)), 22 + 110);
+    Ok(())
+}
+
+#[test]
+fn a_device_closes_and_others_go_on(rt: HostRuntime) -> Result<(), Fail> {
+    let alloc = rt.alloc();
+    let declared = three_devices(alloc)?;
+    let outcome = run_parts(
+        alloc,
+        &[
+            declared.as_str(),
+            "bus 3 5\nserve 3\nend 1 0 1\nend 1 2 1\nput 2 0 0 1\nserve 1\n",
+        ],
+    )?;
+    let wanted = joined(
+        alloc,
+        &[
+            ALL_CONNECTED,
+            "bus 3 front 5\nclosed 3 asked 5\nbus 3 back 6\ngrant 1 0 ended\ngrant 1 2 busy 25\n",
+            "request 1 0 0 0\nreply 1 0 0 -95\n",
+        ],
+    )?;
+    assert_eq!(rt; outcome.status, Status::Ok);
+    assert_eq!(rt; outcome.sink.as_slice(), wanted.as_bytes());
+    assert_eq!(rt; accesses(&outcome.journal, DevId(3)), 11 + 2);
     Ok(())
 }
 
@@ -157,26 +466,20 @@ fn words_that_are_no_command(rt: HostRuntime) -> Result<(), Fail> {
 #[test]
 fn a_sink_that_fails_keeps_what_it_got(rt: HostRuntime) -> Result<(), Fail> {
     let alloc = rt.alloc();
-    let outcome = run_over(
-        alloc,
-        ONE_REQUEST.as_bytes(),
-        Vec::new(alloc),
-        vec![in alloc; 1u64]?,
-    )?;
+    let script = one_request_script(alloc)?;
+    let writes = vec![in alloc; 1u64]?;
+    let outcome = run_over(alloc, script.as_bytes(), Vec::new(alloc), writes)?;
     assert_eq!(rt; outcome.status, Status::WriteFault);
-    assert_eq!(rt; outcome.sink.as_slice(), b"request 1 0 1 4\n".as_slice());
+    assert_eq!(rt; outcome.sink.as_slice(), b"bus 1 front 3\n".as_slice());
     Ok(())
 }
 
 #[test]
 fn a_source_that_fails_is_told(rt: HostRuntime) -> Result<(), Fail> {
     let alloc = rt.alloc();
-    let outcome = run_over(
-        alloc,
-        ONE_REQUEST.as_bytes(),
-        vec![in alloc; 0u64]?,
-        Vec::new(alloc),
-    )?;
+    let script = one_request_script(alloc)?;
+    let reads = vec![in alloc; 0u64]?;
+    let outcome = run_over(alloc, script.as_bytes(), reads, Vec::new(alloc))?;
     assert_eq!(rt; outcome.status, Status::ReadFault);
     assert_eq!(rt; outcome.sink.as_slice(), b"".as_slice());
     assert!(rt; outcome.journal.is_empty());
@@ -196,9 +499,10 @@ fn a_script_that_is_too_long(rt: HostRuntime) -> Result<(), Fail> {
 #[test]
 fn each_front_of_a_script_is_read(rt: HostRuntime) -> Result<(), Fail> {
     let alloc = rt.alloc();
-    let script = ONE_REQUEST.as_bytes();
-    for end in 0..script.len() {
-        let status = status_of(alloc, &script[..end])?;
+    let script = one_request_script(alloc)?;
+    let octets = script.as_bytes();
+    for end in 0..octets.len() {
+        let status = status_of(alloc, &octets[..end])?;
         assert!(rt; matches!(status, Status::Ok | Status::Script(_)));
     }
     Ok(())
@@ -242,9 +546,44 @@ fn octets_and_numbers_that_are_refused(rt: HostRuntime) -> Result<(), Fail> {
     Ok(())
 }
 
-// A script that has more entries due than a journal has: each round of 32 requests makes 1158.
+#[test]
+fn a_fill_goes_on_in_the_next_frame(rt: HostRuntime) -> Result<(), Fail> {
+    let script = "domain 1 wild 2 0\nfill 1 0 1022 3 4294967295 2\n";
+    let outcome = run_script(rt.alloc(), script)?;
+    let stored = |frame, word, v| {
+        let place = Place::Cell(DomId(1), Frame(frame), word);
+        Entry::Front(DomId(1), Access::Store(place, v))
+    };
+    let entries = [
+        stored(0, 1022, 4_294_967_295),
+        stored(0, 1023, 1),
+        stored(1, 0, 3),
+    ];
+    assert_eq!(rt; outcome.status, Status::Ok);
+    assert_eq!(rt; outcome.sink.as_slice(), b"".as_slice());
+    assert_eq!(rt; outcome.journal.as_slice(), entries.as_slice());
+    Ok(())
+}
+
+#[test]
+fn a_fill_comes_to_the_limit(rt: HostRuntime) -> Result<(), Fail> {
+    let alloc = rt.alloc();
+    for (count, status) in [("8388608", Status::Ok), ("8388609", Status::JournalFull)] {
+        let script = joined(
+            alloc,
+            &["domain 1 wild 16384 0\nfill 1 0 0 ", count, " 0 0\n"],
+        )?;
+        let outcome = run_script(alloc, script.as_str())?;
+        assert_eq!(rt; outcome.status, status);
+        assert_eq!(rt; outcome.sink.as_slice(), b"".as_slice());
+        assert_eq!(rt; outcome.journal.len(), JOURNAL_LIMIT);
+    }
+    Ok(())
+}
+
+// A script that has more entries due than a journal has: each round of 32 requests makes 1157.
 fn endless(alloc: Global) -> Result<String, AllocError> {
-    let mut script = String::from_str(alloc, DOMAIN_AND_DISPLAY)?;
+    let mut script = joined(alloc, &[DECLARED, OPENED, NODES, CONNECTS])?;
     for round in 1..=7300u32 {
         let prod = 32 * round;
         script.push_str(&format!(in alloc; "put 1 0 0 {prod}\nserve 1\n")?)?;

@@ -61,8 +61,9 @@ pub fn run<S: Source, K: Sink>(
 
     ensures usage { (result ≡ status.Usage) ↔ (is_run words.now.items ≡ false) }
 
-    // Whatever the status: the journal is lawful and explained, what the devices say are runs of the display machine,
-    // and each access of theirs lies in a page that they hold.
+    // Whatever the status: the journal is lawful and explained; what each device says and hears is a run of the display
+    // machine, in which a connection closes only for a cause; and each access of a device lies in a page that it mapped
+    // and hasn't unmapped.
     ensures every_path { HasPlayed (S.rest source.old) (S.rest source.new) journal.new.entries }
 {
     if !asks_to_run(words) {

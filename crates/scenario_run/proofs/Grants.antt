@@ -1,5 +1,5 @@
 -- From single grants to all grants of a statement.
-use Rattle.std.proofs.Common.{◌≡◌, ℕ, suc, ◌+◌, ◌<◌, ◌≤◌, ◌⊎◌, inl, inr, List, [], ◌∷◌, ◌++◌, Option, Ok, refl, sym, subst, ◌∙◌, ap, append_assoc, arith}
+use Rattle.std.proofs.Common.{◌≡◌, ℕ, suc, ◌+◌, ◌<◌, ◌≤◌, ◌⊎◌, inl, inr, List, [], ◌∷◌, ◌++◌, Ok, refl, sym, subst, ◌∙◌, ap, append_assoc, arith}
 use Rattle.std.proofs.lemmas.List.{append-nil}
 use Rattle.std.proofs.Math.Nat.{eq-or-lt_of_le}
 use Rattle.pv_words.specs.declared.entry.Entry.{Entry}
@@ -7,7 +7,6 @@ use Rattle.pv_words.specs.declared.journal.Stop.{Stop}
 use Rattle.pv_words.specs.declared.journal.Stop.TheVariants.{JournalFull, OutOfMemory}
 use Rattle.pv_words.specs.declared.place.DomId.{DomId}
 use Rattle.pv_words.specs.declared.place.GrantRef.{GrantRef}
-use Rattle.pv_words.specs.declared.place.Place.{Place}
 use Rattle.pv_words.specs.declared.setup.DeviceSetup.{DeviceSetup}
 use Rattle.pv_words.specs.Plan.{Plan}
 use Rattle.grant_table.specs.declared.owner.Owned.{Owned}
@@ -16,14 +15,14 @@ use Rattle.pv_world.specs.declared.world.Placed.{Placed}
 use Rattle.pv_world.specs.Marked.{Item, Entered, entries}
 use Rattle.pv_world.specs.History.{IsHistory}
 use Rattle.pv_world.specs.Owner.{IsDone, IsUnderWay, HasCauseAt, Owns, StopsOwning}
-use Rattle.pv_world.specs.World.{Stands, setups}
+use Rattle.pv_world.specs.World.{Sight, Stands, setups}
 use Rattle.scenario_run.specs.Follows.{EachDone, EachTo, IsPartOf, IsRow}
 use Rattle.scenario_run.specs.Played.{StopsAt, HasCauseIn}
 
 -- the first n grants are done, and the world stands for it
-abbrev pub SoFar : {W : Type 0} (word : W → Place → ℕ) (fs gs : W → ℕ → ℕ) (frames grants : ℕ → ℕ) (memory : W) (device : Option Placed) (dom : DomId) (gref : GrantRef) (plans : ℕ → Plan Owned) (n : ℕ) (es : List Entry) (m : List Item) → Type 0
-SoFar word fs gs frames grants memory device dom gref plans n es m =
-    (here : List Item) × EachDone dom gref plans n here × Stands word fs gs frames grants memory device (m ++ here) × (entries (m ++ here) ≡ es)
+abbrev pub SoFar : {W : Type 0} (g : Sight W) (frames grants : ℕ → ℕ) (memory : W) (devices : List Placed) (dom : DomId) (gref : GrantRef) (plans : ℕ → Plan Owned) (n : ℕ) (es : List Entry) (m : List Item) → Type 0
+SoFar g frames grants memory devices dom gref plans n es m =
+    (here : List Item) × EachDone dom gref plans n here × Stands g frames grants memory devices (m ++ here) × (entries (m ++ here) ≡ es)
 
 module _ (frames grants : ℕ → ℕ) (dom : DomId) (gref : GrantRef) (plans : ℕ → Plan Owned) (count : ℕ) (s : Statement)
     (part_of : (h : List Item) → EachTo dom gref plans count h → IsPartOf s h)
@@ -55,9 +54,9 @@ module _ (frames grants : ℕ → ℕ) (dom : DomId) (gref : GrantRef) (plans : 
       }
   each_cause devices OutOfMemory m front part es done h = tt
 
-  module _ {W : Type 0} (word : W → Place → ℕ) (fs gs : W → ℕ → ℕ) where
-    pub each_stops : (memory later : W) (device then : Option Placed) (es new : List Entry) (m : List Item) (stop : Stop) → SoFar word fs gs frames grants memory device dom gref plans n es m → ((k : List Item) → Stands word fs gs frames grants memory device k → entries k ≡ es → StopsOwning frames grants (setups then) dom (record { 0 = gref.0 + n }) (plans n) stop k new) → StopsAt frames grants (setups then) s stop m new
-    each_stops memory later device then es new m stop a f =
+  module _ {W : Type 0} (g : Sight W) where
+    pub each_stops : (memory later : W) (devices then : List Placed) (es new : List Entry) (m : List Item) (stop : Stop) → SoFar g frames grants memory devices dom gref plans n es m → ((k : List Item) → Stands g frames grants memory devices k → entries k ≡ es → StopsOwning frames grants (setups then) dom (record { 0 = gref.0 + n }) (plans n) stop k new) → StopsAt frames grants (setups then) s stop m new
+    each_stops memory later devices then es new m stop a f =
         let b = f (m ++ a.0) a.2 a.3 in
         let joined : (m ++ a.0) ++ b.part ≡ m ++ (a.0 ++ b.part) = append_assoc m a.0 b.part in
         record {
@@ -68,18 +67,18 @@ module _ (frames grants : ℕ → ℕ) (dom : DomId) (gref : GrantRef) (plans : 
           cause = each_cause (setups then) stop m a.0 b.part new a.1 b.cause;
         }
 
-module _ {W : Type 0} (word : W → Place → ℕ) (fs gs : W → ℕ → ℕ) (frames grants : ℕ → ℕ) (dom : DomId) (gref : GrantRef) (plans : ℕ → Plan Owned) where
-  pub each_next : {A : Type 0} (x : A) (memory later : W) (device then : Option Placed) (n : ℕ) (es new : List Entry) (m : List Item) → SoFar word fs gs frames grants memory device dom gref plans n es m → ((k : List Item) → Stands word fs gs frames grants memory device k → entries k ≡ es → Owns word fs gs frames grants later then dom (record { 0 = gref.0 + n }) (plans n) new k (Ok x)) → SoFar word fs gs frames grants later then dom gref plans (n + 1) new m
-  each_next x memory later device then n es new m a f =
+module _ {W : Type 0} (g : Sight W) (frames grants : ℕ → ℕ) (dom : DomId) (gref : GrantRef) (plans : ℕ → Plan Owned) where
+  pub each_next : {A : Type 0} (x : A) (memory later : W) (devices then : List Placed) (n : ℕ) (es new : List Entry) (m : List Item) → SoFar g frames grants memory devices dom gref plans n es m → ((k : List Item) → Stands g frames grants memory devices k → entries k ≡ es → Owns g frames grants later then dom (record { 0 = gref.0 + n }) (plans n) new k (Ok x)) → SoFar g frames grants later then dom gref plans (n + 1) new m
+  each_next x memory later devices then n es new m a f =
       let b = f (m ++ a.0) a.2 a.3 in
       let one_more : suc n ≡ n + 1 = omega arith in
       let joined : (m ++ a.0) ++ b.0 ≡ m ++ (a.0 ++ b.0) = append_assoc m a.0 b.0 in (
         a.0 ++ b.0,
         subst (λ (c : ℕ). EachDone dom gref plans c (a.0 ++ b.0)) one_more (a.0, b.0, refl, a.1, b.1),
-        subst (λ (y : List Item). Stands word fs gs frames grants later then y) joined b.2,
+        subst (λ (y : List Item). Stands g frames grants later then y) joined b.2,
         subst (λ (y : List Item). entries y ≡ new) joined b.3,
       )
 
-  pub none_yet : (memory : W) (device : Option Placed) (es : List Entry) (m : List Item) → Stands word fs gs frames grants memory device m → entries m ≡ es → SoFar word fs gs frames grants memory device dom gref plans 0 es m
-  none_yet memory device es m st e =
-      ([], refl, subst (λ (x : List Item). Stands word fs gs frames grants memory device x) (sym (append-nil m)) st, subst (λ (x : List Item). entries x ≡ es) (sym (append-nil m)) e)
+  pub none_yet : (memory : W) (devices : List Placed) (es : List Entry) (m : List Item) → Stands g frames grants memory devices m → entries m ≡ es → SoFar g frames grants memory devices dom gref plans 0 es m
+  none_yet memory devices es m st e =
+      ([], refl, subst (λ (x : List Item). Stands g frames grants memory devices x) (sym (append-nil m)) st, subst (λ (x : List Item). entries x ≡ es) (sym (append-nil m)) e)

@@ -1,2 +1,4 @@
+pub mod Devices
+pub mod Fills
 pub mod Grants
 pub mod Plays

@@ -1,8 +1,12 @@
 -- From single statements to whole scenarios.
-use Rattle.std.proofs.Common.{◌≡◌, ℕ, zero, suc, ◌+◌, ◌<◌, ◌≤◌, ◌⊎◌, inl, inr, List, [], ◌∷◌, ◌++◌, length, take, drop, get_or, Option, Result, Ok, Err, true, refl, sym, subst, ◌∙◌, ap, append_assoc, arith}
+use Rattle.std.proofs.Common.{◌≡◌, ℕ, zero, suc, ◌+◌, ◌<◌, ◌≤◌, ◌⊎◌, inl, inr, List, [], ◌∷◌, ◌++◌, length, take, drop, get_or, Option, Some, None, Result, Ok, Err, true, refl, sym, subst, ◌∙◌, ap, append_assoc, arith}
 use Rattle.std.proofs.lemmas.List.{append-nil, take-append-drop, take_more, drop_more}
 use Rattle.std.specs.List.{AllByRecursion}
+use Rattle.pv_words.specs.declared.device.NodeValue.{NodeValue}
+use Rattle.pv_words.specs.declared.device.State.{State}
 use Rattle.pv_words.specs.declared.entry.Entry.{Entry}
+use Rattle.pv_words.specs.declared.entry.Entry.TheVariants as entry
+use Rattle.pv_words.specs.declared.entry.End.TheVariants.{Front}
 use Rattle.pv_words.specs.declared.journal.Stop.{Stop}
 use Rattle.pv_words.specs.declared.journal.Stop.TheVariants.{JournalFull, OutOfMemory}
 use Rattle.pv_words.specs.declared.place.DevId.{DevId}
@@ -11,67 +15,82 @@ use Rattle.pv_words.specs.declared.setup.DeviceSetup.{DeviceSetup}
 use Rattle.pv_words.specs.Sizes.{AreSizes, frames_by, grants_by}
 use Rattle.pv_words.proofs.Blocks.{frames_by-le, grants_by-le}
 use Rattle.scenario_text.specs.declared.statement.Statement.{Statement}
-use Rattle.scenario_text.specs.declared.statement.Statement.TheVariants.{Put, Swap, Open, End, Serve}
+use Rattle.scenario_text.specs.declared.statement.Statement.TheVariants.{Put, Fill, Swap, Open, End, Node, Bus, Wake, Back, Serve}
 use Rattle.scenario_text.specs.Lookups.{has_device}
-use Rattle.scenario_text.specs.Playable.{IsPlayed}
+use Rattle.scenario_text.specs.Playable.{IsDevice, IsPlayed}
 use Rattle.scenario_text.specs.Scenario.{Scenario}
 use Rattle.pv_world.specs.declared.world.Placed.{Placed}
-use Rattle.pv_world.specs.Marked.{Item, Entered, Idle, entries}
-use Rattle.pv_world.specs.History.{IsHistory, IsExplainedIn, is_declared}
-use Rattle.pv_world.specs.World.{Exchanged, Stored, ServedBy, HasCause, setups, front_store, front_swap}
+use Rattle.pv_world.specs.Marked.{Item, Entered, entries, AreSteps, accesses_in}
+use Rattle.pv_world.specs.History.{IsHistory, IsExplainedIn, is_declared, parts_by}
+use Rattle.pv_world.specs.World.{AtMost, Enters, Exchanged, HasCause, Sight, StopsIn, SteppedBy, setups, front_store}
 use Rattle.pv_world.specs.Record.{IsAtLimit}
-use Rattle.pv_world.proofs.Consequences.{machine_runs, kept}
-use Rattle.pv_world.proofs.Extends.{history_front, in_range_from}
+use Rattle.pv_world.proofs.Consequences.{histories_are_runs}
+use Rattle.pv_world.proofs.Histories.{in_range_from}
 use Rattle.pv_world.proofs.Items.{entries_append, steps_append}
 use Rattle.scenario_run.specs.Follows.{Follows, FollowsTo, IsBegun, IsRow, IsPartOf, opening, closing}
 use Rattle.scenario_run.specs.Legal.{IsLegalTo, IsFullFor, IsTrueJournal}
 use Rattle.scenario_run.specs.Played.{Played, StopsAt, IsFullIn, HasCauseIn, CanPlay}
+use Rattle.scenario_run.proofs.Devices.{same_parts_by, few_parts}
 
-module _ {W : Type 0} (word : W → Place → ℕ) (fs gs : W → ℕ → ℕ) (frames grants : ℕ → ℕ) where
-  put_cause : (devices : List DeviceSetup) (at : Place) (v : ℕ) (stop : Stop) (m : List Item) (es : List Entry) → IsHistory frames grants devices (m ++ front_store at v ∷ []) → IsAtLimit stop es → HasCauseIn frames grants devices (Put at v) m [] es stop
-  put_cause devices at v JournalFull m es h limit = record { length_is = limit; due = _; goes_on = h; next = inr refl }
-  put_cause devices at v OutOfMemory m es h limit = tt
+-- a statement that enters one item
+module _ {W : Type 0} (g : Sight W) (frames grants : ℕ → ℕ) (s : Statement) (due : Entry)
+    (none_of : IsPartOf s []) (row : IsRow s (Entered due ∷ [])) where
+  entered_cause : (devices : List DeviceSetup) (stop : Stop) (m : List Item) (es : List Entry) → IsHistory frames grants devices (m ++ Entered due ∷ []) → IsAtLimit stop es → HasCauseIn frames grants devices s m [] es stop
+  entered_cause devices JournalFull m es h limit = record { length_is = limit; due = due; goes_on = h; next = inr row }
+  entered_cause devices OutOfMemory m es h limit = tt
 
-  pub put_played : {A : Type 0} (memory : W) (device : Option Placed) (at : Place) (v : ℕ) (es : List Entry) (m : List Item) (r : Result A Stop) → Stored word fs gs frames grants memory device at v es m r → Played word fs gs frames grants memory device (Put at v) es m r
-  put_played memory device at v es m (Ok x) h = (front_store at v ∷ [], refl, h.0, h.1)
-  put_played memory device at v es m (Err stop) h =
+  pub entered : {A : Type 0} (memory : W) (devices : List Placed) (es : List Entry) (m : List Item) (r : Result A Stop) → IsHistory frames grants (setups devices) m → Enters g frames grants memory devices (Entered due) es m r → Played g frames grants memory devices s es m r
+  entered memory devices es m (Ok x) so_far h = (Entered due ∷ [], row, h.0, h.1)
+  entered memory devices es m (Err stop) so_far h =
       record {
         part = [];
-        of = refl;
-        so_far = subst (λ (x : List Item). IsHistory frames grants (setups device) x) (sym (append-nil m)) (history_front frames grants (setups device) m (front_store at v ∷ []) h.0);
+        of = none_of;
+        so_far = subst (λ (x : List Item). IsHistory frames grants (setups devices) x) (sym (append-nil m)) so_far;
         entered = ap entries (append-nil m) ∙ h.1.0;
-        cause = put_cause (setups device) at v stop m es h.0 h.1.1;
+        cause = entered_cause (setups devices) stop m es h.0 h.1.1;
       }
 
-  swap_cause : (devices : List DeviceSetup) (at : Place) (old new seen : ℕ) (stop : Stop) (m : List Item) (es : List Entry) → IsHistory frames grants devices (m ++ front_swap at old new seen ∷ []) → IsAtLimit stop es → HasCauseIn frames grants devices (Swap at old new) m [] es stop
-  swap_cause devices at old new seen JournalFull m es h limit = record { length_is = limit; due = _; goes_on = h; next = inr (seen, refl) }
-  swap_cause devices at old new seen OutOfMemory m es h limit = tt
-
-  pub swap_played : {A : Type 0} (memory : W) (device : Option Placed) (at : Place) (old new : ℕ) (es : List Entry) (m : List Item) (r : Result A Stop) → Exchanged word fs gs frames grants memory device at old new es m r → Played word fs gs frames grants memory device (Swap at old new) es m r
-  swap_played memory device at old new es m (Ok x) h = (front_swap at old new h.0 ∷ [], (h.0, refl), h.1, h.2)
-  swap_played memory device at old new es m (Err stop) h =
-      record {
-        part = [];
-        of = refl;
-        so_far = subst (λ (x : List Item). IsHistory frames grants (setups device) x) (sym (append-nil m)) (history_front frames grants (setups device) m (front_swap at old new h.0 ∷ []) h.1);
-        entered = ap entries (append-nil m) ∙ h.2;
-        cause = swap_cause (setups device) at old new h.0 stop m es h.1 h.3;
-      }
-
-  serve_cause : (devices : List DeviceSetup) (dev : DevId) (stop : Stop) (m here : List Item) (es : List Entry) → IsPartOf (Serve dev) here → HasCause frames grants devices dev.0 (m ++ here) es stop → HasCauseIn frames grants devices (Serve dev) m here es stop
-  serve_cause devices dev JournalFull m here es steps h =
+-- a statement that steps a device
+module _ {W : Type 0} (g : Sight W) (frames grants : ℕ → ℕ) (s : Statement) (dev : DevId) (most : Option ℕ)
+    (part_of : (h : List Item) → AreSteps dev.0 h → AtMost most (accesses_in h) → IsPartOf s h) where
+  stepped_cause : (devices : List DeviceSetup) (stop : Stop) (m here : List Item) (es : List Entry) → AreSteps dev.0 here → HasCause frames grants devices dev.0 most m here es stop → HasCauseIn frames grants devices s m here es stop
+  stepped_cause devices JournalFull m here es steps h =
       record {
         length_is = h.length_is;
         due = h.due;
         goes_on = subst (λ (x : List Item). IsHistory frames grants devices x) (append_assoc m here (Entered h.due ∷ [])) h.goes_on;
-        next = inl (steps_append dev.0 here (Entered h.due ∷ []) steps (h.of_device, tt));
+        next = inl (part_of (here ++ Entered h.due ∷ []) (steps_append dev.0 here (Entered h.due ∷ []) steps (h.of_device, tt)) h.within);
       }
-  serve_cause devices dev OutOfMemory m here es steps h = tt
+  stepped_cause devices OutOfMemory m here es steps h = tt
 
-  pub serve_played : {A : Type 0} (memory : W) (device : Option Placed) (dev : DevId) (es : List Entry) (m : List Item) (r : Result A Stop) → ServedBy word fs gs frames grants memory device dev.0 es m r → Played word fs gs frames grants memory device (Serve dev) es m r
-  serve_played memory device dev es m (Ok x) h = (h.0 ++ Idle dev.0 ∷ [], (h.0, h.1, refl), h.2, h.3)
-  serve_played memory device dev es m (Err stop) h =
-      record { part = h.here; of = h.steps; so_far = h.so_far; entered = h.entered; cause = serve_cause (setups device) dev stop m h.here es h.steps h.cause }
+  pub stops : (devices : List DeviceSetup) (stop : Stop) (m : List Item) (es : List Entry) → StopsIn frames grants devices dev.0 most stop m es → StopsAt frames grants devices s stop m es
+  stops devices stop m es h =
+      record { part = h.here; of = part_of h.here h.steps h.within; so_far = h.so_far; entered = h.entered; cause = stepped_cause devices stop m h.here es h.steps h.cause }
+
+module _ {W : Type 0} (g : Sight W) (frames grants : ℕ → ℕ) where
+  pub put_played : {A : Type 0} (memory : W) (devices : List Placed) (at : Place) (v : ℕ) (es : List Entry) (m : List Item) (r : Result A Stop) → IsHistory frames grants (setups devices) m → Enters g frames grants memory devices (front_store at v) es m r → Played g frames grants memory devices (Put at v) es m r
+  put_played memory devices at v es m r so_far h = entered g frames grants (Put at v) _ refl refl memory devices es m r so_far h
+
+  pub swap_played : {A : Type 0} (memory : W) (devices : List Placed) (at : Place) (old new : ℕ) (es : List Entry) (m : List Item) (r : Result A Stop) → IsHistory frames grants (setups devices) m → Exchanged g frames grants memory devices at old new es m r → Played g frames grants memory devices (Swap at old new) es m r
+  swap_played memory devices at old new es m r so_far h =
+      entered g frames grants (Swap at old new) _ refl (h.0, refl) memory devices es m r so_far h.1
+
+  pub node_played : {A : Type 0} (memory : W) (devices : List Placed) (dev : DevId) (part key : ℕ) (v : NodeValue) (es : List Entry) (m : List Item) (r : Result A Stop) → IsHistory frames grants (setups devices) m → Enters g frames grants memory devices (Entered (entry.Node dev part key v)) es m r → Played g frames grants memory devices (Node dev part key v) es m r
+  node_played memory devices dev part key v es m r so_far h = entered g frames grants (Node dev part key v) _ refl refl memory devices es m r so_far h
+
+  pub bus_played : {A : Type 0} (memory : W) (devices : List Placed) (dev : DevId) (state : State) (es : List Entry) (m : List Item) (r : Result A Stop) → IsHistory frames grants (setups devices) m → Enters g frames grants memory devices (Entered (entry.Bus dev Front state)) es m r → Played g frames grants memory devices (Bus dev state) es m r
+  bus_played memory devices dev state es m r so_far h = entered g frames grants (Bus dev state) _ refl refl memory devices es m r so_far h
+
+  pub wake_played : {A : Type 0} (memory : W) (devices : List Placed) (dev : DevId) (es : List Entry) (m : List Item) (r : Result A Stop) → IsHistory frames grants (setups devices) m → Enters g frames grants memory devices (Entered (entry.Wake dev)) es m r → Played g frames grants memory devices (Wake dev) es m r
+  wake_played memory devices dev es m r so_far h = entered g frames grants (Wake dev) _ refl refl memory devices es m r so_far h
+
+  pub back_played : {A : Type 0} (memory : W) (devices : List Placed) (dev : DevId) (count : ℕ) (es : List Entry) (m : List Item) (r : Result A Stop) → SteppedBy g frames grants memory devices dev (Some count) es m r → Played g frames grants memory devices (Back dev count) es m r
+  back_played memory devices dev count es m (Ok x) h = h
+  back_played memory devices dev count es m (Err stop) h = stops g frames grants (Back dev count) dev (Some count) (λ h a b. (a, b)) (setups devices) stop m es h
+
+  pub serve_played : {A : Type 0} (memory : W) (devices : List Placed) (dev : DevId) (es : List Entry) (m : List Item) (r : Result A Stop) → SteppedBy g frames grants memory devices dev None es m r → Played g frames grants memory devices (Serve dev) es m r
+  serve_played memory devices dev es m (Ok x) h = h
+  serve_played memory devices dev es m (Err stop) h = stops g frames grants (Serve dev) dev None (λ h a b. a) (setups devices) stop m es h
 
 -- one statement more
 pub follows_push : (ss : List Statement) (x : Statement) (m here : List Item) → Follows ss m → IsRow x here → Follows (ss ++ x ∷ []) (m ++ here)
@@ -83,31 +102,37 @@ follows_push (s ∷ ss) x m here f row =
 none_begun : (ss : List Statement) → IsBegun ss []
 none_begun [] = refl
 none_begun (Put at v ∷ ss) = refl
+none_begun (Fill f ∷ ss) = (0, omega arith, refl)
 none_begun (Swap at old new ∷ ss) = refl
 none_begun (Open o ∷ ss) = record { number = 0; front = []; last = []; split = refl; done = refl; under_way = record { left = opening o 0; leads = refl }; within = inr (refl, refl) }
 none_begun (End e ∷ ss) = record { number = 0; front = []; last = []; split = refl; done = refl; under_way = record { left = closing e 0; leads = refl }; within = inr (refl, refl) }
+none_begun (Node dev part key v ∷ ss) = refl
+none_begun (Bus dev state ∷ ss) = refl
+none_begun (Wake dev ∷ ss) = refl
+none_begun (Back dev count ∷ ss) = (tt, omega arith)
 none_begun (Serve dev ∷ ss) = tt
 
 -- whatever was played
 pub true_journal : (s : Scenario) (m : List Item) (es : List Entry) → entries m ≡ es → IsHistory (frames_by s.sizes) (grants_by s.sizes) s.devices m → IsTrueJournal s m es
 true_journal s m es e h =
+    let both = histories_are_runs (frames_by s.sizes) (grants_by s.sizes) s.devices m h in
     record {
       entered = e;
       history = h;
-      machine_run = machine_runs (frames_by s.sizes) (grants_by s.sizes) s.devices m h;
-      kept = kept (frames_by s.sizes) (grants_by s.sizes) s.devices m h;
+      machine_run = both.0;
+      kept = both.1;
     }
 
-none_explained : (devices : List DeviceSetup) → AllByRecursion (IsExplainedIn []) devices
-none_explained [] = tt
-none_explained (d ∷ ds) = (tt, none_explained ds)
+none_explained : (frames grants : ℕ → ℕ) (devices : List DeviceSetup) → AllByRecursion (IsExplainedIn frames grants []) devices
+none_explained frames grants [] = tt
+none_explained frames grants (d ∷ ds) = (tt, none_explained frames grants ds)
 
 -- before the first statement
 pub nothing_played : (s : Scenario) (es : List Entry) → es ≡ [] → IsLegalTo s es
 nothing_played s es e =
     record {
       marked = [];
-      so_far = true_journal s [] es (sym e) (record { lawful = tt; belongs = tt; explained = none_explained s.devices });
+      so_far = true_journal s [] es (sym e) (record { lawful = tt; belongs = tt; explained = none_explained (frames_by s.sizes) (grants_by s.sizes) s.devices });
       follows = record { done = []; left = s.statements; followed = []; part = []; statements = refl; items = refl; follows = refl; begun = none_begun s.statements };
     }
 
@@ -189,15 +214,29 @@ few_grants s d h = omega (arith, grants_by-le s.sizes d, h.grants)
 few_frames : (s : Scenario) (d : ℕ) → AreSizes s.sizes → frames_by s.sizes d ≤ 16384
 few_frames s d h = omega (arith, frames_by-le s.sizes d, h.frames)
 
-pub can_play : (s : Scenario) (f g : ℕ → ℕ) (devices : List DeviceSetup) (x : Statement) → ((d : ℕ) → f d ≡ frames_by s.sizes d) → ((d : ℕ) → g d ≡ grants_by s.sizes d) → devices ≡ s.devices → AreSizes s.sizes → IsPlayed s x → CanPlay f g devices x
+pub can_play : (s : Scenario) (f g : ℕ → ℕ) (devices : List DeviceSetup) (x : Statement) → ((d : ℕ) → f d ≡ frames_by s.sizes d) → ((d : ℕ) → g d ≡ grants_by s.sizes d) → devices ≡ s.devices → AreSizes s.sizes → AllByRecursion IsDevice s.devices → IsPlayed s x → CanPlay f g devices x
 unfolding has_device
-can_play s f g devices (Put at v) a b e z h = in_range_from (frames_by s.sizes) f (grants_by s.sizes) g (λ d. sym (a d)) (λ d. sym (b d)) at h.0
-can_play s f g devices (Swap at old new) a b e z h = in_range_from (frames_by s.sizes) f (grants_by s.sizes) g (λ d. sym (a d)) (λ d. sym (b d)) at h.0
-can_play s f g devices (Open o) a b e z h =
+can_play s f g devices (Put at v) a b e z ds h = in_range_from (frames_by s.sizes) f (grants_by s.sizes) g (λ d. sym (a d)) (λ d. sym (b d)) at h.0
+can_play s f g devices (Fill x) a b e z ds h =
+    let frames = few_frames s x.dom.0 z in
+    (rw (a x.dom.0) h.2, omega (arith, h.2, frames))
+can_play s f g devices (Swap at old new) a b e z ds h = in_range_from (frames_by s.sizes) f (grants_by s.sizes) g (λ d. sym (a d)) (λ d. sym (b d)) at h.0
+can_play s f g devices (Open o) a b e z ds h =
     let grants = few_grants s o.dom.0 z in
     let frames = few_frames s o.dom.0 z in
     (rw (b o.dom.0) h.1, omega (arith, h.1, grants), omega (arith, h.2, frames))
-can_play s f g devices (End c) a b e z h =
+can_play s f g devices (End c) a b e z ds h =
     let grants = few_grants s c.dom.0 z in
     (rw (b c.dom.0) h.1, omega (arith, h.1, grants))
-can_play s f g devices (Serve dev) a b e z h = subst (λ (ds : List DeviceSetup). is_declared ds dev.0 ≡ true) (sym e) h
+can_play s f g devices (Node dev part key v) a b e z ds h =
+    let few = few_parts s.devices dev.0 ds in
+    let within : part < parts_by s.devices dev.0 = subst (λ n. part < n) (same_parts_by s.devices dev.0) h.1 in (
+      subst (λ (ds : List DeviceSetup). is_declared ds dev.0 ≡ true) (sym e) h.0,
+      subst (λ (ds : List DeviceSetup). part < parts_by ds dev.0) (sym e) within,
+      omega (arith, few, within),
+      h.2,
+    )
+can_play s f g devices (Bus dev state) a b e z ds h = subst (λ (ds : List DeviceSetup). is_declared ds dev.0 ≡ true) (sym e) h
+can_play s f g devices (Wake dev) a b e z ds h = subst (λ (ds : List DeviceSetup). is_declared ds dev.0 ≡ true) (sym e) h
+can_play s f g devices (Back dev count) a b e z ds h = (subst (λ (ds : List DeviceSetup). is_declared ds dev.0 ≡ true) (sym e) h.0, h.1)
+can_play s f g devices (Serve dev) a b e z ds h = subst (λ (ds : List DeviceSetup). is_declared ds dev.0 ≡ true) (sym e) h

@@ -1,17 +1,35 @@
 -- What entries a statement makes, and that a journal follows statements.
-use Rattle.std.specs.Prelude.{◌≡◌, ℕ, zero, suc, ◌+◌, ◌<◌, ◌⊎◌, List, [], ◌∷◌, ◌++◌}
+use Rattle.std.specs.Prelude.{◌≡◌, ℕ, zero, suc, ◌+◌, ◌*◌, ◌/◌, ◌%◌, ◌^◌, ◌<◌, ◌≤◌, ◌⊎◌, List, [], ◌∷◌, ◌++◌, Some, None}
+use Rattle.pv_words.specs.declared.entry.Entry.TheVariants as entry
+use Rattle.pv_words.specs.declared.entry.End.TheVariants.{Front}
 use Rattle.pv_words.specs.declared.place.DomId.{DomId}
 use Rattle.pv_words.specs.declared.place.GrantRef.{GrantRef}
+use Rattle.pv_words.specs.declared.place.Place.{Place}
+use Rattle.pv_words.specs.declared.place.Place.TheVariants.{Cell}
 use Rattle.pv_words.specs.Plan.{Plan}
 use Rattle.grant_table.specs.declared.owner.Owned.{Owned}
 use Rattle.grant_table.specs.Owning.{permit_plan, end_plan}
+use Rattle.scenario_text.specs.declared.statement.Filling.{Filling}
 use Rattle.scenario_text.specs.declared.statement.Opening.{Opening}
 use Rattle.scenario_text.specs.declared.statement.Closing.{Closing}
 use Rattle.scenario_text.specs.declared.statement.Statement.{Statement}
-use Rattle.scenario_text.specs.declared.statement.Statement.TheVariants.{Put, Swap, Open, End, Serve}
-use Rattle.pv_world.specs.Marked.{Item, Idle, AreSteps}
+use Rattle.scenario_text.specs.declared.statement.Statement.TheVariants.{Put, Fill, Swap, Open, End, Node, Bus, Wake, Back, Serve}
+use Rattle.pv_world.specs.Marked.{Item, Entered, AreSteps, accesses_in}
 use Rattle.pv_world.specs.Owner.{IsDone, IsUnderWay}
-use Rattle.pv_world.specs.World.{front_store, front_swap}
+use Rattle.pv_world.specs.World.{AtMost, IsStepped, front_store, front_swap}
+
+-- the word of this number in a domain, whose frames lie one after another
+abbrev pub word_at : DomId → ℕ → Place
+word_at dom n = Cell dom (record { 0 = n / 1024 }) (n % 1024)
+
+-- the store to each word that a statement fills, by number
+abbrev pub filling : Filling → ℕ → Item
+filling f n = front_store (word_at f.dom (1024 * f.frame.0 + f.word + n)) ((f.value + n * f.step) % 2 ^ 32)
+
+-- the first n of them, one after another
+abbrev pub stores_of : Filling → ℕ → List Item
+stores_of f zero = []
+stores_of f (suc n) = stores_of f n ++ filling f n ∷ []
 
 -- the permit of each grant that a statement opens, and the end of each that it ends, by number
 abbrev pub opening : Opening → ℕ → Plan Owned
@@ -36,21 +54,32 @@ pub record EachTo (dom : DomId) (gref : GrantRef) (plans : ℕ → Plan Owned) (
   pub under_way : IsUnderWay (plans number) last
   pub within : (number < count) ⊎ ((number ≡ 0) × (last ≡ []))
 
--- put: one store of the word's domain. swap: one exchange of it. open, end: each grant is opened or ended. serve: the
--- device's steps, and a mark where it was idle
+-- put: one store of the word's domain. fill: one to each word, in order. swap: one exchange of it. open, end: each grant is opened or ended. node: one node
+-- is set. bus: the frontend's state. wake: one wake. back: the device's steps up to the one with access number `count`,
+-- or fewer and a mark where it was idle. serve: its steps, and a mark where it was idle
 abbrev pub IsRow : Statement → List Item → Type 0
 IsRow (Put at v) here = here ≡ front_store at v ∷ []
+IsRow (Fill f) here = here ≡ stores_of f f.count
 IsRow (Swap at old new) here = (seen : ℕ) × (here ≡ front_swap at old new seen ∷ [])
 IsRow (Open o) here = EachDone o.dom o.gref (opening o) o.count here
 IsRow (End e) here = EachDone e.dom e.gref (closing e) e.count here
-IsRow (Serve dev) here = (steps : List Item) × AreSteps dev.0 steps × (here ≡ steps ++ Idle dev.0 ∷ [])
+IsRow (Node dev part key v) here = here ≡ Entered (entry.Node dev part key v) ∷ []
+IsRow (Bus dev state) here = here ≡ Entered (entry.Bus dev Front state) ∷ []
+IsRow (Wake dev) here = here ≡ Entered (entry.Wake dev) ∷ []
+IsRow (Back dev count) here = IsStepped dev (Some count) here
+IsRow (Serve dev) here = IsStepped dev None here
 
 -- a part of these, from their beginning
 abbrev pub IsPartOf : Statement → List Item → Type 0
 IsPartOf (Put at v) here = here ≡ []
+IsPartOf (Fill f) here = (n : ℕ) × (n ≤ f.count) × (here ≡ stores_of f n)
 IsPartOf (Swap at old new) here = here ≡ []
 IsPartOf (Open o) here = EachTo o.dom o.gref (opening o) o.count here
 IsPartOf (End e) here = EachTo e.dom e.gref (closing e) e.count here
+IsPartOf (Node dev part key v) here = here ≡ []
+IsPartOf (Bus dev state) here = here ≡ []
+IsPartOf (Wake dev) here = here ≡ []
+IsPartOf (Back dev count) here = AreSteps dev.0 here × AtMost (Some count) (accesses_in here)
 IsPartOf (Serve dev) here = AreSteps dev.0 here
 
 -- the entries of each statement, one after another

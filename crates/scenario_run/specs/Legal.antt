@@ -8,13 +8,13 @@ use Rattle.pv_world.specs.Marked.{Item, entries}
 use Rattle.pv_world.specs.History.{IsHistory, IsMachineRunIn, KeepsIn}
 use Rattle.scenario_run.specs.Follows.{Follows, FollowsTo}
 
--- Whatever was played: the journal is lawful and explained; what the devices say are runs of the display machine, and
--- their accesses stay in the pages that they hold.
+-- Whatever was played: the journal is lawful and explained; what each device says and hears is a run of the display
+-- machine, and its accesses stay in the pages that it mapped and hasn't unmapped.
 pub record IsTrueJournal (s : Scenario) (m : List Item) (es : List Entry) : Type 0 where
   pub entered : entries m ≡ es
   pub history : IsHistory (frames_by s.sizes) (grants_by s.sizes) s.devices m
-  pub machine_run : AllByRecursion (IsMachineRunIn m) s.devices
-  pub kept : AllByRecursion (KeepsIn (frames_by s.sizes) m) s.devices
+  pub machine_run : AllByRecursion (IsMachineRunIn (frames_by s.sizes) (grants_by s.sizes) m) s.devices
+  pub kept : AllByRecursion (KeepsIn (frames_by s.sizes) (grants_by s.sizes) m) s.devices
 
 -- the journal is the scenario's, to its end
 pub record IsLegal (s : Scenario) (es : List Entry) : Type 0 where

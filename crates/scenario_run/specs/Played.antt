@@ -1,17 +1,16 @@
 -- What one statement makes of a world.
-use Rattle.std.specs.Prelude.{◌≡◌, ℕ, ◌+◌, ◌≤◌, true, ◌⊎◌, List, [], ◌∷◌, ◌++◌, length, Option, Result, Ok, Err}
+use Rattle.std.specs.Prelude.{◌≡◌, ℕ, ◌+◌, ◌*◌, ◌<◌, ◌≤◌, true, ◌⊎◌, List, [], ◌∷◌, ◌++◌, length, Result, Ok, Err}
 use Rattle.pv_words.specs.declared.entry.Entry.{Entry}
 use Rattle.pv_words.specs.declared.journal.Stop.{Stop}
 use Rattle.pv_words.specs.declared.journal.Stop.TheVariants.{JournalFull, OutOfMemory}
-use Rattle.pv_words.specs.declared.place.Place.{Place}
 use Rattle.pv_words.specs.declared.setup.DeviceSetup.{DeviceSetup}
 use Rattle.scenario_text.specs.declared.statement.Statement.{Statement}
 use Rattle.pv_world.specs.declared.world.Placed.{Placed}
 use Rattle.pv_world.specs.Marked.{Item, Entered, entries}
 use Rattle.pv_words.specs.Place.{InRange}
-use Rattle.scenario_text.specs.declared.statement.Statement.TheVariants.{Put, Swap, Open, End, Serve}
-use Rattle.pv_world.specs.History.{IsHistory, is_declared}
-use Rattle.pv_world.specs.World.{Stands, setups}
+use Rattle.scenario_text.specs.declared.statement.Statement.TheVariants.{Put, Fill, Swap, Open, End, Node, Bus, Wake, Back, Serve}
+use Rattle.pv_world.specs.History.{IsHistory, is_declared, parts_by}
+use Rattle.pv_world.specs.World.{Sight, Stands, setups}
 use Rattle.scenario_run.specs.Follows.{IsRow, IsPartOf}
 
 -- the journal is full, and with one entry more it would be a further part of the statement, or the whole of it
@@ -33,16 +32,24 @@ pub record StopsAt (frames grants : ℕ → ℕ) (devices : List DeviceSetup) (s
   pub entered : entries (m ++ part) ≡ es
   pub cause : HasCauseIn frames grants devices s m part es stop
 
-abbrev pub Played : {W : Type 0} (word : W → Place → ℕ) (frames_of grants_of : W → ℕ → ℕ) (frames grants : ℕ → ℕ) (memory : W) (device : Option Placed) (s : Statement) (es : List Entry) (m : List Item) {A : Type 0} → Result A Stop → Type 0
-Played word fs gs frames grants memory device s es m (Ok x) =
-    (here : List Item) × IsRow s here × Stands word fs gs frames grants memory device (m ++ here) × (entries (m ++ here) ≡ es)
-Played word fs gs frames grants memory device s es m (Err stop) = StopsAt frames grants (setups device) s stop m es
+abbrev pub Played : {W : Type 0} → Sight W → (frames grants : ℕ → ℕ) (memory : W) (devices : List Placed) (s : Statement) (es : List Entry) (m : List Item) {A : Type 0} → Result A Stop → Type 0
+Played g frames grants memory devices s es m (Ok x) =
+    (here : List Item) × IsRow s here × Stands g frames grants memory devices (m ++ here) × (entries (m ++ here) ≡ es)
+Played g frames grants memory devices s es m (Err stop) = StopsAt frames grants (setups devices) s stop m es
 
--- a statement may be played: its place and its grants are in range, its device is declared
+-- a statement may be played: its place, its words and its grants are in range, its device is declared and has the part that it names,
+-- and it asks for an access at least
 abbrev pub CanPlay : (frames grants : ℕ → ℕ) → List DeviceSetup → Statement → Type 0
 CanPlay frames grants devices (Put at v) = InRange frames grants at
+CanPlay frames grants devices (Fill f) =
+    (1024 * f.frame.0 + f.word + f.count ≤ 1024 * frames f.dom.0) × (1024 * f.frame.0 + f.word + f.count ≤ 1024 * 16384)
 CanPlay frames grants devices (Swap at old new) = InRange frames grants at
 CanPlay frames grants devices (Open o) =
     (o.gref.0 + o.count ≤ grants o.dom.0) × (o.gref.0 + o.count ≤ 16384) × (o.frame.0 + o.count ≤ 16384)
 CanPlay frames grants devices (End e) = (e.gref.0 + e.count ≤ grants e.dom.0) × (e.gref.0 + e.count ≤ 16384)
+CanPlay frames grants devices (Node dev part key v) =
+    (is_declared devices dev.0 ≡ true) × (part < parts_by devices dev.0) × (part < 4) × (key < 4)
+CanPlay frames grants devices (Bus dev state) = is_declared devices dev.0 ≡ true
+CanPlay frames grants devices (Wake dev) = is_declared devices dev.0 ≡ true
+CanPlay frames grants devices (Back dev count) = (is_declared devices dev.0 ≡ true) × (1 ≤ count)
 CanPlay frames grants devices (Serve dev) = is_declared devices dev.0 ≡ true

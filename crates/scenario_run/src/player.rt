@@ -7,14 +7,40 @@ ghost use Rattle.pv_words.specs.Sizes.{frames_by, grants_by};
 ghost use Rattle.scenario_text.specs.Playable.{IsPlayable};
 ghost use Rattle.scenario_text.specs.declared.statement.Statement.TheVariants as statement;
 ghost use Rattle.pv_world.specs.Marked.{Item, entries};
-ghost use Rattle.pv_world.specs.World.{Standing, Stands, device_of, memory_of, setups};
+ghost use Rattle.pv_world.specs.World.{Standing, Stands, devices_of, memory_of, setups, sight};
 ghost use Rattle.scenario_run.specs.Legal.{IsLegal, IsLegalTo, IsFullFor};
 ghost use Rattle.scenario_run.specs.Played.{Played, CanPlay};
 
-use pv_words::{Frame, GrantRef, Journal, ListWords, Machine, Stop};
+use pv_words::{Frame, GrantRef, Journal, ListWords, Machine, Place, Stop};
 use pv_world::World;
-use scenario_text::{Closing, Opening, Script, Statement};
+use scenario_text::{Closing, Filling, Opening, Script, Statement};
 use std::alloc::Global;
+
+/// The number of words of a page.
+const PAGE_WORDS: u32 = 1024;
+
+// Stores to words of a domain, one after another.
+fn fill<W: Machine>(
+    world: &mut World<W>,
+    filling: &Filling,
+    journal: &mut Journal,
+) -> Result<(), Stop>
+    requires standing { Standing (sight W.word W.frames_of W.grants_of W.port W.whole W.knows_device W.knows_domain) (memory_of world.old) (devices_of world.old) journal.old.entries }
+    requires playable { CanPlay (W.frames_of (memory_of world.old)) (W.grants_of (memory_of world.old)) (setups (devices_of world.old)) (statement.Fill filling.now) }
+    ensures played { (frames grants : ℕ → ℕ) (m : List Item) →
+        Stands (sight W.word W.frames_of W.grants_of W.port W.whole W.knows_device W.knows_domain) frames grants (memory_of world.old) (devices_of world.old) m → entries m ≡ journal.old.entries →
+        Played (sight W.word W.frames_of W.grants_of W.port W.whole W.knows_device W.knows_domain) frames grants (memory_of world.new) (devices_of world.new) (statement.Fill filling.now) journal.new.entries m result }
+    ensures devices { setups (devices_of world.new) ≡ setups (devices_of world.old) }
+{
+    let first = PAGE_WORDS * filling.frame.0 + u32::from(filling.word);
+    for k in 0..filling.count {
+        let n = first + k;
+        let place = Place::Cell(filling.dom, Frame(n / PAGE_WORDS), (n % PAGE_WORDS) as u16);
+        let v = filling.value.wrapping_add(k.wrapping_mul(filling.step));
+        world.put(place, v, journal)?;
+    }
+    Ok(())
+}
 
 // Opens grants of a domain, one after another.
 fn open<W: Machine>(
@@ -22,11 +48,12 @@ fn open<W: Machine>(
     opening: &Opening,
     journal: &mut Journal,
 ) -> Result<(), Stop>
-    requires playable { CanPlay (W.frames_of (memory_of world.old)) (W.grants_of (memory_of world.old)) (setups (device_of world.old)) (statement.Open opening.now) }
+    requires standing { Standing (sight W.word W.frames_of W.grants_of W.port W.whole W.knows_device W.knows_domain) (memory_of world.old) (devices_of world.old) journal.old.entries }
+    requires playable { CanPlay (W.frames_of (memory_of world.old)) (W.grants_of (memory_of world.old)) (setups (devices_of world.old)) (statement.Open opening.now) }
     ensures played { (frames grants : ℕ → ℕ) (m : List Item) →
-        Stands W.word W.frames_of W.grants_of frames grants (memory_of world.old) (device_of world.old) m → entries m ≡ journal.old.entries →
-        Played W.word W.frames_of W.grants_of frames grants (memory_of world.new) (device_of world.new) (statement.Open opening.now) journal.new.entries m result }
-    ensures devices { setups (device_of world.new) ≡ setups (device_of world.old) }
+        Stands (sight W.word W.frames_of W.grants_of W.port W.whole W.knows_device W.knows_domain) frames grants (memory_of world.old) (devices_of world.old) m → entries m ≡ journal.old.entries →
+        Played (sight W.word W.frames_of W.grants_of W.port W.whole W.knows_device W.knows_domain) frames grants (memory_of world.new) (devices_of world.new) (statement.Open opening.now) journal.new.entries m result }
+    ensures devices { setups (devices_of world.new) ≡ setups (devices_of world.old) }
 {
     for k in 0..opening.count {
         let gref = GrantRef(opening.gref.0 + k);
@@ -42,11 +69,12 @@ fn end<W: Machine>(
     closing: &Closing,
     journal: &mut Journal,
 ) -> Result<(), Stop>
-    requires playable { CanPlay (W.frames_of (memory_of world.old)) (W.grants_of (memory_of world.old)) (setups (device_of world.old)) (statement.End closing.now) }
+    requires standing { Standing (sight W.word W.frames_of W.grants_of W.port W.whole W.knows_device W.knows_domain) (memory_of world.old) (devices_of world.old) journal.old.entries }
+    requires playable { CanPlay (W.frames_of (memory_of world.old)) (W.grants_of (memory_of world.old)) (setups (devices_of world.old)) (statement.End closing.now) }
     ensures played { (frames grants : ℕ → ℕ) (m : List Item) →
-        Stands W.word W.frames_of W.grants_of frames grants (memory_of world.old) (device_of world.old) m → entries m ≡ journal.old.entries →
-        Played W.word W.frames_of W.grants_of frames grants (memory_of world.new) (device_of world.new) (statement.End closing.now) journal.new.entries m result }
-    ensures devices { setups (device_of world.new) ≡ setups (device_of world.old) }
+        Stands (sight W.word W.frames_of W.grants_of W.port W.whole W.knows_device W.knows_domain) frames grants (memory_of world.old) (devices_of world.old) m → entries m ≡ journal.old.entries →
+        Played (sight W.word W.frames_of W.grants_of W.port W.whole W.knows_device W.knows_domain) frames grants (memory_of world.new) (devices_of world.new) (statement.End closing.now) journal.new.entries m result }
+    ensures devices { setups (devices_of world.new) ≡ setups (devices_of world.old) }
 {
     for k in 0..closing.count {
         world.end_grant(closing.dom, GrantRef(closing.gref.0 + k), journal)?;
@@ -60,19 +88,24 @@ fn play_statement<W: Machine>(
     statement: &Statement,
     journal: &mut Journal,
 ) -> Result<(), Stop>
-    requires standing { Standing W.word W.frames_of W.grants_of (memory_of world.old) (device_of world.old) journal.old.entries }
-    requires playable { CanPlay (W.frames_of (memory_of world.old)) (W.grants_of (memory_of world.old)) (setups (device_of world.old)) statement.now }
+    requires standing { Standing (sight W.word W.frames_of W.grants_of W.port W.whole W.knows_device W.knows_domain) (memory_of world.old) (devices_of world.old) journal.old.entries }
+    requires playable { CanPlay (W.frames_of (memory_of world.old)) (W.grants_of (memory_of world.old)) (setups (devices_of world.old)) statement.now }
     ensures played { (frames grants : ℕ → ℕ) (m : List Item) →
-        Stands W.word W.frames_of W.grants_of frames grants (memory_of world.old) (device_of world.old) m → entries m ≡ journal.old.entries →
-        Played W.word W.frames_of W.grants_of frames grants (memory_of world.new) (device_of world.new) statement.now journal.new.entries m result }
-    ensures devices { setups (device_of world.new) ≡ setups (device_of world.old) }
+        Stands (sight W.word W.frames_of W.grants_of W.port W.whole W.knows_device W.knows_domain) frames grants (memory_of world.old) (devices_of world.old) m → entries m ≡ journal.old.entries →
+        Played (sight W.word W.frames_of W.grants_of W.port W.whole W.knows_device W.knows_domain) frames grants (memory_of world.new) (devices_of world.new) statement.now journal.new.entries m result }
+    ensures devices { setups (devices_of world.new) ≡ setups (devices_of world.old) }
 {
     match statement {
         Statement::Put(place, v) => world.put(*place, *v, journal),
+        Statement::Fill(filling) => fill(world, filling, journal),
         Statement::Swap(place, old, new) => world.swap(*place, *old, *new, journal),
         Statement::Open(opening) => open(world, opening, journal),
         Statement::End(closing) => end(world, closing, journal),
-        Statement::Serve(dev) => world.serve(*dev, journal),
+        Statement::Node(dev, part, key, v) => world.node(*dev, *part, *key, *v, journal),
+        Statement::Bus(dev, state) => world.bus(*dev, *state, journal),
+        Statement::Wake(dev) => world.wake(*dev, journal),
+        Statement::Back(dev, count) => world.back(*dev, Some(*count), journal),
+        Statement::Serve(dev) => world.back(*dev, None, journal),
     }
 }
 
@@ -83,8 +116,8 @@ fn play_all<W: Machine>(
     journal: &mut Journal,
 ) -> Result<(), Stop>
     requires playable { IsPlayable script.now }
-    requires new { Stands W.word W.frames_of W.grants_of (frames_by script.now.sizes) (grants_by script.now.sizes) (memory_of world.old) (device_of world.old) [] }
-    requires devices { setups (device_of world.old) ≡ script.now.devices }
+    requires new { Stands (sight W.word W.frames_of W.grants_of W.port W.whole W.knows_device W.knows_domain) (frames_by script.now.sizes) (grants_by script.now.sizes) (memory_of world.old) (devices_of world.old) [] }
+    requires devices { setups (devices_of world.old) ≡ script.now.devices }
     requires empty { journal.old.entries ≡ [] }
     ensures ok { OnOk result (IsLegal script.now journal.new.entries) }
     ensures stopped { OnErr result (IsLegalTo script.now journal.new.entries) }
@@ -108,6 +141,8 @@ pub fn play(alloc: Global, script: &Script, journal: &mut Journal) -> Result<(),
     let Ok(memory) = ListWords::new(alloc, &script.setup().sizes) else {
         return Err(Stop::OutOfMemory);
     };
-    let mut world = World::new(memory, script.devices());
-    play_all(script, &mut world, journal)
+    match World::new(alloc, memory, script.setup()) {
+        Ok(mut world) => play_all(script, &mut world, journal),
+        Err(_) => Err(Stop::OutOfMemory),
+    }
 }

@@ -1,19 +1,24 @@
 -- What is true of each value that a reader of a line gives.
-use Rattle.std.proofs.Common.{◌≡◌, ℕ, ◌<◌, ◌≤◌, true, false, ◌&&◌, List, [], ◌∷◌, Some, Ok, refl, subst, arith, inl, inr}
+use Rattle.std.proofs.Common.{◌≡◌, ℕ, ◌<◌, ◌≤◌, ◌^◌, true, false, ◌&&◌, List, [], ◌∷◌, Option, Some, None, Ok, refl, subst, arith, inl, inr}
 use Rattle.std.specs.Prelude.{◌==◌, nat_le, nat_lt, find, is_some}
 use Rattle.std.specs.List.{AllByRecursion}
+use Rattle.std.specs.Str.{bytes_eq}
 use Rattle.std.proofs.lemmas.Bool.{cases_Bool, and_parts, leb-true, ltb-true, eqb-true}
+use Rattle.pv_words.specs.declared.device.NodeValue.{NodeValue}
 use Rattle.pv_words.specs.declared.place.DomId.{DomId}
 use Rattle.pv_words.specs.declared.place.DevId.{DevId}
 use Rattle.pv_words.specs.declared.setup.DomainSize.{DomainSize}
 use Rattle.pv_words.specs.declared.setup.DeviceSetup.{DeviceSetup}
 use Rattle.pv_words.specs.Sizes.{frames_by, grants_by}
 use Rattle.scenario_text.specs.declared.argument.Number.{Number}
-use Rattle.scenario_text.specs.declared.fault.FaultKind.TheVariants.{Undeclared}
+use Rattle.scenario_text.specs.declared.fault.FaultKind.TheVariants.{Undeclared, BadWord}
 use Rattle.scenario_text.specs.Flaws.{or_flaw}
-use Rattle.scenario_text.specs.Cursors.{Cursor}
-use Rattle.scenario_text.specs.Arguments.{number_at, between_at, below_at}
-use Rattle.scenario_text.specs.Lookups.{size_of, has_device, new_domain_at, size_at, new_device_at, device_at}
+use Rattle.scenario_text.specs.Cursors.{Cursor, next_of}
+use Rattle.scenario_text.specs.Numbers.{digits_of}
+use Rattle.scenario_text.specs.Nodes.{keys, of_number, node_value}
+use Rattle.scenario_text.specs.Arguments.{number_at, between_at, below_at, named, key_at, node_value_at}
+use Rattle.scenario_text.specs.Lookups.{size_of, device_of, has_device, parts_of, new_domain_at, size_at, new_device_at, device_at}
+use Rattle.scenario_text.specs.Playable.{parts_by, IsNodeValue}
 use Rattle.scenario_text.proofs.OkLemmas.{bind_ok, test_ok, test_failed, or_flaw_ok}
 
 pub between_gives : (low high : ℕ) (c : Cursor) (n : Number × Cursor) → between_at low high c ≡ Ok n → (low ≤ n.0.value) × (n.0.value ≤ high)
@@ -85,17 +90,72 @@ size_keeps P sizes c x all same =
     let one : (size.0, dom.0.1) ≡ x = cc in
     subst (λ (y : DomainSize × Cursor). P y.0) one found
 
-pub new_device_gives : (devices : List DeviceSetup) (c : Cursor) (x : DevId × Cursor) → new_device_at devices c ≡ Ok x → (x.0.0 ≡ 1) × (has_device x.0.0 devices ≡ false)
+pub new_device_gives : (devices : List DeviceSetup) (c : Cursor) (x : DevId × Cursor) → new_device_at devices c ≡ Ok x → (1 ≤ x.0.0) × (x.0.0 ≤ 16) × (has_device x.0.0 devices ≡ false)
 unfolding new_device_at
 new_device_gives devices c x same =
-    let dev = bind_ok (between_at 1 1 c) _ x same in
+    let dev = bind_ok (between_at 1 16 c) _ x same in
     let passed = test_failed (has_device dev.0.0.value devices) _ (record { 0 = dev.0.0.value }, dev.0.1) x dev.2 in
-    let inside = between_gives 1 1 c dev.0 dev.1 in
-    rw (← passed.1) (omega arith, passed.0)
+    let inside = between_gives 1 16 c dev.0 dev.1 in
+    rw (← passed.1) (inside.0, inside.1, passed.0)
 
-pub device_gives : (devices : List DeviceSetup) (c : Cursor) (x : DevId × Cursor) → device_at devices c ≡ Ok x → has_device x.0.0 devices ≡ true
-unfolding device_at
+-- a device that is found has its parts
+found_device : (dev : ℕ) (devices : List DeviceSetup) (device : DeviceSetup) → find (λ d. d.dev.0 == dev) devices ≡ Some device → (device.dev.0 ≡ dev) × (parts_by devices dev ≡ parts_of device.kind) × (has_device dev devices ≡ true)
+unfolding has_device
+found_device dev [] device same = cc
+found_device dev (d ∷ ds) device same =
+    elim (cases_Bool (d.dev.0 == dev)) [
+      | inl passes ↦
+          let found : Some d ≡ Some device = rw passes at same in
+          let one : d ≡ device = cc in
+          rw (← one, passes) (eqb-true d.dev.0 dev passes, refl, refl)
+      | inr fails ↦
+          let found : find (λ d. d.dev.0 == dev) ds ≡ Some device = rw fails at same in
+          rw fails (found_device dev ds device found)
+    ]
+
+pub device_gives : (devices : List DeviceSetup) (c : Cursor) (x : DeviceSetup × Cursor) → device_at devices c ≡ Ok x → (parts_by devices x.0.dev.0 ≡ parts_of x.0.kind) × (has_device x.0.dev.0 devices ≡ true)
+unfolding device_at device_of
 device_gives devices c x same =
-    let dev = bind_ok (between_at 1 1 c) _ x same in
-    let passed = test_ok (has_device dev.0.0.value devices) _ (record { 0 = dev.0.0.value }, dev.0.1) x dev.2 in
-    rw (← passed.1) passed.0
+    let dev = bind_ok (between_at 1 16 c) _ x same in
+    let device = bind_ok (or_flaw (device_of dev.0.0.value devices) dev.0.0.column Undeclared) _ x dev.2 in
+    let found = found_device dev.0.0.value devices device.0 (or_flaw_ok (device_of dev.0.0.value devices) _ _ device.0 device.1) in
+    let one : (device.0, dev.0.1) ≡ x = cc in
+    rw (← one, found.0) (found.1, found.2)
+
+-- what a word names is one of the list's values
+named_is : {A : Type 0} (P : A → Type 0) (octets : List ℕ) (list : List (List ℕ × A)) (x : A) → AllByRecursion (λ n. P n.1) list → named octets list ≡ Some x → P x
+named_is P octets [] x all same = cc
+named_is P octets (n ∷ ns) x all same =
+    elim (cases_Bool (bytes_eq octets n.0)) [
+      | inl passes ↦
+          let found : Some n.1 ≡ Some x = rw passes at same in
+          let one : n.1 ≡ x = cc in
+          subst P one all.0
+      | inr fails ↦
+          let found : named octets ns ≡ Some x = rw fails at same in
+          named_is P octets ns x all.1 found
+    ]
+
+pub key_gives : (c : Cursor) (x : ℕ × Cursor) → key_at c ≡ Ok x → x.0 < 4
+unfolding key_at
+key_gives c x same =
+    let word = bind_ok (next_of c) _ x same in
+    let key = bind_ok (or_flaw (named word.0.0.octets keys) word.0.0.column BadWord) _ x word.2 in
+    let below : key.0 < 4 = named_is (λ (k : ℕ). k < 4) word.0.0.octets keys key.0 (omega arith, (omega arith, (omega arith, (omega arith, tt)))) (or_flaw_ok (named word.0.0.octets keys) _ _ key.0 key.1) in
+    let one : (key.0, word.0.1) ≡ x = cc in
+    subst (λ (y : ℕ × Cursor). y.0 < 4) one below
+
+small_number : (o : Option ℕ) → IsNodeValue (of_number o)
+small_number None = tt
+small_number (Some n) =
+    elim (cases_Bool (nat_lt n (2 ^ 32))) [
+      | inl passes ↦ rw passes (ltb-true n (2 ^ 32) passes)
+      | inr fails ↦ rw fails tt
+    ]
+
+pub node_value_gives : (c : Cursor) (x : NodeValue × Cursor) → node_value_at c ≡ Ok x → IsNodeValue x.0
+unfolding node_value_at node_value
+node_value_gives c x same =
+    let word = bind_ok (next_of c) _ x same in
+    let one : (node_value word.0.0.octets, word.0.1) ≡ x = cc in
+    subst (λ (y : NodeValue × Cursor). IsNodeValue y.0) one (small_number (digits_of 10 word.0.0.octets))

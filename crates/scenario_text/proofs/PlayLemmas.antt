@@ -1,10 +1,10 @@
 -- Every scenario that is read is playable.
-use Rattle.std.proofs.Common.{◌≡◌, ℕ, ◌+◌, ◌-◌, min, ◌<◌, ◌≤◌, ◌^◌, ◌++◌, ◌==◌, Bool, true, false, not, ◌&&◌, List, [], ◌∷◌, Option, Some, None, Result, Ok, Err, refl, ap, subst, arith, length, inl, inr}
+use Rattle.std.proofs.Common.{◌≡◌, ℕ, ◌+◌, ◌-◌, ◌*◌, min, ◌<◌, ◌≤◌, ◌^◌, ◌++◌, ◌==◌, Bool, true, false, not, ◌&&◌, List, [], ◌∷◌, Option, Some, None, Result, Ok, Err, refl, ap, subst, arith, inl, inr}
 use Rattle.std.specs.Prelude.{sum_by, codes, IfSome}
 use Rattle.std.specs.List.{AllByRecursion}
 use Rattle.std.proofs.Math.Nat.{min-le_left, min-le_right}
 use Rattle.std.proofs.lemmas.Bool.{cases_Bool}
-use Rattle.std.proofs.lemmas.List.{length_push}
+use Rattle.std.proofs.lemmas.Bool.Decides.{nat_tests}
 use Rattle.std.proofs.lemmas.List.Elements.{All-nil, All-push}
 use Rattle.std.proofs.lemmas.List.Sums.{sum_by_push}
 use Rattle.pv_words.specs.declared.setup.DomainSize.{DomainSize}
@@ -15,7 +15,7 @@ use Rattle.pv_words.specs.declared.place.Place.TheVariants.{Cell, Grant}
 use Rattle.pv_words.specs.declared.place.Half.TheVariants.{Flags}
 use Rattle.pv_words.specs.Sizes.{frames_by, grants_by}
 use Rattle.scenario_text.specs.declared.statement.Statement.{Statement}
-use Rattle.scenario_text.specs.declared.statement.Statement.TheVariants.{Put, Swap, Open, End, Serve}
+use Rattle.scenario_text.specs.declared.statement.Statement.TheVariants.{Put, Fill, Swap, Open, End, Node, Bus, Wake, Back, Serve}
 use Rattle.scenario_text.specs.declared.draft.Item.{Item}
 use Rattle.scenario_text.specs.declared.draft.Item.TheVariants as items
 use Rattle.scenario_text.specs.declared.item.Command.{Command}
@@ -25,17 +25,17 @@ use Rattle.scenario_text.specs.declared.fault.FaultKind.TheVariants.{UnknownStat
 use Rattle.scenario_text.specs.Flaws.{or_flaw}
 use Rattle.scenario_text.specs.Tokens.{Token, tokens}
 use Rattle.scenario_text.specs.Cursors.{Cursor, first_of}
-use Rattle.scenario_text.specs.Arguments.{between_at, below_at, keyword_at, half_at, mode_at}
-use Rattle.scenario_text.specs.Lookups.{has_device, frames_left, grants_left, new_domain_at, size_at, new_device_at, device_at}
+use Rattle.scenario_text.specs.Arguments.{between_at, below_at, keyword_at, half_at, mode_at, key_at, node_value_at, state_at}
+use Rattle.scenario_text.specs.Lookups.{has_device, parts_of, frames_left, grants_left, new_domain_at, size_at, new_device_at, device_at}
 use Rattle.scenario_text.specs.Declarations.{domain_at, display_at}
-use Rattle.scenario_text.specs.Statements.{put_at, put_grant_at, swap_at, open_at, end_at, serve_at}
+use Rattle.scenario_text.specs.Statements.{put_at, fill_at, put_grant_at, swap_at, open_at, end_at, node_at, bus_at, wake_at, back_at, serve_at}
 use Rattle.scenario_text.specs.Scenario.{Scenario, nothing, with_item}
 use Rattle.scenario_text.specs.Items.{is_empty_list, is_declaration, command_of, command_at, arguments_at, unless_more, item_from, item_of}
 use Rattle.scenario_text.specs.Lines.{code_of, lines}
 use Rattle.scenario_text.specs.Reading.{line_item, at_line, scenario_from, scenario_of}
-use Rattle.scenario_text.specs.Playable.{IsPlayed, IsPlayable}
+use Rattle.scenario_text.specs.Playable.{parts_by, IsPlayed, IsDevice, AreDifferent, IsPlayable}
 use Rattle.scenario_text.proofs.OkLemmas.{bind_ok, test_failed, ok_one}
-use Rattle.scenario_text.proofs.GivenLemmas.{between_gives, below_gives, new_domain_gives, size_gives, size_keeps, new_device_gives, device_gives}
+use Rattle.scenario_text.proofs.GivenLemmas.{between_gives, below_gives, new_domain_gives, size_gives, size_keeps, new_device_gives, device_gives, key_gives, node_value_gives}
 
 -- with one more element, and with a weaker fact of each
 each_push : {X : Type 0} (P : X → Type 0) (xs : List X) (x : X) → AllByRecursion P xs → P x → AllByRecursion P (xs ++ x ∷ [])
@@ -59,29 +59,47 @@ frames_kept (s ∷ ss) size dom some =
       | inr fails ↦ let there : 0 < frames_by ss dom = rw fails at some in rw fails (frames_kept ss size dom there)
     ]
 
--- where each device is device 1, and there is no device 1, there is none
-no_device : (devices : List DeviceSetup) → AllByRecursion (λ d. d.dev.0 ≡ 1) devices → has_device 1 devices ≡ false → length devices ≡ 0
+-- one more device with a number of its own
+has_none : (devices : List DeviceSetup) (d : DeviceSetup) (dev : ℕ) → has_device dev devices ≡ false → (d.dev.0 == dev) ≡ false → has_device dev (devices ++ d ∷ []) ≡ false
 unfolding has_device
-no_device [] ones fails = refl
-no_device (d ∷ ds) ones fails = let first : d.dev.0 ≡ 1 = ones.0 in let bad : true ≡ false = rw first at fails in cc
+has_none [] d dev none other = rw other refl
+has_none (e ∷ es) d dev none other =
+    elim (cases_Bool (e.dev.0 == dev)) [
+      | inl passes ↦ let bad : true ≡ false = rw passes at none in cc
+      | inr fails ↦
+          let rest : has_device dev es ≡ false = rw fails at none in
+          rw fails (has_none es d dev rest other)
+    ]
+
+other_way : (a b : ℕ) → (a == b) ≡ false → (b == a) ≡ false
+other_way a b e = grind (arith, nat_tests)
+
+different_push : (devices : List DeviceSetup) (d : DeviceSetup) → AreDifferent devices → has_device d.dev.0 devices ≡ false → AreDifferent (devices ++ d ∷ [])
+unfolding has_device
+different_push [] d all none = (refl, tt)
+different_push (e ∷ es) d all none =
+    elim (cases_Bool (e.dev.0 == d.dev.0)) [
+      | inl passes ↦ let bad : true ≡ false = rw passes at none in cc
+      | inr fails ↦
+          let rest : has_device d.dev.0 es ≡ false = rw fails at none in
+          (has_none es d e.dev.0 all.0 (other_way e.dev.0 d.dev.0 fails), different_push es d all.1 rest)
+    ]
 
 -- what the lines so far said, with what the next line relies on
 pub record IsKept (s : Scenario) : Type 0 where
   pub playable : IsPlayable s
   pub filled : AllByRecursion (λ z. 1 ≤ z.frames) s.sizes
-  pub ones : AllByRecursion (λ d. d.dev.0 ≡ 1) s.devices
 
 -- what may come next
 abbrev Fits : Scenario → Item → Type 0
 Fits s (items.Domain z) = (is_empty_list s.statements ≡ true) × ((1 ≤ z.dom.0) × (z.dom.0 ≤ 4)) × (1 ≤ z.frames) × (z.frames ≤ frames_left s.sizes) × (z.grants ≤ grants_left s.sizes)
-Fits s (items.Device d) = (is_empty_list s.statements ≡ true) × (d.dev.0 ≡ 1) × (has_device 1 s.devices ≡ false) × (0 < frames_by s.sizes d.dom.0)
+Fits s (items.Device d) = (is_empty_list s.statements ≡ true) × IsDevice d × (has_device d.dev.0 s.devices ≡ false) × (0 < frames_by s.sizes d.dom.0)
 Fits s (items.Step x) = IsPlayed s x
 
 nothing_kept : IsKept nothing
 nothing_kept = record {
-  playable = record { sizes = record { numbers = All-nil _; frames = omega arith; grants = omega arith }; one = omega arith; rooms = tt; statements = tt };
+  playable = record { sizes = record { numbers = All-nil _; frames = omega arith; grants = omega arith }; devices = tt; different = tt; rooms = tt; statements = tt };
   filled = tt;
-  ones = tt;
 }
 
 domain_kept : (s : Scenario) (z : DomainSize) → IsKept s → Fits s (items.Domain z) → IsKept (with_item (Some (items.Domain z)) s)
@@ -93,38 +111,37 @@ domain_kept s z kept fits =
     record {
       playable = record {
         sizes = record { numbers = All-push (λ (d : DomainSize). (1 ≤ d.dom.0) × (d.dom.0 ≤ 4)) s.sizes z old.numbers fits.1; frames = frames; grants = grants };
-        one = kept.playable.one;
+        devices = kept.playable.devices;
+        different = kept.playable.different;
         rooms = each_weaker _ _ s.devices (λ (d : DeviceSetup) some. frames_kept s.sizes z d.dom.0 some) kept.playable.rooms;
         statements = each_of_none _ s.statements fits.0;
       };
       filled = each_push _ s.sizes z kept.filled fits.2;
-      ones = kept.ones;
     }
 
 device_kept : (s : Scenario) (d : DeviceSetup) → IsKept s → Fits s (items.Device d) → IsKept (with_item (Some (items.Device d)) s)
 device_kept s d kept fits =
-    let none = no_device s.devices kept.ones fits.2 in
     record {
       playable = record {
         sizes = kept.playable.sizes;
-        one = rw (length_push s.devices d) (omega arith);
+        devices = each_push IsDevice s.devices d kept.playable.devices fits.1;
+        different = different_push s.devices d kept.playable.different fits.2;
         rooms = each_push _ s.devices d kept.playable.rooms fits.3;
         statements = each_of_none _ s.statements fits.0;
       };
       filled = kept.filled;
-      ones = each_push _ s.devices d kept.ones fits.1;
     }
 
 statement_kept : (s : Scenario) (x : Statement) → IsKept s → Fits s (items.Step x) → IsKept (with_item (Some (items.Step x)) s)
 statement_kept s x kept fits = record {
   playable = record {
     sizes = kept.playable.sizes;
-    one = kept.playable.one;
+    devices = kept.playable.devices;
+    different = kept.playable.different;
     rooms = kept.playable.rooms;
     statements = each_push (IsPlayed s) s.statements x kept.playable.statements fits;
   };
   filled = kept.filled;
-  ones = kept.ones;
 }
 
 item_kept : (s : Scenario) (item : Option Item) → IsKept s → IfSome item (Fits s) → IsKept (with_item item s)
@@ -158,13 +175,13 @@ unfolding display_at
 device_fits s c x kept none same =
     let dev = bind_ok (new_device_at s.devices c) _ x same in
     let size = bind_ok (size_at s.sizes dev.0.1) _ x dev.2 in
-    let connectors = bind_ok (between_at 1 1 size.0.1) _ x size.2 in
+    let connectors = bind_ok (between_at 1 4 size.0.1) _ x size.2 in
     let number = new_device_gives s.devices c dev.0 dev.1 in
-    let free : has_device 1 s.devices ≡ false = rw (← number.0) number.1 in
+    let n = between_gives 1 4 size.0.1 connectors.0 connectors.1 in
     let room = found_room s dev.0.1 size.0 kept size.1 in
     let item : Item = items.Device (record { dev = dev.0.0; dom = size.0.0.dom; kind = kinds.Display connectors.0.0.value }) in
     let one : (item, connectors.0.1) ≡ x = cc in
-    subst (λ (y : Item × Cursor). Fits s y.0) {x = (item, connectors.0.1)} one (none, number.0, free, room)
+    subst (λ (y : Item × Cursor). Fits s y.0) {x = (item, connectors.0.1)} one (none, (number.0, number.1, n.0, n.1), number.2, room)
 
 put_fits : (s : Scenario) (c : Cursor) (x : Item × Cursor) → put_at s c ≡ Ok x → Fits s x.0
 unfolding put_at
@@ -181,6 +198,27 @@ put_fits s c x same =
     let item : Item = items.Step (Put (Cell size.0.0.dom (record { 0 = frame.0.0.value }) word.0.0.value) value.0.0.value) in
     let one : (item, value.0.1) ≡ x = cc in
     subst (λ (y : Item × Cursor). Fits s y.0) {x = (item, value.0.1)} one ((inside, w), v)
+
+fill_fits : (s : Scenario) (c : Cursor) (x : Item × Cursor) → fill_at s c ≡ Ok x → Fits s x.0
+unfolding fill_at
+fill_fits s c x same =
+    let size = bind_ok (size_at s.sizes c) _ x same in
+    let frame = bind_ok (below_at size.0.0.frames size.0.1) _ x size.2 in
+    let word = bind_ok (below_at 1024 frame.0.1) _ x frame.2 in
+    let room : ℕ = 1024 * (size.0.0.frames - frame.0.0.value) - word.0.0.value in
+    let count = bind_ok (between_at 1 (min room (2 ^ 32 - 1)) word.0.1) _ x word.2 in
+    let value = bind_ok (below_at (2 ^ 32) count.0.1) _ x count.2 in
+    let step = bind_ok (below_at (2 ^ 32) value.0.1) _ x value.2 in
+    let has = size_gives s.sizes c size.0 size.1 in
+    let f = below_gives size.0.0.frames size.0.1 frame.0 frame.1 in
+    let w = below_gives 1024 frame.0.1 word.0 word.1 in
+    let n = between_gives 1 (min room (2 ^ 32 - 1)) word.0.1 count.0 count.1 in
+    let v = below_gives (2 ^ 32) count.0.1 value.0 value.1 in
+    let t = below_gives (2 ^ 32) value.0.1 step.0 step.1 in
+    let of_words : 1024 * frame.0.0.value + word.0.0.value + count.0.0.value ≤ 1024 * frames_by s.sizes size.0.0.dom.0 = rw has.0 (omega (arith, min-le_left room (2 ^ 32 - 1))) in
+    let item : Item = items.Step (Fill (record { dom = size.0.0.dom; frame = record { 0 = frame.0.0.value }; word = word.0.0.value; count = count.0.0.value; value = value.0.0.value; step = step.0.0.value })) in
+    let one : (item, step.0.1) ≡ x = ok_one (Ok (item, step.0.1)) (item, step.0.1) x refl step.2 in
+    subst (λ (y : Item × Cursor). Fits s y.0) {x = (item, step.0.1)} one (n.0, w, of_words, v, t)
 
 put_grant_fits : (s : Scenario) (c : Cursor) (x : Item × Cursor) → put_grant_at s c ≡ Ok x → Fits s x.0
 unfolding put_grant_at
@@ -248,14 +286,61 @@ end_fits s c x same =
     let one : (item, count.0.1) ≡ x = ok_one (Ok (item, count.0.1)) (item, count.0.1) x refl count.2 in
     subst (λ (y : Item × Cursor). Fits s y.0) {x = (item, count.0.1)} one (n.0, of_grants)
 
+node_fits : (s : Scenario) (c : Cursor) (x : Item × Cursor) → node_at s c ≡ Ok x → Fits s x.0
+unfolding node_at
+node_fits s c x same =
+    let dev = bind_ok (device_at s.devices c) _ x same in
+    let part = bind_ok (below_at (parts_of dev.0.0.kind) dev.0.1) _ x dev.2 in
+    let key = bind_ok (key_at part.0.1) _ x part.2 in
+    let value = bind_ok (node_value_at key.0.1) _ x key.2 in
+    let there = device_gives s.devices c dev.0 dev.1 in
+    let p = below_gives (parts_of dev.0.0.kind) dev.0.1 part.0 part.1 in
+    let inside : part.0.0.value < parts_by s.devices dev.0.0.dev.0 = rw there.0 p in
+    let k = key_gives part.0.1 key.0 key.1 in
+    let v = node_value_gives key.0.1 value.0 value.1 in
+    let item : Item = items.Step (Node dev.0.0.dev part.0.0.value key.0.0 value.0.0) in
+    let one : (item, value.0.1) ≡ x = ok_one (Ok (item, value.0.1)) (item, value.0.1) x refl value.2 in
+    subst (λ (y : Item × Cursor). Fits s y.0) {x = (item, value.0.1)} one (there.1, inside, k, v)
+
+bus_fits : (s : Scenario) (c : Cursor) (x : Item × Cursor) → bus_at s c ≡ Ok x → Fits s x.0
+unfolding bus_at
+bus_fits s c x same =
+    let dev = bind_ok (device_at s.devices c) _ x same in
+    let state = bind_ok (state_at dev.0.1) _ x dev.2 in
+    let there = device_gives s.devices c dev.0 dev.1 in
+    let item : Item = items.Step (Bus dev.0.0.dev state.0.0) in
+    let one : (item, state.0.1) ≡ x = cc in
+    subst (λ (y : Item × Cursor). Fits s y.0) {x = (item, state.0.1)} one there.1
+
+wake_fits : (s : Scenario) (c : Cursor) (x : Item × Cursor) → wake_at s c ≡ Ok x → Fits s x.0
+unfolding wake_at
+wake_fits s c x same =
+    let dev = bind_ok (device_at s.devices c) _ x same in
+    let there = device_gives s.devices c dev.0 dev.1 in
+    let item : Item = items.Step (Wake dev.0.0.dev) in
+    let one : (item, dev.0.1) ≡ x = cc in
+    subst (λ (y : Item × Cursor). Fits s y.0) {x = (item, dev.0.1)} one there.1
+
+back_fits : (s : Scenario) (c : Cursor) (x : Item × Cursor) → back_at s c ≡ Ok x → Fits s x.0
+unfolding back_at
+back_fits s c x same =
+    let dev = bind_ok (device_at s.devices c) _ x same in
+    let count = bind_ok (between_at 1 (2 ^ 32 - 1) dev.0.1) _ x dev.2 in
+    let there = device_gives s.devices c dev.0 dev.1 in
+    let n = between_gives 1 (2 ^ 32 - 1) dev.0.1 count.0 count.1 in
+    let below : count.0.0.value < 2 ^ 32 = omega (arith, n.1) in
+    let item : Item = items.Step (Back dev.0.0.dev count.0.0.value) in
+    let one : (item, count.0.1) ≡ x = ok_one (Ok (item, count.0.1)) (item, count.0.1) x refl count.2 in
+    subst (λ (y : Item × Cursor). Fits s y.0) {x = (item, count.0.1)} one (there.1, n.0, below)
+
 serve_fits : (s : Scenario) (c : Cursor) (x : Item × Cursor) → serve_at s c ≡ Ok x → Fits s x.0
 unfolding serve_at
 serve_fits s c x same =
     let dev = bind_ok (device_at s.devices c) _ x same in
     let there = device_gives s.devices c dev.0 dev.1 in
-    let item : Item = items.Step (Serve dev.0.0) in
+    let item : Item = items.Step (Serve dev.0.0.dev) in
     let one : (item, dev.0.1) ≡ x = cc in
-    subst (λ (y : Item × Cursor). Fits s y.0) {x = (item, dev.0.1)} one there
+    subst (λ (y : Item × Cursor). Fits s y.0) {x = (item, dev.0.1)} one there.1
 
 command_in_time : (s : Scenario) (t : Token) (command : Command) → command_at s t ≡ Ok command → (is_declaration command && not (is_empty_list s.statements)) ≡ false
 unfolding command_at
@@ -273,10 +358,15 @@ unfolding arguments_at
 arguments_fit commands.Domain s c x kept early same = domain_fits s c x (none_stated (is_empty_list s.statements) early) same
 arguments_fit commands.Display s c x kept early same = device_fits s c x kept (none_stated (is_empty_list s.statements) early) same
 arguments_fit commands.Put s c x kept early same = put_fits s c x same
+arguments_fit commands.Fill s c x kept early same = fill_fits s c x same
 arguments_fit commands.PutGrant s c x kept early same = put_grant_fits s c x same
 arguments_fit commands.Swap s c x kept early same = swap_fits s c x same
 arguments_fit commands.Open s c x kept early same = open_fits s c x same
 arguments_fit commands.End s c x kept early same = end_fits s c x same
+arguments_fit commands.Node s c x kept early same = node_fits s c x same
+arguments_fit commands.Bus s c x kept early same = bus_fits s c x same
+arguments_fit commands.Wake s c x kept early same = wake_fits s c x same
+arguments_fit commands.Back s c x kept early same = back_fits s c x same
 arguments_fit commands.Serve s c x kept early same = serve_fits s c x same
 
 no_more : {A : Type 0} (o : Option (Token × Cursor)) (x y : A) → unless_more o x ≡ Ok y → x ≡ y

@@ -1,16 +1,20 @@
 -- The tokens behind a line's first one: numbers and words.
 use Rattle.std.specs.Prelude.{ℕ, nat_lt, nat_le, ◌&&◌, List, [], ◌∷◌, Option, Some, None, Result, Ok, Err, codes, if◌then◌else◌}
 use Rattle.std.specs.Str.{bytes_eq}
+use Rattle.pv_words.specs.declared.device.NodeValue.{NodeValue}
+use Rattle.pv_words.specs.declared.device.State.{State}
 use Rattle.pv_words.specs.declared.grant.Mode.{Mode}
 use Rattle.pv_words.specs.declared.grant.Mode.TheVariants.{Read, Write}
 use Rattle.pv_words.specs.declared.place.Half.{Half}
 use Rattle.pv_words.specs.declared.place.Half.TheVariants.{Flags, FrameNo}
+use Rattle.xenbus_states.specs.States.{state_of}
 use Rattle.scenario_text.specs.declared.fault.Flaw.{Flaw}
 use Rattle.scenario_text.specs.declared.fault.FaultKind.TheVariants.{BadNumber, OutOfRange, BadWord}
 use Rattle.scenario_text.specs.declared.argument.Number.{Number}
 use Rattle.scenario_text.specs.Flaws.{flaw, ◌>>=◌, or_flaw}
 use Rattle.scenario_text.specs.Cursors.{Cursor, next_of}
 use Rattle.scenario_text.specs.Numbers.{number_of, in_64_bits}
+use Rattle.scenario_text.specs.Nodes.{keys, node_value}
 
 -- a number below 2 ^ 64, and the column of its token
 unfoldable pub number_at : Cursor → Result (Number × Cursor) Flaw
@@ -64,3 +68,20 @@ modes = (codes "rw", Write) ∷ (codes "ro", Read) ∷ []
 -- what a grant permits
 unfoldable pub mode_at : Cursor → Result (Mode × Cursor) Flaw
 mode_at c = named_at modes c
+
+-- the name of a node, by which its key is told
+unfoldable pub key_at : Cursor → Result (ℕ × Cursor) Flaw
+key_at c = named_at keys c
+
+-- what a node holds, which is any token
+unfoldable pub node_value_at : Cursor → Result (NodeValue × Cursor) Flaw
+node_value_at c = do
+  t ← next_of c
+  Ok (node_value t.0.octets, t.1)
+
+-- the number of a state
+unfoldable pub state_at : Cursor → Result (State × Cursor) Flaw
+state_at c = do
+  n ← number_at c
+  s ← or_flaw (state_of n.0.value) n.0.column OutOfRange
+  Ok (s, n.1)

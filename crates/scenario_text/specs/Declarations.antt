@@ -20,10 +20,10 @@ domain_at so_far c = do
   grants ← between_at 0 (grants_left so_far.sizes) frames.1
   Ok (items.Domain (record { dom = dom.0; kind = Wild; frames = frames.0.value; grants = grants.0.value; first = record { 0 = 0 } }), grants.1)
 
--- display N D C: device N of domain D with C connectors
+-- display N D C: device N of domain D with C connectors, 1 to 4
 unfoldable pub display_at : Scenario → Cursor → Result (Item × Cursor) Flaw
 display_at so_far c = do
   dev ← new_device_at so_far.devices c
   size ← size_at so_far.sizes dev.1
-  connectors ← between_at 1 1 size.1
+  connectors ← between_at 1 4 size.1
   Ok (items.Device (record { dev = dev.0; dom = size.0.dom; kind = kinds.Display connectors.0.value }), connectors.1)

@@ -4,19 +4,20 @@ use Rattle.scenario_text.specs.declared.draft.Item.{Item}
 use Rattle.scenario_text.specs.declared.fault.Flaw.{Flaw}
 use Rattle.scenario_text.specs.declared.fault.FaultKind.TheVariants.{UnknownStatement, ExtraWord, Late}
 use Rattle.scenario_text.specs.declared.item.Command.{Command}
-use Rattle.scenario_text.specs.declared.item.Command.TheVariants.{Domain, Display, Put, PutGrant, Swap, Open, End, Serve}
+use Rattle.scenario_text.specs.declared.item.Command.TheVariants.{Domain, Display, Put, Fill, PutGrant, Swap, Open, End, Node, Bus, Wake, Back, Serve}
 use Rattle.scenario_text.specs.Flaws.{flaw, ◌>>=◌, or_flaw}
 use Rattle.scenario_text.specs.Tokens.{Token, tokens}
 use Rattle.scenario_text.specs.Cursors.{Cursor, first_of}
 use Rattle.scenario_text.specs.Arguments.{named}
 use Rattle.scenario_text.specs.Declarations.{domain_at, display_at}
-use Rattle.scenario_text.specs.Statements.{put_at, put_grant_at, swap_at, open_at, end_at, serve_at}
+use Rattle.scenario_text.specs.Statements.{put_at, fill_at, put_grant_at, swap_at, open_at, end_at, node_at, bus_at, wake_at, back_at, serve_at}
 use Rattle.scenario_text.specs.Scenario.{Scenario}
 
 -- the first tokens of lines, and what they name
 abbrev pub names : List (List ℕ × Command)
 names =
-    (codes "put", Put) ∷ (codes "putg", PutGrant) ∷ (codes "swap", Swap) ∷ (codes "open", Open) ∷ (codes "end", End)
+    (codes "put", Put) ∷ (codes "fill", Fill) ∷ (codes "putg", PutGrant) ∷ (codes "swap", Swap) ∷ (codes "open", Open) ∷ (codes "end", End)
+    ∷ (codes "node", Node) ∷ (codes "bus", Bus) ∷ (codes "wake", Wake) ∷ (codes "back", Back)
     ∷ (codes "serve", Serve) ∷ (codes "domain", Domain) ∷ (codes "display", Display) ∷ []
 
 -- what a token names, as the first of a line
@@ -28,10 +29,15 @@ abbrev pub is_declaration : Command → Bool
 is_declaration Domain = true
 is_declaration Display = true
 is_declaration Put = false
+is_declaration Fill = false
 is_declaration PutGrant = false
 is_declaration Swap = false
 is_declaration Open = false
 is_declaration End = false
+is_declaration Node = false
+is_declaration Bus = false
+is_declaration Wake = false
+is_declaration Back = false
 is_declaration Serve = false
 
 -- whether there is nothing in a list
@@ -50,10 +56,15 @@ unfoldable pub arguments_at : Command → Scenario → Cursor → Result (Item �
 arguments_at Domain so_far c = domain_at so_far c
 arguments_at Display so_far c = display_at so_far c
 arguments_at Put so_far c = put_at so_far c
+arguments_at Fill so_far c = fill_at so_far c
 arguments_at PutGrant so_far c = put_grant_at so_far c
 arguments_at Swap so_far c = swap_at so_far c
 arguments_at Open so_far c = open_at so_far c
 arguments_at End so_far c = end_at so_far c
+arguments_at Node so_far c = node_at so_far c
+arguments_at Bus so_far c = bus_at so_far c
+arguments_at Wake so_far c = wake_at so_far c
+arguments_at Back so_far c = back_at so_far c
 arguments_at Serve so_far c = serve_at so_far c
 
 -- no token may be left over

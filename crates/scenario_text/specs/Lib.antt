@@ -3,6 +3,7 @@ pub mod Lines
 pub mod Tokens
 pub mod Cursors
 pub mod Numbers
+pub mod Nodes
 pub mod Scenario
 pub mod Arguments
 pub mod Lookups

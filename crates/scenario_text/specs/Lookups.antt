@@ -5,6 +5,8 @@ use Rattle.pv_words.specs.declared.place.DomId.{DomId}
 use Rattle.pv_words.specs.declared.place.DevId.{DevId}
 use Rattle.pv_words.specs.declared.setup.DomainSize.{DomainSize}
 use Rattle.pv_words.specs.declared.setup.DeviceSetup.{DeviceSetup}
+use Rattle.pv_words.specs.declared.setup.DeviceKind.{DeviceKind}
+use Rattle.pv_words.specs.declared.setup.DeviceKind.TheVariants as kinds
 use Rattle.scenario_text.specs.declared.fault.Flaw.{Flaw}
 use Rattle.scenario_text.specs.declared.fault.FaultKind.TheVariants.{Twice, Undeclared}
 use Rattle.scenario_text.specs.Flaws.{flaw, ◌>>=◌, or_flaw}
@@ -14,6 +16,14 @@ use Rattle.scenario_text.specs.Arguments.{between_at}
 -- the domain of this number
 unfoldable pub size_of : ℕ → List DomainSize → Option DomainSize
 size_of dom sizes = find (λ s. s.dom.0 == dom) sizes
+
+-- the device of this number
+unfoldable pub device_of : ℕ → List DeviceSetup → Option DeviceSetup
+device_of dev devices = find (λ d. d.dev.0 == dev) devices
+
+-- how many parts a device has: a display's connectors
+abbrev pub parts_of : DeviceKind → ℕ
+parts_of (kinds.Display connectors) = connectors
 
 -- whether there is a device of this number
 unfoldable pub has_device : ℕ → List DeviceSetup → Bool
@@ -39,14 +49,15 @@ size_at sizes c = do
   size ← or_flaw (size_of dom.0.value sizes) dom.0.column Undeclared
   Ok (size, dom.1)
 
--- a device's number, which is 1, that wasn't declared yet
+-- a device's number, 1 to 16, that wasn't declared yet
 unfoldable pub new_device_at : List DeviceSetup → Cursor → Result (DevId × Cursor) Flaw
 new_device_at devices c = do
-  dev ← between_at 1 1 c
+  dev ← between_at 1 16 c
   if has_device dev.0.value devices then Err (flaw dev.0.column Twice) else Ok (record { 0 = dev.0.value }, dev.1)
 
 -- a device that was declared
-unfoldable pub device_at : List DeviceSetup → Cursor → Result (DevId × Cursor) Flaw
+unfoldable pub device_at : List DeviceSetup → Cursor → Result (DeviceSetup × Cursor) Flaw
 device_at devices c = do
-  dev ← between_at 1 1 c
-  if has_device dev.0.value devices then Ok (record { 0 = dev.0.value }, dev.1) else Err (flaw dev.0.column Undeclared)
+  dev ← between_at 1 16 c
+  device ← or_flaw (device_of dev.0.value devices) dev.0.column Undeclared
+  Ok (device, dev.1)

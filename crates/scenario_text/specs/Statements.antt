@@ -1,15 +1,15 @@
 -- Statements, behind their first token.
-use Rattle.std.specs.Prelude.{◌-◌, ◌^◌, min, Result, Ok}
+use Rattle.std.specs.Prelude.{◌-◌, ◌*◌, ◌^◌, min, Result, Ok}
 use Rattle.pv_words.specs.declared.place.Place.TheVariants.{Cell, Grant}
 use Rattle.pv_words.specs.declared.place.Half.TheVariants.{Flags}
 use Rattle.scenario_text.specs.declared.draft.Item.{Item}
 use Rattle.scenario_text.specs.declared.draft.Item.TheVariants.{Step}
-use Rattle.scenario_text.specs.declared.statement.Statement.TheVariants.{Put, Swap, Open, End, Serve}
+use Rattle.scenario_text.specs.declared.statement.Statement.TheVariants.{Put, Fill, Swap, Open, End, Node, Bus, Wake, Back, Serve}
 use Rattle.scenario_text.specs.declared.fault.Flaw.{Flaw}
 use Rattle.scenario_text.specs.Flaws.{◌>>=◌}
 use Rattle.scenario_text.specs.Cursors.{Cursor}
-use Rattle.scenario_text.specs.Arguments.{between_at, below_at, half_at, mode_at}
-use Rattle.scenario_text.specs.Lookups.{size_at, device_at}
+use Rattle.scenario_text.specs.Arguments.{between_at, below_at, half_at, mode_at, key_at, node_value_at, state_at}
+use Rattle.scenario_text.specs.Lookups.{size_at, device_at, parts_of}
 use Rattle.scenario_text.specs.Scenario.{Scenario}
 
 -- put D F W V: value V at word W of frame F of domain D
@@ -20,6 +20,18 @@ put_at so_far c = do
   word ← below_at 1024 frame.1
   value ← below_at (2 ^ 32) word.1
   Ok (Step (Put (Cell size.0.dom (record { 0 = frame.0.value }) word.0.value) value.0.value), value.1)
+
+-- fill D F W N V T: values V, V + T, V + 2T and so on, modulo 2 ^ 32, at N words of domain D from word W of frame F on. N is
+-- 1 or more, below 2 ^ 32, and no more than there are words from there on.
+unfoldable pub fill_at : Scenario → Cursor → Result (Item × Cursor) Flaw
+fill_at so_far c = do
+  size ← size_at so_far.sizes c
+  frame ← below_at size.0.frames size.1
+  word ← below_at 1024 frame.1
+  count ← between_at 1 (min (1024 * (size.0.frames - frame.0.value) - word.0.value) (2 ^ 32 - 1)) word.1
+  value ← below_at (2 ^ 32) count.1
+  step ← below_at (2 ^ 32) value.1
+  Ok (Step (Fill (record { dom = size.0.dom; frame = record { 0 = frame.0.value }; word = word.0.value; count = count.0.value; value = value.0.value; step = step.0.value })), step.1)
 
 -- putg D G H V: value V at half H of grant entry G of domain D
 unfoldable pub put_grant_at : Scenario → Cursor → Result (Item × Cursor) Flaw
@@ -58,8 +70,37 @@ end_at so_far c = do
   count ← between_at 1 (size.0.grants - gref.0.value) gref.1
   Ok (Step (End (record { dom = size.0.dom; gref = record { 0 = gref.0.value }; count = count.0.value })), count.1)
 
+-- node N P NAME VALUE: VALUE at the node NAME of part P of device N
+unfoldable pub node_at : Scenario → Cursor → Result (Item × Cursor) Flaw
+node_at so_far c = do
+  dev ← device_at so_far.devices c
+  part ← below_at (parts_of dev.0.kind) dev.1
+  key ← key_at part.1
+  value ← node_value_at key.1
+  Ok (Step (Node dev.0.dev part.0.value key.0 value.0), value.1)
+
+-- bus N S: state S of the frontend of device N
+unfoldable pub bus_at : Scenario → Cursor → Result (Item × Cursor) Flaw
+bus_at so_far c = do
+  dev ← device_at so_far.devices c
+  state ← state_at dev.1
+  Ok (Step (Bus dev.0.dev state.0), state.1)
+
+-- wake N: device N
+unfoldable pub wake_at : Scenario → Cursor → Result (Item × Cursor) Flaw
+wake_at so_far c = do
+  dev ← device_at so_far.devices c
+  Ok (Step (Wake dev.0.dev), dev.1)
+
+-- back N K: device N, and K accesses, of which there is at least 1
+unfoldable pub back_at : Scenario → Cursor → Result (Item × Cursor) Flaw
+back_at so_far c = do
+  dev ← device_at so_far.devices c
+  count ← between_at 1 (2 ^ 32 - 1) dev.1
+  Ok (Step (Back dev.0.dev count.0.value), count.1)
+
 -- serve N: device N
 unfoldable pub serve_at : Scenario → Cursor → Result (Item × Cursor) Flaw
 serve_at so_far c = do
   dev ← device_at so_far.devices c
-  Ok (Step (Serve dev.0), dev.1)
+  Ok (Step (Serve dev.0.dev), dev.1)

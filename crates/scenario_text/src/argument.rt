@@ -3,12 +3,15 @@
 ghost use Rattle.std.specs.Prelude.{◌≡◌, ◌<◌, ◌≤◌, IfOk};
 ghost use Rattle.scenario_text.specs.Flaws.{Gives};
 ghost use Rattle.scenario_text.specs.Cursors.{cursor, seen};
-ghost use Rattle.scenario_text.specs.Arguments.{number_at, between_at, below_at, keyword_at, named, halves, half_at, modes, mode_at};
+ghost use Rattle.scenario_text.specs.Arguments.{number_at, between_at, below_at, keyword_at, named, halves, half_at, modes, mode_at, key_at, node_value_at, state_at};
+ghost use Rattle.scenario_text.specs.Nodes.{keys, node_value};
+ghost use Rattle.xenbus_states.specs.States.{state_of};
 
 use crate::fault::{FaultKind, Flaw};
-use crate::number::number_of;
+use crate::number::{digits_of, number_of};
 use crate::words::Words;
-use pv_words::{Half, Mode};
+use pv_words::{Half, Mode, NodeValue, State};
+use xenbus_states::state_from_number;
 
 /// A number of a line, and the column of its token.
 #[derive(Clone, Copy, Debug)]
@@ -138,6 +141,83 @@ pub fn mode<'a>(words: Words<'a>) -> Result<(Mode, Words<'a>), Flaw>
         None => Err(Flaw {
             column: word.column,
             kind: FaultKind::BadWord,
+        }),
+    }
+}
+
+/// The key of the node that has this name, in a display.
+fn key_of(octets: &[u8]) -> Option<u8>
+    ensures { result ≡ named octets.now keys }
+{
+    if octets == b"req-ring-ref".as_slice() {
+        Some(0)
+    } else if octets == b"req-event-channel".as_slice() {
+        Some(1)
+    } else if octets == b"evt-ring-ref".as_slice() {
+        Some(2)
+    } else if octets == b"evt-event-channel".as_slice() {
+        Some(3)
+    } else {
+        None
+    }
+}
+
+/// The next token as the name of a node, by which its key is told.
+#[tactic(auto, unfolding(crate::specs::Arguments::key_at))]
+pub fn key<'a>(words: Words<'a>) -> Result<(u8, Words<'a>), Flaw>
+    ensures { Gives seen result (key_at (cursor words.entry)) }
+{
+    let (word, words) = words.next()?;
+    match key_of(word.octets) {
+        Some(key) => Ok((key, words)),
+        None => Err(Flaw {
+            column: word.column,
+            kind: FaultKind::BadWord,
+        }),
+    }
+}
+
+/// What a node holds whose text is this.
+#[tactic(auto, unfolding(crate::specs::Nodes::node_value))]
+fn node_value_of(octets: &[u8]) -> NodeValue
+    ensures { result ≡ node_value octets.now }
+{
+    match digits_of(10, octets) {
+        Some(value) if value < 1 << 32 => NodeValue::Number(value as u32),
+        _ => NodeValue::Bad,
+    }
+}
+
+/// The next token as what a node holds.
+#[tactic(auto, unfolding(crate::specs::Arguments::node_value_at))]
+pub fn node_value<'a>(words: Words<'a>) -> Result<(NodeValue, Words<'a>), Flaw>
+    ensures { Gives seen result (node_value_at (cursor words.entry)) }
+{
+    let (word, words) = words.next()?;
+    Ok((node_value_of(word.octets), words))
+}
+
+/// The state of this number.
+fn state_of(n: u64) -> Option<State>
+    ensures { result ≡ state_of n }
+{
+    if n > 8 {
+        return None;
+    }
+    state_from_number(n as u32)
+}
+
+/// The next token as the number of a state.
+#[tactic(auto, unfolding(crate::specs::Arguments::state_at))]
+pub fn state<'a>(words: Words<'a>) -> Result<(State, Words<'a>), Flaw>
+    ensures { Gives seen result (state_at (cursor words.entry)) }
+{
+    let (number, words) = number_at(words)?;
+    match state_of(number.value) {
+        Some(state) => Ok((state, words)),
+        None => Err(Flaw {
+            column: number.column,
+            kind: FaultKind::OutOfRange,
         }),
     }
 }

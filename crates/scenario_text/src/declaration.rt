@@ -32,14 +32,14 @@ pub fn domain<'a>(so_far: &Draft, words: Words<'a>) -> Result<(Item, Words<'a>),
     Ok((Item::Domain(size), words))
 }
 
-/// `display N D C`: device N of domain D with C connectors.
+/// `display N D C`: device N of domain D with C connectors, 1 to 4.
 #[tactic(auto, unfolding(crate::specs::Declarations::display_at))]
 pub fn display<'a>(so_far: &Draft, words: Words<'a>) -> Result<(Item, Words<'a>), Flaw>
     ensures { Gives seen result (display_at (drafted so_far.now) (cursor words.entry)) }
 {
     let (dev, words) = new_device(&so_far.devices, words)?;
     let (size, words) = declared_domain(&so_far.sizes, words)?;
-    let (connectors, words) = between(words, 1, 1)?;
+    let (connectors, words) = between(words, 1, 4)?;
     let device = DeviceSetup {
         dev,
         dom: size.dom,

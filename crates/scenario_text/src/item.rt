@@ -9,7 +9,7 @@ ghost use Rattle.scenario_text.specs.Items.{command_of, is_declaration, command_
 use crate::declaration::{display, domain};
 use crate::draft::{Draft, Item};
 use crate::fault::{FaultKind, Flaw};
-use crate::statement::{end, open, put, put_grant, serve, swap};
+use crate::statement::{back, bus, end, fill, node, open, put, put_grant, serve, swap, wake};
 use crate::words::{Word, Words};
 
 /// What the first token of a line names.
@@ -18,10 +18,15 @@ pub enum Command {
     Domain,
     Display,
     Put,
+    Fill,
     PutGrant,
     Swap,
     Open,
     End,
+    Node,
+    Bus,
+    Wake,
+    Back,
     Serve,
 }
 
@@ -32,6 +37,8 @@ fn command_of(octets: &[u8]) -> Option<Command>
 {
     if octets == b"put".as_slice() {
         Some(Command::Put)
+    } else if octets == b"fill".as_slice() {
+        Some(Command::Fill)
     } else if octets == b"putg".as_slice() {
         Some(Command::PutGrant)
     } else if octets == b"swap".as_slice() {
@@ -40,6 +47,14 @@ fn command_of(octets: &[u8]) -> Option<Command>
         Some(Command::Open)
     } else if octets == b"end".as_slice() {
         Some(Command::End)
+    } else if octets == b"node".as_slice() {
+        Some(Command::Node)
+    } else if octets == b"bus".as_slice() {
+        Some(Command::Bus)
+    } else if octets == b"wake".as_slice() {
+        Some(Command::Wake)
+    } else if octets == b"back".as_slice() {
+        Some(Command::Back)
     } else if octets == b"serve".as_slice() {
         Some(Command::Serve)
     } else if octets == b"domain".as_slice() {
@@ -58,10 +73,15 @@ fn is_declaration(command: Command) -> bool
     match command {
         Command::Domain | Command::Display => true,
         Command::Put
+        | Command::Fill
         | Command::PutGrant
         | Command::Swap
         | Command::Open
         | Command::End
+        | Command::Node
+        | Command::Bus
+        | Command::Wake
+        | Command::Back
         | Command::Serve => false,
     }
 }
@@ -97,10 +117,15 @@ fn arguments<'a>(
         Command::Domain => domain(so_far, words),
         Command::Display => display(so_far, words),
         Command::Put => put(so_far, words),
+        Command::Fill => fill(so_far, words),
         Command::PutGrant => put_grant(so_far, words),
         Command::Swap => swap(so_far, words),
         Command::Open => open(so_far, words),
         Command::End => end(so_far, words),
+        Command::Node => node(so_far, words),
+        Command::Bus => bus(so_far, words),
+        Command::Wake => wake(so_far, words),
+        Command::Back => back(so_far, words),
         Command::Serve => serve(so_far, words),
     }
 }

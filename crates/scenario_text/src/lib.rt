@@ -20,7 +20,7 @@ mod words;
 
 pub use fault::{FaultKind, ParseFault, ScriptFault};
 pub use script::Script;
-pub use statement::{Closing, Opening, Statement};
+pub use statement::{Closing, Filling, Opening, Statement};
 
 #[cfg(test)]
 mod tests;

@@ -3,12 +3,12 @@
 ghost use Rattle.std.specs.Prelude.{◌≡◌};
 ghost use Rattle.scenario_text.specs.Flaws.{Gives};
 ghost use Rattle.scenario_text.specs.Cursors.{cursor, seen};
-ghost use Rattle.scenario_text.specs.Lookups.{size_of, has_device, frames_left, grants_left, new_domain_at, size_at, new_device_at, device_at};
+ghost use Rattle.scenario_text.specs.Lookups.{size_of, device_of, has_device, parts_of, frames_left, grants_left, new_domain_at, size_at, new_device_at, device_at};
 
 use crate::argument::between;
 use crate::fault::{FaultKind, Flaw};
 use crate::words::Words;
-use pv_words::{DevId, DeviceSetup, DomId, DomainSize};
+use pv_words::{DevId, DeviceKind, DeviceSetup, DomId, DomainSize};
 
 /// The most frames, and the most grants, of all domains together.
 const MOST: u32 = 16384;
@@ -19,6 +19,23 @@ fn size_of(dom: u64, sizes: &[DomainSize]) -> Option<DomainSize>
     ensures { result ≡ size_of dom sizes.now }
 {
     sizes.iter().copied().find(|s| u64::from(s.dom.0) == dom)
+}
+
+/// The device of this number.
+#[tactic(auto, unfolding(crate::specs::Lookups::device_of))]
+fn device_of(dev: u64, devices: &[DeviceSetup]) -> Option<DeviceSetup>
+    ensures { result ≡ device_of dev devices.now }
+{
+    devices.iter().copied().find(|d| u64::from(d.dev.0) == dev)
+}
+
+/// How many parts a device has: a display's connectors.
+pub fn parts_of(kind: DeviceKind) -> u8
+    ensures { result ≡ parts_of kind }
+{
+    match kind {
+        DeviceKind::Display(connectors) => connectors,
+    }
 }
 
 /// Whether there is a device of this number.
@@ -92,7 +109,7 @@ pub fn declared_domain<'a>(
 pub fn new_device<'a>(devices: &[DeviceSetup], words: Words<'a>) -> Result<(DevId, Words<'a>), Flaw>
     ensures { Gives seen result (new_device_at devices.now (cursor words.entry)) }
 {
-    let (dev, words) = between(words, 1, 1)?;
+    let (dev, words) = between(words, 1, 16)?;
     if has_device(dev.value, devices) {
         return Err(Flaw {
             column: dev.column,
@@ -102,20 +119,21 @@ pub fn new_device<'a>(devices: &[DeviceSetup], words: Words<'a>) -> Result<(DevI
     Ok((DevId(dev.value as u8), words))
 }
 
-/// The next token as the number of a declared device.
+/// The next token as the number of a declared device, which is returned.
+#[inline(always)]
 #[tactic(auto, unfolding(crate::specs::Lookups::device_at))]
 pub fn declared_device<'a>(
     devices: &[DeviceSetup],
     words: Words<'a>,
-) -> Result<(DevId, Words<'a>), Flaw>
+) -> Result<(DeviceSetup, Words<'a>), Flaw>
     ensures { Gives seen result (device_at devices.now (cursor words.entry)) }
 {
-    let (dev, words) = between(words, 1, 1)?;
-    if !has_device(dev.value, devices) {
-        return Err(Flaw {
+    let (dev, words) = between(words, 1, 16)?;
+    match device_of(dev.value, devices) {
+        Some(device) => Ok((device, words)),
+        None => Err(Flaw {
             column: dev.column,
             kind: FaultKind::Undeclared,
-        });
+        }),
     }
-    Ok((DevId(dev.value as u8), words))
 }

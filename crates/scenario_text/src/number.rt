@@ -19,7 +19,7 @@ fn digit_of(base: u64, b: u8) -> Option<u64>
 
 /// The number that the digits spell in that base, if it is below 2^64.
 #[tactic(auto, unfolding(crate::specs::Numbers::digits_of))]
-fn digits_of(base: u64, digits: &[u8]) -> Option<u64>
+pub fn digits_of(base: u64, digits: &[u8]) -> Option<u64>
     requires { 0 < base }
     ensures { result ≡ in_64_bits (digits_of base digits.now) }
 {

@@ -4,14 +4,31 @@ ghost use Rattle.std.specs.Prelude.{◌≡◌};
 ghost use Rattle.scenario_text.specs.Flaws.{Gives};
 ghost use Rattle.scenario_text.specs.Cursors.{cursor, seen};
 ghost use Rattle.scenario_text.specs.Scenario.{drafted};
-ghost use Rattle.scenario_text.specs.Statements.{put_at, put_grant_at, swap_at, open_at, end_at, serve_at};
+ghost use Rattle.scenario_text.specs.Statements.{put_at, fill_at, put_grant_at, swap_at, open_at, end_at, node_at, bus_at, wake_at, back_at, serve_at};
 
-use crate::argument::{below, between, half, mode};
+use crate::argument::{below, between, half, key, mode, node_value, state};
 use crate::draft::{Draft, Item};
 use crate::fault::Flaw;
-use crate::lookup::{declared_device, declared_domain};
+use crate::lookup::{declared_device, declared_domain, parts_of};
 use crate::words::Words;
-use pv_words::{DevId, DomId, Frame, GrantRef, Half, Mode, Place};
+use pv_words::{DevId, DomId, Frame, GrantRef, Half, Mode, NodeValue, Place, State};
+
+/// Stores to consecutive words of a domain, through following frames. The domain has all these words.
+#[derive(Clone, Copy, Debug, PartialEq, Eq)]
+pub struct Filling {
+    /// The domain whose words they are.
+    pub dom: DomId,
+    /// The frame of the first word.
+    pub frame: Frame,
+    /// The first word in its frame, below 1024.
+    pub word: u16,
+    /// How many words, at least 1.
+    pub count: u32,
+    /// The value of the first word.
+    pub value: u32,
+    /// By how much each further word's value is above the one before it, modulo 2^32.
+    pub step: u32,
+}
 
 /// Grants that a domain opens to the backend: consecutive grant entries, for consecutive frames. The domain
 /// has all these entries and frames.
@@ -45,6 +62,8 @@ pub struct Closing {
 pub enum Statement {
     /// Store this value at this place, a word of a page or a half of a grant entry.
     Put(Place, u32),
+    /// Store these values, one word after the other.
+    Fill(Filling),
     /// Store the second value at this place, the flags of a grant entry, where it holds the first one. It is
     /// one atomic compare and exchange.
     Swap(Place, u32, u32),
@@ -52,6 +71,14 @@ pub enum Statement {
     Open(Opening),
     /// End these grants.
     End(Closing),
+    /// Set the node of this device, part and key to this value.
+    Node(DevId, u8, u8, NodeValue),
+    /// Set the state of the frontend of this device.
+    Bus(DevId, State),
+    /// Raise the pending word of this device.
+    Wake(DevId),
+    /// Let this device work until it made this many accesses, at least 1, or is idle.
+    Back(DevId, u32),
     /// Let this device work until it is idle.
     Serve(DevId),
 }
@@ -70,6 +97,31 @@ pub fn put<'a>(so_far: &Draft, words: Words<'a>) -> Result<(Item, Words<'a>), Fl
     let (value, words) = below(words, 1 << 32)?;
     let place = Place::Cell(size.dom, Frame(frame.value as u32), word.value as u16);
     Ok((Item::Step(Statement::Put(place, value.value as u32)), words))
+}
+
+/// `fill D F W N V T`: store V, V + T, V + 2T and so on, modulo 2^32, at the N words from word W of frame F
+/// of domain D on, through following frames. The domain has all these words.
+#[tactic(auto, unfolding(crate::specs::Statements::fill_at))]
+pub fn fill<'a>(so_far: &Draft, words: Words<'a>) -> Result<(Item, Words<'a>), Flaw>
+    ensures { Gives seen result (fill_at (drafted so_far.now) (cursor words.entry)) }
+{
+    let (size, words) = declared_domain(&so_far.sizes, words)?;
+    let (frame, words) = below(words, u64::from(size.frames))?;
+    let (word, words) = below(words, PAGE_WORDS)?;
+    let frame = Frame(frame.value as u32);
+    let room = PAGE_WORDS * u64::from(size.frames - frame.0) - word.value;
+    let (count, words) = between(words, 1, room.min(u64::from(u32::MAX)) as u32)?;
+    let (value, words) = below(words, 1 << 32)?;
+    let (step, words) = below(words, 1 << 32)?;
+    let filling = Filling {
+        dom: size.dom,
+        frame,
+        word: word.value as u16,
+        count: count.value as u32,
+        value: value.value as u32,
+        step: step.value as u32,
+    };
+    Ok((Item::Step(Statement::Fill(filling)), words))
 }
 
 /// `putg D G H V`: store V at half H, `flags` or `frame`, of grant entry G of domain D.
@@ -140,11 +192,54 @@ pub fn end<'a>(so_far: &Draft, words: Words<'a>) -> Result<(Item, Words<'a>), Fl
     Ok((Item::Step(Statement::End(closing)), words))
 }
 
+/// `node N P NAME VALUE`: set the node NAME of part P of device N to VALUE.
+#[tactic(auto, unfolding(crate::specs::Statements::node_at))]
+pub fn node<'a>(so_far: &Draft, words: Words<'a>) -> Result<(Item, Words<'a>), Flaw>
+    ensures { Gives seen result (node_at (drafted so_far.now) (cursor words.entry)) }
+{
+    let (device, words) = declared_device(&so_far.devices, words)?;
+    let (part, words) = below(words, u64::from(parts_of(device.kind)))?;
+    let (key, words) = key(words)?;
+    let (value, words) = node_value(words)?;
+    let statement = Statement::Node(device.dev, part.value as u8, key, value);
+    Ok((Item::Step(statement), words))
+}
+
+/// `bus N S`: set the state of the frontend of device N to S, by its number.
+#[tactic(auto, unfolding(crate::specs::Statements::bus_at))]
+pub fn bus<'a>(so_far: &Draft, words: Words<'a>) -> Result<(Item, Words<'a>), Flaw>
+    ensures { Gives seen result (bus_at (drafted so_far.now) (cursor words.entry)) }
+{
+    let (device, words) = declared_device(&so_far.devices, words)?;
+    let (state, words) = state(words)?;
+    Ok((Item::Step(Statement::Bus(device.dev, state)), words))
+}
+
+/// `wake N`: raise the pending word of device N.
+#[tactic(auto, unfolding(crate::specs::Statements::wake_at))]
+pub fn wake<'a>(so_far: &Draft, words: Words<'a>) -> Result<(Item, Words<'a>), Flaw>
+    ensures { Gives seen result (wake_at (drafted so_far.now) (cursor words.entry)) }
+{
+    let (device, words) = declared_device(&so_far.devices, words)?;
+    Ok((Item::Step(Statement::Wake(device.dev)), words))
+}
+
+/// `back N K`: let device N work until it made K accesses, at least 1, or is idle.
+#[tactic(auto, unfolding(crate::specs::Statements::back_at))]
+pub fn back<'a>(so_far: &Draft, words: Words<'a>) -> Result<(Item, Words<'a>), Flaw>
+    ensures { Gives seen result (back_at (drafted so_far.now) (cursor words.entry)) }
+{
+    let (device, words) = declared_device(&so_far.devices, words)?;
+    let (count, words) = between(words, 1, u32::MAX)?;
+    let statement = Statement::Back(device.dev, count.value as u32);
+    Ok((Item::Step(statement), words))
+}
+
 /// `serve N`: let device N work until it is idle.
 #[tactic(auto, unfolding(crate::specs::Statements::serve_at))]
 pub fn serve<'a>(so_far: &Draft, words: Words<'a>) -> Result<(Item, Words<'a>), Flaw>
     ensures { Gives seen result (serve_at (drafted so_far.now) (cursor words.entry)) }
 {
-    let (dev, words) = declared_device(&so_far.devices, words)?;
-    Ok((Item::Step(Statement::Serve(dev)), words))
+    let (device, words) = declared_device(&so_far.devices, words)?;
+    Ok((Item::Step(Statement::Serve(device.dev)), words))
 }

@@ -1,6 +1,7 @@
 use super::*;
 use pv_words::{
-    DevId, DeviceKind, DeviceSetup, DomId, DomainSize, Frame, GrantRef, Half, Kind, Mode, Place,
+    DevId, DeviceKind, DeviceSetup, DomId, DomainSize, Frame, GrantRef, Half, Kind, Mode,
+    NodeValue, Place, State,
 };
 use std::process::Abort;
 use std::test::*;
@@ -71,6 +72,78 @@ fn one_of_each_of_grants(rt: HostRuntime) -> Result<(), Fail> {
 }
 
 #[test]
+fn fills(rt: HostRuntime) -> Result<(), Fail> {
+    let text = b"domain 1 wild 1 0\ndomain 2 wild 16383 0\nfill 1 0 1023 1 5 6\n\
+        fill 2 1 2 16774142 4294967295 0x10\n";
+    let script = Script::parse(rt.alloc(), text)?;
+    let statements = [
+        Statement::Fill(Filling {
+            dom: DomId(1),
+            frame: Frame(0),
+            word: 1023,
+            count: 1,
+            value: 5,
+            step: 6,
+        }),
+        Statement::Fill(Filling {
+            dom: DomId(2),
+            frame: Frame(1),
+            word: 2,
+            count: 16_774_142,
+            value: 4_294_967_295,
+            step: 16,
+        }),
+    ];
+    assert_eq!(rt; script.statements(), statements.as_slice());
+    Ok(())
+}
+
+#[test]
+fn one_of_each_of_devices(rt: HostRuntime) -> Result<(), Fail> {
+    let text =
+        b"domain 2 wild 1 0\ndisplay 16 2 4\ndomain 1 wild 1 0\ndisplay 1 1 1\ndisplay 2 1 2\n\
+        node 16 3 evt-event-channel 9\nbus 2 3\nwake 1\nback 16 0x10\nserve 16\n";
+    let script = Script::parse(rt.alloc(), text)?;
+    let device = |dev, dom, connectors| DeviceSetup {
+        dev: DevId(dev),
+        dom: DomId(dom),
+        kind: DeviceKind::Display(connectors),
+    };
+    let devices = [device(16, 2, 4), device(1, 1, 1), device(2, 1, 2)];
+    let statements = [
+        Statement::Node(DevId(16), 3, 3, NodeValue::Number(9)),
+        Statement::Bus(DevId(2), State::Initialised),
+        Statement::Wake(DevId(1)),
+        Statement::Back(DevId(16), 16),
+        Statement::Serve(DevId(16)),
+    ];
+    assert_eq!(rt; script.devices(), devices.as_slice());
+    assert_eq!(rt; script.statements(), statements.as_slice());
+    Ok(())
+}
+
+#[test]
+fn names_and_values_of_nodes(rt: HostRuntime) -> Result<(), Fail> {
+    let text = b"domain 1 wild 1 0\ndisplay 1 1 1\n\
+        node 1 0 req-ring-ref 4294967295\nnode 1 0 req-event-channel 0000000000000000000000000007\n\
+        node 1 0 evt-ring-ref 0x1\nnode 1 0 evt-event-channel 4294967296\n\
+        node 1 0 req-ring-ref -1\nnode 1 0 req-ring-ref 18446744073709551616\nnode 1 0 req-ring-ref 1a\n";
+    let script = Script::parse(rt.alloc(), text)?;
+    let node = |key, value| Statement::Node(DevId(1), 0, key, value);
+    let statements = [
+        node(0, NodeValue::Number(4_294_967_295)),
+        node(1, NodeValue::Number(7)),
+        node(2, NodeValue::Bad),
+        node(3, NodeValue::Bad),
+        node(0, NodeValue::Bad),
+        node(0, NodeValue::Bad),
+        node(0, NodeValue::Bad),
+    ];
+    assert_eq!(rt; script.statements(), statements.as_slice());
+    Ok(())
+}
+
+#[test]
 fn nothing(rt: HostRuntime) -> Result<(), Fail> {
     let script = Script::parse(rt.alloc(), b"")?;
     assert_eq!(rt; script.sizes().len(), 0);
@@ -105,4 +178,198 @@ fn faults_of_grants(rt: HostRuntime) {
     assert_eq!(rt; fault_of(&rt, beyond), (2, 15, FaultKind::OutOfRange));
     let none = Script::parse(rt.alloc(), b"domain 1 wild 1 2\nend 1 0 0");
     assert_eq!(rt; fault_of(&rt, none), (2, 9, FaultKind::OutOfRange));
+}
+
+#[test]
+fn faults_of_fills(rt: HostRuntime) {
+    for (text, column, kind) in [
+        (
+            b"domain 1 wild 2 0\nfill 1 2 1024 0 x".as_slice(),
+            8,
+            FaultKind::OutOfRange,
+        ),
+        (
+            b"domain 1 wild 2 0\nfill 1 1 1024 0 x".as_slice(),
+            10,
+            FaultKind::OutOfRange,
+        ),
+        (
+            b"domain 1 wild 2 0\nfill 1 1 1023 0 x".as_slice(),
+            15,
+            FaultKind::OutOfRange,
+        ),
+        (
+            b"domain 1 wild 2 0\nfill 1 1 1023 2 x".as_slice(),
+            15,
+            FaultKind::OutOfRange,
+        ),
+        (
+            b"domain 1 wild 2 0\nfill 1 1 1023 1 x".as_slice(),
+            17,
+            FaultKind::BadNumber,
+        ),
+        (
+            b"domain 1 wild 2 0\nfill 1 0 1 2047 4294967296 0".as_slice(),
+            17,
+            FaultKind::OutOfRange,
+        ),
+        (
+            b"domain 1 wild 2 0\nfill 1 0 1 2047 0 4294967296".as_slice(),
+            19,
+            FaultKind::OutOfRange,
+        ),
+        (
+            b"domain 1 wild 2 0\nfill 1 0 1 2047 0".as_slice(),
+            18,
+            FaultKind::MissingWord,
+        ),
+        (
+            b"domain 1 wild 2 0\nfill 1 0 1 2048 0 0 0".as_slice(),
+            12,
+            FaultKind::OutOfRange,
+        ),
+        (
+            b"domain 1 wild 2 0\nfill 1 0 1 2047 0 0 0".as_slice(),
+            21,
+            FaultKind::ExtraWord,
+        ),
+    ] {
+        let parsed = Script::parse(rt.alloc(), text);
+        assert_eq!(rt; fault_of(&rt, parsed), (2, column, kind), "at {column}");
+    }
+}
+
+#[test]
+fn faults_of_devices(rt: HostRuntime) {
+    for (text, line, column, kind) in [
+        (
+            b"domain 1 wild 1 0\ndisplay 1 1 1\ndisplay 1 1 1".as_slice(),
+            3,
+            9,
+            FaultKind::Twice,
+        ),
+        (
+            b"domain 1 wild 1 0\ndisplay 0 1 1".as_slice(),
+            2,
+            9,
+            FaultKind::OutOfRange,
+        ),
+        (
+            b"domain 1 wild 1 0\ndisplay 17 2 1".as_slice(),
+            2,
+            9,
+            FaultKind::OutOfRange,
+        ),
+        (
+            b"domain 1 wild 1 0\ndisplay 1 2 5".as_slice(),
+            2,
+            11,
+            FaultKind::Undeclared,
+        ),
+        (
+            b"domain 1 wild 1 0\ndisplay 1 1 0".as_slice(),
+            2,
+            13,
+            FaultKind::OutOfRange,
+        ),
+        (
+            b"domain 1 wild 1 0\ndisplay 1 1 5".as_slice(),
+            2,
+            13,
+            FaultKind::OutOfRange,
+        ),
+        (
+            b"domain 1 wild 1 0\ndisplay 1 1 1\nwake 1\ndisplay 2 1 1".as_slice(),
+            4,
+            1,
+            FaultKind::Late,
+        ),
+    ] {
+        let parsed = Script::parse(rt.alloc(), text);
+        assert_eq!(rt; fault_of(&rt, parsed), (line, column, kind), "at {column}");
+    }
+}
+
+#[test]
+fn faults_of_statements_of_devices(rt: HostRuntime) {
+    for (text, column, kind) in [
+        (
+            b"domain 4 wild 1 0\ndisplay 1 4 4\nnode 1 4 version 1".as_slice(),
+            8,
+            FaultKind::OutOfRange,
+        ),
+        (
+            b"domain 4 wild 1 0\ndisplay 1 4 4\nnode 17 4 version 1".as_slice(),
+            6,
+            FaultKind::OutOfRange,
+        ),
+        (
+            b"domain 4 wild 1 0\ndisplay 1 4 4\nnode 2 4 version 1".as_slice(),
+            6,
+            FaultKind::Undeclared,
+        ),
+        (
+            b"domain 4 wild 1 0\ndisplay 1 4 4\nnode 1 0x4 version 1".as_slice(),
+            8,
+            FaultKind::OutOfRange,
+        ),
+        (
+            b"domain 4 wild 1 0\ndisplay 1 4 4\nnode 1 0 version 1".as_slice(),
+            10,
+            FaultKind::BadWord,
+        ),
+        (
+            b"domain 4 wild 1 0\ndisplay 1 4 4\nnode 1 0 req-ring-ref".as_slice(),
+            22,
+            FaultKind::MissingWord,
+        ),
+        (
+            b"domain 4 wild 1 0\ndisplay 1 4 4\nnode 1 0 req-ring-ref 1 2".as_slice(),
+            25,
+            FaultKind::ExtraWord,
+        ),
+        (
+            b"domain 4 wild 1 0\ndisplay 1 4 4\nbus 1 9".as_slice(),
+            7,
+            FaultKind::OutOfRange,
+        ),
+        (
+            b"domain 4 wild 1 0\ndisplay 1 4 4\nbus 1 4294967296".as_slice(),
+            7,
+            FaultKind::OutOfRange,
+        ),
+        (
+            b"domain 4 wild 1 0\ndisplay 1 4 4\nbus 1 x".as_slice(),
+            7,
+            FaultKind::BadNumber,
+        ),
+        (
+            b"domain 4 wild 1 0\ndisplay 1 4 4\nwake 0".as_slice(),
+            6,
+            FaultKind::OutOfRange,
+        ),
+        (
+            b"domain 4 wild 1 0\ndisplay 1 4 4\nwake 16".as_slice(),
+            6,
+            FaultKind::Undeclared,
+        ),
+        (
+            b"domain 4 wild 1 0\ndisplay 1 4 4\nback 1".as_slice(),
+            7,
+            FaultKind::MissingWord,
+        ),
+        (
+            b"domain 4 wild 1 0\ndisplay 1 4 4\nback 1 0".as_slice(),
+            8,
+            FaultKind::OutOfRange,
+        ),
+        (
+            b"domain 4 wild 1 0\ndisplay 1 4 4\nback 1 4294967296".as_slice(),
+            8,
+            FaultKind::OutOfRange,
+        ),
+    ] {
+        let parsed = Script::parse(rt.alloc(), text);
+        assert_eq!(rt; fault_of(&rt, parsed), (3, column, kind), "at {column}");
+    }
 }

@@ -1,5 +1,5 @@
-use Rattle.pv_world.proofs.Consequences.{machine_runs, kept}
+use Rattle.pv_world.proofs.Consequences.{histories_are_runs}
 use Rattle.pv_world.proofs.world.histories_are_runs.Goals as goal
 
 pub returns : goal.returns
-returns c = λ frames grants devices m h. (machine_runs frames grants devices m h, kept frames grants devices m h)
+returns c = histories_are_runs

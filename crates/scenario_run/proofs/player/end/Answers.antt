@@ -1,13 +1,23 @@
-use Rattle.std.proofs.Common.{arith}
+use Rattle.std.proofs.Common.{◌∙◌, arith}
 use Rattle.std.proofs.lemmas.Result.{err_from_is_err_and}
 use Rattle.scenario_text.specs.declared.statement.Statement.TheVariants.{End}
-use Rattle.pv_world.specs.World.{device_of, memory_of}
+use Rattle.pv_world.specs.World.{devices_of, memory_of, sight}
 use Rattle.scenario_run.specs.Follows.{closing}
-use Rattle.scenario_run.proofs.Grants.{each_stops}
+use Rattle.scenario_run.proofs.Grants.{each_next, each_stops}
 use Rattle.scenario_run.proofs.player.end.Goals as goal
 
 pub returns-in_err-end_grant-clause-played : goal.returns-in_err-end_grant-clause-played
 returns-in_err-end_grant-clause-played g c = λ frames grants m st e.
     let p = err_from_is_err_and c.from_residual.result c.from_residual.ensures.1 in
     let o = c.args.closing.now in
-    rw (p.1, p.2) (each_stops frames grants o.dom o.gref (closing o) o.count (End o) (λ h x. x) (λ h x. x) c.loop-k.k (omega (arith, c.loop-k-test.true)) g.W.Machine.word g.W.Words.frames_of g.W.Words.grants_of (memory_of c.loop-k.world) (memory_of c.end_grant.new.self) (device_of c.loop-k.world) (device_of c.end_grant.new.self) c.loop-k.journal.entries c.end_grant.new.journal.entries m c.in_err-end_grant.field-0.0 (c.loop-k.invariant.steps frames grants m st e) (λ n s d. c.in_err-end_grant.ensures.owns frames grants n s d))
+    rw (p.1, p.2) (each_stops frames grants o.dom o.gref (closing o) o.count (End o) (λ h x. x) (λ h x. x) c.loop-k.k (omega (arith, c.loop-k-test.true)) (sight g.W.Machine.word g.W.Words.frames_of g.W.Words.grants_of g.W.Words.port g.W.Machine.whole g.W.Machine.knows_device g.W.Machine.knows_domain) (memory_of c.loop-k.world) (memory_of c.end_grant.new.self) (devices_of c.loop-k.world) (devices_of c.end_grant.new.self) c.loop-k.journal.entries c.end_grant.new.journal.entries m c.in_err-end_grant.field-0.0 (c.loop-k.invariant.steps frames grants m st e) (λ n s d. c.in_err-end_grant.ensures.owns frames grants n s d))
+
+pub loop-k-preserved : goal.loop-k-preserved
+loop-k-preserved g c =
+    let o = c.args.closing.now in
+    record {
+      grants = c.end_grant.ensures.grants ∙ c.loop-k.invariant.grants;
+      devices = c.end_grant.ensures.devices ∙ c.loop-k.invariant.devices;
+      steps = λ frames grants m st e.
+          each_next (sight g.W.Machine.word g.W.Words.frames_of g.W.Words.grants_of g.W.Words.port g.W.Machine.whole g.W.Machine.knows_device g.W.Machine.knows_domain) frames grants o.dom o.gref (closing o) (tt {0}) (memory_of c.loop-k.world) (memory_of c.end_grant.new.self) (devices_of c.loop-k.world) (devices_of c.end_grant.new.self) c.loop-k.k c.loop-k.journal.entries c.end_grant.new.journal.entries m (c.loop-k.invariant.steps frames grants m st e) (λ n s d. c.in_ok-end_grant.ensures.owns frames grants n s d);
+    }

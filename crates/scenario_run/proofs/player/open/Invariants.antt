@@ -1,6 +1,6 @@
 use Rattle.std.proofs.Common.{◌≡◌, ℕ, List}
 use Rattle.pv_world.specs.Marked.{Item, entries}
-use Rattle.pv_world.specs.World.{Stands, device_of, memory_of, setups}
+use Rattle.pv_world.specs.World.{Stands, devices_of, memory_of, setups, sight}
 use Rattle.scenario_run.specs.Follows.{opening}
 use Rattle.scenario_run.proofs.Grants.{SoFar}
 use Rattle.scenario_run.proofs.player.open.Given as goal
@@ -9,6 +9,6 @@ use Rattle.scenario_run.proofs.player.open.Given as goal
 abbrev pub invariant-loop-k : goal.invariant-loop-k
 invariant-loop-k g l = record {
   grants : g.W.Words.grants_of (memory_of l.world) l.opening.dom.0 ≡ g.W.Words.grants_of (memory_of l.fn.world) l.opening.dom.0;
-  devices : setups (device_of l.world) ≡ setups (device_of l.fn.world);
-  steps : (frames grants : ℕ → ℕ) (m : List Item) → Stands g.W.Machine.word g.W.Words.frames_of g.W.Words.grants_of frames grants (memory_of l.fn.world) (device_of l.fn.world) m → entries m ≡ l.fn.journal.entries → SoFar g.W.Machine.word g.W.Words.frames_of g.W.Words.grants_of frames grants (memory_of l.world) (device_of l.world) l.opening.dom l.opening.gref (opening l.opening) l.k l.journal.entries m;
+  devices : setups (devices_of l.world) ≡ setups (devices_of l.fn.world);
+  steps : (frames grants : ℕ → ℕ) (m : List Item) → Stands (sight g.W.Machine.word g.W.Words.frames_of g.W.Words.grants_of g.W.Words.port g.W.Machine.whole g.W.Machine.knows_device g.W.Machine.knows_domain) frames grants (memory_of l.fn.world) (devices_of l.fn.world) m → entries m ≡ l.fn.journal.entries → SoFar (sight g.W.Machine.word g.W.Words.frames_of g.W.Words.grants_of g.W.Words.port g.W.Machine.whole g.W.Machine.knows_device g.W.Machine.knows_domain) frames grants (memory_of l.world) (devices_of l.world) l.opening.dom l.opening.gref (opening l.opening) l.k l.journal.entries m;
 }

@@ -8,7 +8,7 @@ use Rattle.pv_words.specs.Sizes.{frames_by, grants_by}
 use Rattle.scenario_text.specs.declared.statement.Statement.{Statement}
 use Rattle.scenario_text.specs.declared.statement.Statement.TheVariants.{Put}
 use Rattle.scenario_text.specs.Playable.{IsPlayed}
-use Rattle.pv_world.specs.World.{setups, device_of, memory_of}
+use Rattle.pv_world.specs.World.{setups, devices_of, memory_of}
 use Rattle.pv_world.specs.History.{IsHistory}
 use Rattle.scenario_run.specs.Follows.{Follows}
 use Rattle.scenario_run.specs.Played.{StopsAt}
@@ -30,7 +30,7 @@ play_statement-requires-clause-playable g c =
     let inv = c.loop-statement.invariant in
     let inside : i < length s.statements = omega (arith, ap length c.statements-statements.ensures) in
     let played = all_at (IsPlayed s) s.statements i beyond c.requires.playable.statements inside in
-    rw c.statements-statements.ensures (can_play s (g.W.Words.frames_of (memory_of c.loop-statement.world)) (g.W.Words.grants_of (memory_of c.loop-statement.world)) (setups (device_of c.loop-statement.world)) (get_or s.statements i beyond) inv.2.frames_are inv.2.grants_are inv.4 c.requires.playable.sizes played)
+    rw c.statements-statements.ensures (can_play s (g.W.Words.frames_of (memory_of c.loop-statement.world)) (g.W.Words.grants_of (memory_of c.loop-statement.world)) (setups (devices_of c.loop-statement.world)) (get_or s.statements i beyond) inv.2.frames_are inv.2.grants_are inv.4 c.requires.playable.sizes c.requires.playable.devices played)
 
 pub returns-in_err-play_statement-clause-stopped : goal.returns-in_err-play_statement-clause-stopped
 returns-in_err-play_statement-clause-stopped g c =

@@ -1,23 +1,98 @@
-use Rattle.std.proofs.Common.{None, ap}
-use Rattle.pv_words.specs.Plan.{mapped}
-use Rattle.link_core.specs.Order.{Between, During}
-use Rattle.link_core.specs.Link.{answer_left}
-use Rattle.link_core.proofs.Steps.{turn_ends, turn_goes_on}
-use Rattle.display_backend.specs.Display.{stand_of, work_of}
-use Rattle.display_backend.specs.Work.{display, Answered, settled, said_at}
-use Rattle.display_backend.proofs.Works.{same_work}
+use Rattle.std.proofs.Common.{◌≡◌, Some, None, true, refl, ap, ◌∙◌}
+use Rattle.std.proofs.lemmas.Bool.{false≢true}
+use Rattle.std.proofs.lemmas.List.{length-set}
+use Rattle.displ_wire.specs.declared.Request.{Request}
+use Rattle.link_core.specs.Link.{answer_left, idle, joined_of, answered_of}
+use Rattle.link_core.specs.Order.{Between}
+use Rattle.display_backend.specs.declared.display.Activity.TheVariants as activity
+use Rattle.display_backend.specs.Activity.{is_open}
+use Rattle.display_backend.specs.Display.{dom_of, parts_of, stand_of, work_of, answer_from, held_of}
+use Rattle.display_backend.specs.Work.{Answered, settled, said_at}
+use Rattle.display_backend.proofs.Serve.{here, serve_on, serve_ends}
+use Rattle.display_backend.proofs.Served.{served}
+use Rattle.display_backend.proofs.Wholes.{in_answering}
+use Rattle.display_backend.proofs.Works.{same_work, open_as, between_as, connecting_as, parts_as, connecting_after, parts_answered, answered_work, some_of}
+use Rattle.display_backend.proofs.Stays.{in_served}
 use Rattle.display_backend.proofs.display.Display.answer.Goals as goal
+
+none_in : (q : Request) → None ≡ Some q → ⊥
+none_in q e = cc
+
+pub invariant_of-self : goal.invariant_of-self
+invariant_of-self g c =
+    let d = c.args.self.now in
+    let w = d.whole in
+    let turn = c.answer_step-turn in
+    let at = here d.links.items d.at c.index_mut.result.now _ w.at_in c.index_mut.ensures.value in
+    let fits = in_answering d.dom.0 (is_open d.activity d.closing d.connection.back) d.hand d.reply d.at d.round d.activity d.links.items w c.requires.serving in
+    let same = open_as d.activity activity.Answering d.closing d.connection.back refl c.requires.serving in
+    record { whole = served d.dom.0 d.closing d.connection.back d.hand d.hand d.reply d.reply d.at d.at d.round d.round d.activity activity.Answering d.links.items w d.at c.index_mut.result.now turn.new.self at fits refl same turn.ensures.keeps.dom turn.ensures.keeps.held (λ n. absurd (n refl)) w.at_in w.round_in w.some w.ready (λ h. c.requires.hand) (λ h. same ∙ c.requires.opened) }
 
 pub returns-in_default-clause-goes : goal.returns-in_default-clause-goes
 unfolding stand_of work_of
-returns-in_default-clause-goes g c =
+returns-in_default-clause-goes g c = λ site.
     let d = c.args.self.now in
     let turn = c.answer_step-turn in
-    turn_goes_on display (λ x. Answered x) (work_of d) (answer_left d.link d.reply) turn.result.access (answer_left turn.new.self d.reply) _ (rw c.in_default.is at turn.ensures.turns) (ap (λ w. During w (mapped (λ x. Answered x) (answer_left turn.new.self d.reply))) (same_work d.connection d.hand d.left d.round _ _ _ _ turn.ensures.page (rw c.in_default.is at turn.ensures.rsp)))
+    let l = c.index_mut.result.now in
+    let at = here d.links.items d.at l _ d.whole.at_in c.index_mut.ensures.value in
+    serve_on (λ x. Answered x) (answer_from d.reply) site (work_of d) _ d.links.items d.at l turn.new.self turn.result.access at
+    (same_work d.connection d.seen d.read _ _ d.closing _ _ d.kept _ _ d.at _ _ d.round (connecting_as d.activity activity.Answering refl c.requires.serving) (parts_as d.activity activity.Answering d.closing d.connection.back refl c.requires.serving d.links.items d.at l turn.new.self at (rw c.in_default.is at turn.ensures.joined)) refl refl)
+    (rw c.in_default.is at turn.ensures.turns)
+
+pub returns-in_default-clause-same : goal.returns-in_default-clause-same
+unfolding dom_of parts_of
+returns-in_default-clause-same g c = (refl, length-set c.args.self.now.links.items c.args.self.now.at c.answer_step-turn.new.self)
+
+pub invariant_of-self-2 : goal.invariant_of-self-2
+invariant_of-self-2 g c =
+    let d = c.args.self.now in
+    let w = d.whole in
+    let turn = c.answer_step-turn in
+    let at = here d.links.items d.at c.index_mut.result.now _ w.at_in c.index_mut.ensures.value in
+    let fits = in_answering d.dom.0 (is_open d.activity d.closing d.connection.back) d.hand d.reply d.at d.round d.activity d.links.items w c.requires.serving in
+    let same = between_as d.activity activity.Answering d.closing d.connection.back refl c.requires.serving in
+    let rests : idle turn.new.self ≡ true = rw c.in-Some.is at turn.ensures.rests in
+    record { whole = served d.dom.0 d.closing d.connection.back d.hand None d.reply d.reply d.at d.at d.round d.round d.activity activity.Between d.links.items w d.at c.index_mut.result.now turn.new.self at fits refl same turn.ensures.keeps.dom turn.ensures.keeps.held (λ n. rests) w.at_in w.round_in w.some (λ q e. absurd (none_in q e)) (λ h. absurd (false≢true h)) (λ h. absurd (false≢true h)) }
 
 pub returns-clause-goes : goal.returns-clause-goes
 unfolding stand_of work_of settled said_at
-returns-clause-goes g c =
+returns-clause-goes g c = λ site.
     let d = c.args.self.now in
     let turn = c.answer_step-turn in
-    turn_ends display (λ x. Answered x) (work_of d) (answer_left d.link d.reply) turn.result.access c.in-Some.notified (answer_left turn.new.self d.reply) c.said_of-said.result _ (rw c.in-Some.is at turn.ensures.turns) c.said_of-said.ensures (ap (λ w. Between w) (same_work d.connection None d.left d.round _ _ _ _ turn.ensures.page (rw c.in-Some.is at turn.ensures.rsp)))
+    let l = c.index_mut.result.now in
+    let at = here d.links.items d.at l _ d.whole.at_in c.index_mut.ensures.value in
+    let joined : joined_of turn.new.self ≡ answered_of (joined_of l) = rw c.in-Some.is at turn.ensures.joined in
+    let q = some_of d.hand c.requires.hand in
+    serve_ends (λ x. Answered x) (answer_from d.reply) site (work_of d) d.links.items d.at l turn.result.access c.in-Some.notified (answer_left turn.new.self d.reply) _ _ at (rw c.in-Some.is at turn.ensures.turns)
+    c.said_of-said.ensures
+    (ap (λ w. Between w)
+    (same_work d.connection d.seen d.read _ _ d.closing _ _ d.kept _ _ d.at _ _ d.round (connecting_after d.activity activity.Answering refl c.requires.serving) (parts_answered d.activity activity.Answering d.closing d.connection.back refl c.requires.serving d.links.items d.at l turn.new.self at joined) refl refl
+    ∙ answered_work (work_of d) q.0 d.at d.hand q.1))
+
+pub returns-clause-same : goal.returns-clause-same
+unfolding dom_of parts_of
+returns-clause-same g c = (refl, length-set c.args.self.now.links.items c.args.self.now.at c.answer_step-turn.new.self)
+
+pub returns-in_default-clause-stays : goal.returns-in_default-clause-stays
+unfolding held_of
+returns-in_default-clause-stays g c =
+    let d = c.args.self.now in
+    let ls = d.links.items in
+    let o = is_open d.activity d.closing d.connection.back in
+    let l = c.index_mut.result.now in
+    let turn = c.answer_step-turn in
+    let at = here ls d.at l _ d.whole.at_in c.index_mut.ensures.value in
+    let fits = in_answering d.dom.0 o d.hand d.reply d.at d.round d.activity ls d.whole c.requires.serving in
+    in_served turn.result.access d.dom.0 d.at o ls d.at l c.requires.opened fits d.whole.at_in at turn.ensures.stays
+
+pub returns-clause-stays : goal.returns-clause-stays
+unfolding held_of
+returns-clause-stays g c =
+    let d = c.args.self.now in
+    let ls = d.links.items in
+    let o = is_open d.activity d.closing d.connection.back in
+    let l = c.index_mut.result.now in
+    let turn = c.answer_step-turn in
+    let at = here ls d.at l _ d.whole.at_in c.index_mut.ensures.value in
+    let fits = in_answering d.dom.0 o d.hand d.reply d.at d.round d.activity ls d.whole c.requires.serving in
+    in_served turn.result.access d.dom.0 d.at o ls d.at l c.requires.opened fits d.whole.at_in at turn.ensures.stays

@@ -1,62 +1,163 @@
-use Rattle.std.proofs.Common.{◌∙◌, sym, arith}
-use Rattle.pv_words.specs.Plan.{mapped}
-use Rattle.link_core.specs.Activities.{look_plan}
-use Rattle.link_core.specs.Link.{page_of, rsp_of, take_left, answer_left, sleep_left}
-use Rattle.link_core.proofs.Steps.{steps_between, steps_rest}
-use Rattle.display_backend.specs.declared.display.Connection.TheVariants as connection
+use Rattle.std.proofs.Common.{◌≡◌, ◌<◌, inl, false, length, map, slice_get, refl, sym, ap, subst, ◌∙◌, arith}
+use Rattle.link_core.specs.Link.{joined_of}
+use Rattle.display_backend.specs.declared.display.Round.{Round}
 use Rattle.display_backend.specs.declared.display.Round.TheVariants as round
-use Rattle.display_backend.specs.Display.{stand_of, work_of}
-use Rattle.display_backend.specs.Work.{display, Saw, Took, Answered, Slept, with_hand}
-use Rattle.display_backend.proofs.Choices.{chosen, hand_answers, left_takes, in_its_round, round_looks, round_sleeps, may_chosen}
-use Rattle.display_backend.proofs.Works.{stands_between}
+use Rattle.display_backend.specs.Activity.{is_open}
+use Rattle.display_backend.specs.Display.{dom_of, parts_of, site_of, stand_of, work_of, parts_in, hand_of, take_from, answer_from, look_from, sleeping}
+use Rattle.display_backend.specs.Work.{Saw, Took, Answered, Slept, with_hand, part_in}
+use Rattle.display_backend.proofs.Choices.{all_both, answers_is, takes_is, looks_is, sleeps_is}
+use Rattle.display_backend.proofs.Lists.{got}
+use Rattle.display_backend.proofs.Serving.{hand_is, left_is, round_is, may_act, begins_act, begins_rest}
+use Rattle.display_backend.proofs.Works.{stands_between, some_of}
+use Rattle.display_backend.proofs.Leaving.{none_of}
 use Rattle.display_backend.proofs.display.Display.serve.Goals as goal
 
-pub answer-requires : goal.answer-requires
-answer-requires g c =
-    let d = c.args.self.now in
-    may_chosen (λ x. Answered x) _ (with_hand (work_of d) d.hand) (answer_left d.link d.reply) (hand_answers d c.requires.between (sym c.is_some.ensures ∙ c.if-is_some.true)) c.requires.may
-
-pub returns-then-is_some-clause-steps : goal.returns-then-is_some-clause-steps
+pub answer-requires-clause-may : goal.answer-requires-clause-may
 unfolding work_of
-returns-then-is_some-clause-steps g c =
+answer-requires-clause-may g c =
     let d = c.args.self.now in
-    steps_between display (work_of d) (mapped (λ x. Answered x) (answer_left d.link d.reply)) c.answer.result.access c.answer.result.said (stand_of c.answer.new.self) (chosen (work_of d) connection.Open c.requires.open ∙ hand_answers d c.requires.between (sym c.is_some.ensures ∙ c.if-is_some.true)) c.answer.ensures.goes
+    let ls = d.links.items in
+    let w = d.whole in
+    let o = is_open d.activity d.closing d.connection.back in
+    let both = all_both d.dom.0 o d.hand d.reply d.at d.round d.activity ls c.requires.between w c.requires.opened in
+    let parts : parts_in o ls ≡ map joined_of ls = ap (λ b. parts_in b ls) c.requires.opened in
+    let some = sym c.is_some.ensures ∙ c.if-is_some.true in
+    let q = some_of d.hand some in
+    let l = got ls d.at w.at_in in
+    let is = hand_is (work_of d) d.hand q.0 d.at q.1 ∙ answers_is (work_of d) ls d.at l.0 parts l.1 (both d.at l.0 l.1).0 (both d.at l.0 l.1).1 q.0 d.reply (w.ready q.0 q.1) in
+    may_act (λ x. Answered x) _ (with_hand (work_of d) (hand_of d.hand d.at)) (work_of d) (answer_from d.reply (slice_get ls d.at)) is c.requires.may
 
-pub take-requires : goal.take-requires
-take-requires g c =
-    let d = c.args.self.now in
-    may_chosen (λ x. Took x) _ (with_hand (work_of d) d.hand) (take_left d.link) (left_takes d c.requires.between (sym c.is_some.ensures ∙ c.if-is_some.false) c.if-self-gt0.true) c.requires.may
+pub answer-requires-clause-serving : goal.answer-requires-clause-serving
+answer-requires-clause-serving g c =
+    inl c.requires.between
 
-pub returns-then-self-gt0-clause-steps : goal.returns-then-self-gt0-clause-steps
+pub returns-then-is_some-clause-begins : goal.returns-then-is_some-clause-begins
 unfolding work_of
-returns-then-self-gt0-clause-steps g c =
+returns-then-is_some-clause-begins g c =
     let d = c.args.self.now in
-    steps_between display (work_of d) (mapped (λ x. Took x) (take_left d.link)) c.take.result.access c.take.result.said (stand_of c.take.new.self) (chosen (work_of d) connection.Open c.requires.open ∙ left_takes d c.requires.between (sym c.is_some.ensures ∙ c.if-is_some.false) c.if-self-gt0.true) c.take.ensures.goes
+    let ls = d.links.items in
+    let w = d.whole in
+    let o = is_open d.activity d.closing d.connection.back in
+    let both = all_both d.dom.0 o d.hand d.reply d.at d.round d.activity ls c.requires.between w c.requires.opened in
+    let parts : parts_in o ls ≡ map joined_of ls = ap (λ b. parts_in b ls) c.requires.opened in
+    let some = sym c.is_some.ensures ∙ c.if-is_some.true in
+    let q = some_of d.hand some in
+    let l = got ls d.at w.at_in in
+    let is = hand_is (work_of d) d.hand q.0 d.at q.1 ∙ answers_is (work_of d) ls d.at l.0 parts l.1 (both d.at l.0 l.1).0 (both d.at l.0 l.1).1 q.0 d.reply (w.ready q.0 q.1) in
+    begins_act (λ x. Answered x) (site_of (g.W.Words.frames_of c.args.words.now) (g.W.Words.grants_of c.args.words.now) d) (with_hand (work_of d) (hand_of d.hand d.at)) (work_of d) (answer_from d.reply (slice_get ls d.at)) c.answer.result.access c.answer.result.said _ is (c.answer.ensures.goes (site_of (g.W.Words.frames_of c.args.words.now) (g.W.Words.grants_of c.args.words.now) d))
+
+pub take-requires-clause-may : goal.take-requires-clause-may
+unfolding work_of
+take-requires-clause-may g c =
+    let d = c.args.self.now in
+    let ls = d.links.items in
+    let w = d.whole in
+    let o = is_open d.activity d.closing d.connection.back in
+    let both = all_both d.dom.0 o d.hand d.reply d.at d.round d.activity ls c.requires.between w c.requires.opened in
+    let parts : parts_in o ls ≡ map joined_of ls = ap (λ b. parts_in b ls) c.requires.opened in
+    let some = sym c.is_some.ensures ∙ c.if-is_some.false in
+    let l = got ls d.at w.at_in in
+    let is = left_is (work_of d) d.hand d.at some c.if-self-gt0.true ∙ takes_is (work_of d) ls d.at l.0 parts l.1 (both d.at l.0 l.1).0 (both d.at l.0 l.1).1 in
+    may_act (λ x. Took x) _ (with_hand (work_of d) (hand_of d.hand d.at)) (work_of d) (take_from (slice_get ls d.at)) is c.requires.may
+
+pub take-requires-clause-serving : goal.take-requires-clause-serving
+take-requires-clause-serving g c =
+    inl c.requires.between
+
+pub returns-then-self-gt0-clause-begins : goal.returns-then-self-gt0-clause-begins
+unfolding work_of
+returns-then-self-gt0-clause-begins g c =
+    let d = c.args.self.now in
+    let ls = d.links.items in
+    let w = d.whole in
+    let o = is_open d.activity d.closing d.connection.back in
+    let both = all_both d.dom.0 o d.hand d.reply d.at d.round d.activity ls c.requires.between w c.requires.opened in
+    let parts : parts_in o ls ≡ map joined_of ls = ap (λ b. parts_in b ls) c.requires.opened in
+    let some = sym c.is_some.ensures ∙ c.if-is_some.false in
+    let l = got ls d.at w.at_in in
+    let is = left_is (work_of d) d.hand d.at some c.if-self-gt0.true ∙ takes_is (work_of d) ls d.at l.0 parts l.1 (both d.at l.0 l.1).0 (both d.at l.0 l.1).1 in
+    begins_act (λ x. Took x) (site_of (g.W.Words.frames_of c.args.words.now) (g.W.Words.grants_of c.args.words.now) d) (with_hand (work_of d) (hand_of d.hand d.at)) (work_of d) (take_from (slice_get ls d.at)) c.take.result.access c.take.result.said _ is (c.take.ensures.goes (site_of (g.W.Words.frames_of c.args.words.now) (g.W.Words.grants_of c.args.words.now) d))
 
 pub look-requires-clause-may : goal.look-requires-clause-may
+unfolding work_of
 look-requires-clause-may g c =
     let d = c.args.self.now in
-    may_chosen (λ x. Saw x) _ (with_hand (work_of d) d.hand) (look_plan (page_of d.link) (rsp_of d.link)) (round_looks d c.requires.between (sym c.is_some.ensures ∙ c.if-is_some.false) (omega arith) c.in-Looks.is) c.requires.may
+    let ls = d.links.items in
+    let w = d.whole in
+    let o = is_open d.activity d.closing d.connection.back in
+    let both = all_both d.dom.0 o d.hand d.reply d.at d.round d.activity ls c.requires.between w c.requires.opened in
+    let parts : parts_in o ls ≡ map joined_of ls = ap (λ b. parts_in b ls) c.requires.opened in
+    let some = sym c.is_some.ensures ∙ c.if-is_some.false in
+    let k = c.in-Looks.part in
+    let lt : k < length ls = subst (λ (r : Round). part_in r < length ls) c.in-Looks.is w.round_in in
+    let l = got ls k lt in
+    let is = round_is (work_of d) d.hand d.at some (omega arith) (round.Looks k c.in-Looks.served) c.in-Looks.is ∙ looks_is (work_of d) ls k l.0 parts l.1 (both k l.0 l.1).0 (both k l.0 l.1).1 in
+    may_act (λ x. Saw x) _ (with_hand (work_of d) (hand_of d.hand d.at)) (work_of d) (look_from (slice_get ls k)) is c.requires.may
 
-pub sleep-requires : goal.sleep-requires
-sleep-requires g c =
-    let d = c.args.self.now in
-    may_chosen (λ x. Slept x) _ (with_hand (work_of d) d.hand) (sleep_left d.link) (round_sleeps d c.requires.between (sym c.is_some.ensures ∙ c.if-is_some.false) (omega arith) c.in-Sleeps.is) c.requires.may
+pub look-requires-clause-hand : goal.look-requires-clause-hand
+look-requires-clause-hand g c =
+    none_of c.args.self.now.hand (sym c.is_some.ensures ∙ c.if-is_some.false)
 
-pub returns-in-Looks-clause-steps : goal.returns-in-Looks-clause-steps
+pub returns-in-Looks-clause-begins : goal.returns-in-Looks-clause-begins
 unfolding work_of
-returns-in-Looks-clause-steps g c =
+returns-in-Looks-clause-begins g c =
     let d = c.args.self.now in
-    steps_between display (work_of d) (mapped (λ x. Saw x) (look_plan (page_of d.link) (rsp_of d.link))) c.look.result.access c.look.result.said (stand_of c.look.new.self) (chosen (work_of d) connection.Open c.requires.open ∙ round_looks d c.requires.between (sym c.is_some.ensures ∙ c.if-is_some.false) (omega arith) c.in-Looks.is) c.look.ensures.goes
+    let ls = d.links.items in
+    let w = d.whole in
+    let o = is_open d.activity d.closing d.connection.back in
+    let both = all_both d.dom.0 o d.hand d.reply d.at d.round d.activity ls c.requires.between w c.requires.opened in
+    let parts : parts_in o ls ≡ map joined_of ls = ap (λ b. parts_in b ls) c.requires.opened in
+    let some = sym c.is_some.ensures ∙ c.if-is_some.false in
+    let k = c.in-Looks.part in
+    let lt : k < length ls = subst (λ (r : Round). part_in r < length ls) c.in-Looks.is w.round_in in
+    let l = got ls k lt in
+    let is = round_is (work_of d) d.hand d.at some (omega arith) (round.Looks k c.in-Looks.served) c.in-Looks.is ∙ looks_is (work_of d) ls k l.0 parts l.1 (both k l.0 l.1).0 (both k l.0 l.1).1 in
+    begins_act (λ x. Saw x) (site_of (g.W.Words.frames_of c.args.words.now) (g.W.Words.grants_of c.args.words.now) d) (with_hand (work_of d) (hand_of d.hand d.at)) (work_of d) (look_from (slice_get ls k)) c.look.result.access c.look.result.said _ is (c.look.ensures.goes (site_of (g.W.Words.frames_of c.args.words.now) (g.W.Words.grants_of c.args.words.now) d) refl)
 
-pub returns-in-Sleeps-clause-steps : goal.returns-in-Sleeps-clause-steps
+pub sleep-requires-clause-part : goal.sleep-requires-clause-part
+sleep-requires-clause-part g c =
+    c.args.self.now.whole.some
+
+pub sleep-requires-clause-may : goal.sleep-requires-clause-may
 unfolding work_of
-returns-in-Sleeps-clause-steps g c =
+sleep-requires-clause-may g c =
     let d = c.args.self.now in
-    steps_between display (work_of d) (mapped (λ x. Slept x) (sleep_left d.link)) c.sleep.result.access c.sleep.result.said (stand_of c.sleep.new.self) (chosen (work_of d) connection.Open c.requires.open ∙ round_sleeps d c.requires.between (sym c.is_some.ensures ∙ c.if-is_some.false) (omega arith) c.in-Sleeps.is) c.sleep.ensures.goes
+    let ls = d.links.items in
+    let w = d.whole in
+    let o = is_open d.activity d.closing d.connection.back in
+    let both = all_both d.dom.0 o d.hand d.reply d.at d.round d.activity ls c.requires.between w c.requires.opened in
+    let parts : parts_in o ls ≡ map joined_of ls = ap (λ b. parts_in b ls) c.requires.opened in
+    let some = sym c.is_some.ensures ∙ c.if-is_some.false in
+    let l = got ls 0 w.some in
+    let is = round_is (work_of d) d.hand d.at some (omega arith) round.Sleeps c.in-Sleeps.is ∙ sleeps_is (work_of d) ls l.0 parts l.1 (both 0 l.0 l.1).0 (both 0 l.0 l.1).1 in
+    may_act (λ x. Slept x) _ (with_hand (work_of d) (hand_of d.hand d.at)) (work_of d) (sleeping 0 ls) is c.requires.may
 
-pub returns-in-Idles-clause-steps : goal.returns-in-Idles-clause-steps
-unfolding stand_of work_of
-returns-in-Idles-clause-steps g c =
+pub sleep-requires-clause-serving : goal.sleep-requires-clause-serving
+sleep-requires-clause-serving g c =
+    inl c.requires.between
+
+pub returns-in-Sleeps-clause-begins : goal.returns-in-Sleeps-clause-begins
+unfolding work_of
+returns-in-Sleeps-clause-begins g c =
     let d = c.args.self.now in
-    steps_rest display (work_of d) (record (work_of d) { round = round.Looks }) _ (chosen (work_of d) connection.Open c.requires.open ∙ in_its_round d c.requires.between (sym c.is_some.ensures ∙ c.if-is_some.false) (omega arith) round.Idles c.in-Idles.is) (stands_between _ d.link d.reply d.activity c.requires.between)
+    let ls = d.links.items in
+    let w = d.whole in
+    let o = is_open d.activity d.closing d.connection.back in
+    let both = all_both d.dom.0 o d.hand d.reply d.at d.round d.activity ls c.requires.between w c.requires.opened in
+    let parts : parts_in o ls ≡ map joined_of ls = ap (λ b. parts_in b ls) c.requires.opened in
+    let some = sym c.is_some.ensures ∙ c.if-is_some.false in
+    let l = got ls 0 w.some in
+    let is = round_is (work_of d) d.hand d.at some (omega arith) round.Sleeps c.in-Sleeps.is ∙ sleeps_is (work_of d) ls l.0 parts l.1 (both 0 l.0 l.1).0 (both 0 l.0 l.1).1 in
+    begins_act (λ x. Slept x) (site_of (g.W.Words.frames_of c.args.words.now) (g.W.Words.grants_of c.args.words.now) d) (with_hand (work_of d) (hand_of d.hand d.at)) (work_of d) (sleeping 0 ls) c.sleep.result.access c.sleep.result.said _ is (c.sleep.ensures.goes (site_of (g.W.Words.frames_of c.args.words.now) (g.W.Words.grants_of c.args.words.now) d))
+
+pub returns-in-Idles-clause-begins : goal.returns-in-Idles-clause-begins
+unfolding work_of stand_of
+returns-in-Idles-clause-begins g c =
+    let d = c.args.self.now in
+    let some = sym c.is_some.ensures ∙ c.if-is_some.false in
+    let is = round_is (work_of d) d.hand d.at some (omega arith) round.Idles c.in-Idles.is in
+    begins_rest (site_of (g.W.Words.frames_of c.args.words.now) (g.W.Words.grants_of c.args.words.now) d) (with_hand (work_of d) (hand_of d.hand d.at)) (record (work_of d) { round = round.Looks 0 false }) _ is (stands_between (site_of (g.W.Words.frames_of c.args.words.now) (g.W.Words.grants_of c.args.words.now) d) _ d.read d.links.items d.reply d.at d.activity c.requires.between)
+
+pub returns-in-Idles-clause-same : goal.returns-in-Idles-clause-same
+unfolding dom_of parts_of
+returns-in-Idles-clause-same g c = (refl, refl)

@@ -1,62 +1,164 @@
-use Rattle.std.proofs.Common.{ap, sym, subst}
+use Rattle.std.proofs.Common.{inr, ◌<◌, length, slice_get, refl, sym, ap, subst}
 use Rattle.pv_words.specs.Plan.{mapped}
-use Rattle.link_core.specs.Link.{take_left, answer_left, sleep_left}
 use Rattle.link_core.specs.Order.{MayStep, Steps}
 use Rattle.link_core.proofs.Steps.{steps_during}
 use Rattle.display_backend.specs.declared.display.Activity.{Activity}
-use Rattle.display_backend.specs.Activity.{is_between}
-use Rattle.display_backend.specs.Display.{stand_of, work_of, stand_in}
-use Rattle.display_backend.specs.Work.{display, Took, Answered, Slept}
-use Rattle.display_backend.proofs.Choices.{may_mapped}
+use Rattle.display_backend.specs.Activity.{is_answering, uses_ring, part_of}
+use Rattle.display_backend.specs.Display.{held_of, site_of, stand_of, stand_in, work_of, connecting, leaving_plan, take_from, answer_from, sleeping, all_held}
+use Rattle.display_backend.specs.Work.{display, Took, Answered, Slept, choice}
+use Rattle.display_backend.proofs.Choices.{steps_begin}
+use Rattle.display_backend.proofs.Out.{steps_out, may_out, may_mapped}
 use Rattle.display_backend.proofs.display.Display.step.Goals as goal
-
-pub take-requires : goal.take-requires
-unfolding stand_of
-take-requires g c =
-    let d = c.args.self.now in
-    may_mapped (λ x. Took x) _ (take_left d.link) (subst (λ (a : Activity). MayStep (g.W.Words.may c.args.words.now) display (stand_in (work_of d) d.link d.reply a)) c.in-Taking.is c.requires)
-
-pub answer-requires : goal.answer-requires
-unfolding stand_of
-answer-requires g c =
-    let d = c.args.self.now in
-    may_mapped (λ x. Answered x) _ (answer_left d.link d.reply) (subst (λ (a : Activity). MayStep (g.W.Words.may c.args.words.now) display (stand_in (work_of d) d.link d.reply a)) c.in-Answering.is c.requires)
-
-pub sleep-requires : goal.sleep-requires
-unfolding stand_of
-sleep-requires g c =
-    let d = c.args.self.now in
-    may_mapped (λ x. Slept x) _ (sleep_left d.link) (subst (λ (a : Activity). MayStep (g.W.Words.may c.args.words.now) display (stand_in (work_of d) d.link d.reply a)) c.in-Sleeping.is c.requires)
 
 pub begin-requires-clause-may : goal.begin-requires-clause-may
 unfolding stand_of
 begin-requires-clause-may g c =
     let d = c.args.self.now in
-    subst (λ (a : Activity). MayStep (g.W.Words.may c.args.words.now) display (stand_in (work_of d) d.link d.reply a)) c.in-Between.is c.requires
+    let may = subst (λ (a : Activity). MayStep (g.W.Words.may c.args.words.now) (display (site_of (g.W.Words.frames_of c.args.words.now) (g.W.Words.grants_of c.args.words.now) d)) (stand_in (site_of (g.W.Words.frames_of c.args.words.now) (g.W.Words.grants_of c.args.words.now) d) (work_of d) d.read d.links.items d.reply d.at a)) c.in-Between.is c.requires in
+    may
 
-pub begin-requires-clause-between : goal.begin-requires-clause-between
-begin-requires-clause-between g c = ap is_between c.in-Between.is
-
-pub returns-in-Taking-clause-steps : goal.returns-in-Taking-clause-steps
+pub connect-requires-clause-may : goal.connect-requires-clause-may
 unfolding stand_of
-returns-in-Taking-clause-steps g c =
+connect-requires-clause-may g c =
     let d = c.args.self.now in
-    subst (λ (a : Activity). Steps display (stand_in (work_of d) d.link d.reply a) c.take.result.access c.take.result.said (stand_of c.take.new.self)) (sym c.in-Taking.is) (steps_during display (work_of d) (mapped (λ x. Took x) (take_left d.link)) c.take.result.access c.take.result.said (stand_of c.take.new.self) c.take.ensures.goes)
+    let may = subst (λ (a : Activity). MayStep (g.W.Words.may c.args.words.now) (display (site_of (g.W.Words.frames_of c.args.words.now) (g.W.Words.grants_of c.args.words.now) d)) (stand_in (site_of (g.W.Words.frames_of c.args.words.now) (g.W.Words.grants_of c.args.words.now) d) (work_of d) d.read d.links.items d.reply d.at a)) c.in-Connecting.is c.requires in
+    may_out (site_of (g.W.Words.frames_of c.args.words.now) (g.W.Words.grants_of c.args.words.now) d) (g.W.Words.may c.args.words.now) (work_of d) (connecting (site_of (g.W.Words.frames_of c.args.words.now) (g.W.Words.grants_of c.args.words.now) d) d.read c.in-Connecting.part d.links.items) may
 
-pub returns-in-Answering-clause-steps : goal.returns-in-Answering-clause-steps
-unfolding stand_of
-returns-in-Answering-clause-steps g c =
+pub leave-requires-clause-may : goal.leave-requires-clause-may
+unfolding stand_of held_of
+leave-requires-clause-may g c =
     let d = c.args.self.now in
-    subst (λ (a : Activity). Steps display (stand_in (work_of d) d.link d.reply a) c.answer.result.access c.answer.result.said (stand_of c.answer.new.self)) (sym c.in-Answering.is) (steps_during display (work_of d) (mapped (λ x. Answered x) (answer_left d.link d.reply)) c.answer.result.access c.answer.result.said (stand_of c.answer.new.self) c.answer.ensures.goes)
+    let may = subst (λ (a : Activity). MayStep (g.W.Words.may c.args.words.now) (display (site_of (g.W.Words.frames_of c.args.words.now) (g.W.Words.grants_of c.args.words.now) d)) (stand_in (site_of (g.W.Words.frames_of c.args.words.now) (g.W.Words.grants_of c.args.words.now) d) (work_of d) d.read d.links.items d.reply d.at a)) c.in-Leaving.is c.requires in
+    may_out (site_of (g.W.Words.frames_of c.args.words.now) (g.W.Words.grants_of c.args.words.now) d) (g.W.Words.may c.args.words.now) (work_of d) (leaving_plan c.in-Leaving.end (all_held d.links.items)) may
 
-pub returns-in-Sleeping-clause-steps : goal.returns-in-Sleeping-clause-steps
+pub take-requires-clause-may : goal.take-requires-clause-may
 unfolding stand_of
-returns-in-Sleeping-clause-steps g c =
+take-requires-clause-may g c =
     let d = c.args.self.now in
-    subst (λ (a : Activity). Steps display (stand_in (work_of d) d.link d.reply a) c.sleep.result.access c.sleep.result.said (stand_of c.sleep.new.self)) (sym c.in-Sleeping.is) (steps_during display (work_of d) (mapped (λ x. Slept x) (sleep_left d.link)) c.sleep.result.access c.sleep.result.said (stand_of c.sleep.new.self) c.sleep.ensures.goes)
+    let may = subst (λ (a : Activity). MayStep (g.W.Words.may c.args.words.now) (display (site_of (g.W.Words.frames_of c.args.words.now) (g.W.Words.grants_of c.args.words.now) d)) (stand_in (site_of (g.W.Words.frames_of c.args.words.now) (g.W.Words.grants_of c.args.words.now) d) (work_of d) d.read d.links.items d.reply d.at a)) c.in-Taking.is c.requires in
+    may_mapped (g.W.Words.may c.args.words.now) (take_from (slice_get d.links.items d.at)) (λ x. Took x) may
+
+pub answer-requires-clause-may : goal.answer-requires-clause-may
+unfolding stand_of
+answer-requires-clause-may g c =
+    let d = c.args.self.now in
+    let may = subst (λ (a : Activity). MayStep (g.W.Words.may c.args.words.now) (display (site_of (g.W.Words.frames_of c.args.words.now) (g.W.Words.grants_of c.args.words.now) d)) (stand_in (site_of (g.W.Words.frames_of c.args.words.now) (g.W.Words.grants_of c.args.words.now) d) (work_of d) d.read d.links.items d.reply d.at a)) c.in-Answering.is c.requires in
+    may_mapped (g.W.Words.may c.args.words.now) (answer_from d.reply (slice_get d.links.items d.at)) (λ x. Answered x) may
+
+pub sleep-requires-clause-may : goal.sleep-requires-clause-may
+unfolding stand_of
+sleep-requires-clause-may g c =
+    let d = c.args.self.now in
+    let may = subst (λ (a : Activity). MayStep (g.W.Words.may c.args.words.now) (display (site_of (g.W.Words.frames_of c.args.words.now) (g.W.Words.grants_of c.args.words.now) d)) (stand_in (site_of (g.W.Words.frames_of c.args.words.now) (g.W.Words.grants_of c.args.words.now) d) (work_of d) d.read d.links.items d.reply d.at a)) c.in-Sleeping.is c.requires in
+    may_mapped (g.W.Words.may c.args.words.now) (sleeping c.in-Sleeping.part d.links.items) (λ x. Slept x) may
+
+pub take-requires-clause-serving : goal.take-requires-clause-serving
+take-requires-clause-serving g c = inr c.in-Taking.is
+
+pub answer-requires-clause-serving : goal.answer-requires-clause-serving
+answer-requires-clause-serving g c = inr c.in-Answering.is
+
+pub answer-requires-clause-hand : goal.answer-requires-clause-hand
+answer-requires-clause-hand g c = c.args.self.now.whole.answers (ap is_answering c.in-Answering.is)
+
+pub sleep-requires-clause-serving : goal.sleep-requires-clause-serving
+sleep-requires-clause-serving g c = inr c.in-Sleeping.is
+
+pub sleep-requires-clause-part : goal.sleep-requires-clause-part
+sleep-requires-clause-part g c = subst (λ (a : Activity). part_of a < length c.args.self.now.links.items) c.in-Sleeping.is c.args.self.now.whole.come_to
+
+pub sleep-requires-clause-opened : goal.sleep-requires-clause-opened
+sleep-requires-clause-opened g c = c.args.self.now.whole.uses (ap uses_ring c.in-Sleeping.is)
 
 pub returns-in-Between-clause-steps : goal.returns-in-Between-clause-steps
 unfolding stand_of
 returns-in-Between-clause-steps g c =
     let d = c.args.self.now in
-    subst (λ (a : Activity). Steps display (stand_in (work_of d) d.link d.reply a) c.begin.result.access c.begin.result.said (stand_of c.begin.new.self)) (sym c.in-Between.is) c.begin.ensures.steps
+    let there = stand_of (site_of (g.W.Words.frames_of c.args.words.now) (g.W.Words.grants_of c.args.words.now) d) c.begin.new.self in
+    subst (λ (a : Activity). Steps (display (site_of (g.W.Words.frames_of c.args.words.now) (g.W.Words.grants_of c.args.words.now) d)) (stand_in (site_of (g.W.Words.frames_of c.args.words.now) (g.W.Words.grants_of c.args.words.now) d) (work_of d) d.read d.links.items d.reply d.at a) c.begin.result.access c.begin.result.said there) (sym c.in-Between.is)
+    (steps_begin (site_of (g.W.Words.frames_of c.args.words.now) (g.W.Words.grants_of c.args.words.now) d) (work_of d) (choice (site_of (g.W.Words.frames_of c.args.words.now) (g.W.Words.grants_of c.args.words.now) d) (work_of d)) c.begin.result.access c.begin.result.said there refl c.begin.ensures.begins)
+
+pub returns-in-Connecting-clause-steps : goal.returns-in-Connecting-clause-steps
+unfolding stand_of
+returns-in-Connecting-clause-steps g c =
+    let d = c.args.self.now in
+    let there = stand_of (site_of (g.W.Words.frames_of c.args.words.now) (g.W.Words.grants_of c.args.words.now) d) c.connect.new.self in
+    subst (λ (a : Activity). Steps (display (site_of (g.W.Words.frames_of c.args.words.now) (g.W.Words.grants_of c.args.words.now) d)) (stand_in (site_of (g.W.Words.frames_of c.args.words.now) (g.W.Words.grants_of c.args.words.now) d) (work_of d) d.read d.links.items d.reply d.at a) c.connect.result.access c.connect.result.said there) (sym c.in-Connecting.is)
+    (steps_out (site_of (g.W.Words.frames_of c.args.words.now) (g.W.Words.grants_of c.args.words.now) d) (work_of d) (connecting (site_of (g.W.Words.frames_of c.args.words.now) (g.W.Words.grants_of c.args.words.now) d) d.read c.in-Connecting.part d.links.items) c.connect.result.access c.connect.result.said there c.connect.ensures.goes)
+
+pub returns-in-Leaving-clause-steps : goal.returns-in-Leaving-clause-steps
+unfolding stand_of held_of
+returns-in-Leaving-clause-steps g c =
+    let d = c.args.self.now in
+    let there = stand_of (site_of (g.W.Words.frames_of c.args.words.now) (g.W.Words.grants_of c.args.words.now) d) c.leave.new.self in
+    subst (λ (a : Activity). Steps (display (site_of (g.W.Words.frames_of c.args.words.now) (g.W.Words.grants_of c.args.words.now) d)) (stand_in (site_of (g.W.Words.frames_of c.args.words.now) (g.W.Words.grants_of c.args.words.now) d) (work_of d) d.read d.links.items d.reply d.at a) c.leave.result.access c.leave.result.said there) (sym c.in-Leaving.is)
+    (steps_out (site_of (g.W.Words.frames_of c.args.words.now) (g.W.Words.grants_of c.args.words.now) d) (work_of d) (leaving_plan c.in-Leaving.end (all_held d.links.items)) c.leave.result.access c.leave.result.said there (c.leave.ensures.goes (site_of (g.W.Words.frames_of c.args.words.now) (g.W.Words.grants_of c.args.words.now) d)))
+
+pub returns-in-Taking-clause-steps : goal.returns-in-Taking-clause-steps
+unfolding stand_of
+returns-in-Taking-clause-steps g c =
+    let d = c.args.self.now in
+    let there = stand_of (site_of (g.W.Words.frames_of c.args.words.now) (g.W.Words.grants_of c.args.words.now) d) c.take.new.self in
+    subst (λ (a : Activity). Steps (display (site_of (g.W.Words.frames_of c.args.words.now) (g.W.Words.grants_of c.args.words.now) d)) (stand_in (site_of (g.W.Words.frames_of c.args.words.now) (g.W.Words.grants_of c.args.words.now) d) (work_of d) d.read d.links.items d.reply d.at a) c.take.result.access c.take.result.said there) (sym c.in-Taking.is)
+    (steps_during (display (site_of (g.W.Words.frames_of c.args.words.now) (g.W.Words.grants_of c.args.words.now) d)) (work_of d) (mapped (λ x. Took x) (take_from (slice_get d.links.items d.at))) c.take.result.access c.take.result.said there (c.take.ensures.goes (site_of (g.W.Words.frames_of c.args.words.now) (g.W.Words.grants_of c.args.words.now) d)))
+
+pub returns-in-Answering-clause-steps : goal.returns-in-Answering-clause-steps
+unfolding stand_of
+returns-in-Answering-clause-steps g c =
+    let d = c.args.self.now in
+    let there = stand_of (site_of (g.W.Words.frames_of c.args.words.now) (g.W.Words.grants_of c.args.words.now) d) c.answer.new.self in
+    subst (λ (a : Activity). Steps (display (site_of (g.W.Words.frames_of c.args.words.now) (g.W.Words.grants_of c.args.words.now) d)) (stand_in (site_of (g.W.Words.frames_of c.args.words.now) (g.W.Words.grants_of c.args.words.now) d) (work_of d) d.read d.links.items d.reply d.at a) c.answer.result.access c.answer.result.said there) (sym c.in-Answering.is)
+    (steps_during (display (site_of (g.W.Words.frames_of c.args.words.now) (g.W.Words.grants_of c.args.words.now) d)) (work_of d) (mapped (λ x. Answered x) (answer_from d.reply (slice_get d.links.items d.at))) c.answer.result.access c.answer.result.said there (c.answer.ensures.goes (site_of (g.W.Words.frames_of c.args.words.now) (g.W.Words.grants_of c.args.words.now) d)))
+
+pub returns-in-Sleeping-clause-steps : goal.returns-in-Sleeping-clause-steps
+unfolding stand_of
+returns-in-Sleeping-clause-steps g c =
+    let d = c.args.self.now in
+    let there = stand_of (site_of (g.W.Words.frames_of c.args.words.now) (g.W.Words.grants_of c.args.words.now) d) c.sleep.new.self in
+    subst (λ (a : Activity). Steps (display (site_of (g.W.Words.frames_of c.args.words.now) (g.W.Words.grants_of c.args.words.now) d)) (stand_in (site_of (g.W.Words.frames_of c.args.words.now) (g.W.Words.grants_of c.args.words.now) d) (work_of d) d.read d.links.items d.reply d.at a) c.sleep.result.access c.sleep.result.said there) (sym c.in-Sleeping.is)
+    (steps_during (display (site_of (g.W.Words.frames_of c.args.words.now) (g.W.Words.grants_of c.args.words.now) d)) (work_of d) (mapped (λ x. Slept x) (sleeping c.in-Sleeping.part d.links.items)) c.sleep.result.access c.sleep.result.said there (c.sleep.ensures.goes (site_of (g.W.Words.frames_of c.args.words.now) (g.W.Words.grants_of c.args.words.now) d)))
+
+pub returns-in-Between-clause-dom : goal.returns-in-Between-clause-dom
+returns-in-Between-clause-dom g c = c.begin.ensures.same.0
+
+pub returns-in-Between-clause-parts : goal.returns-in-Between-clause-parts
+returns-in-Between-clause-parts g c = c.begin.ensures.same.1
+
+pub returns-in-Connecting-clause-dom : goal.returns-in-Connecting-clause-dom
+returns-in-Connecting-clause-dom g c = c.connect.ensures.same.0
+
+pub returns-in-Connecting-clause-parts : goal.returns-in-Connecting-clause-parts
+returns-in-Connecting-clause-parts g c = c.connect.ensures.same.1
+
+pub returns-in-Leaving-clause-dom : goal.returns-in-Leaving-clause-dom
+returns-in-Leaving-clause-dom g c = c.leave.ensures.same.0
+
+pub returns-in-Leaving-clause-parts : goal.returns-in-Leaving-clause-parts
+returns-in-Leaving-clause-parts g c = c.leave.ensures.same.1
+
+pub returns-in-Taking-clause-dom : goal.returns-in-Taking-clause-dom
+returns-in-Taking-clause-dom g c = c.take.ensures.same.0
+
+pub returns-in-Taking-clause-parts : goal.returns-in-Taking-clause-parts
+returns-in-Taking-clause-parts g c = c.take.ensures.same.1
+
+pub returns-in-Answering-clause-dom : goal.returns-in-Answering-clause-dom
+returns-in-Answering-clause-dom g c = c.answer.ensures.same.0
+
+pub returns-in-Answering-clause-parts : goal.returns-in-Answering-clause-parts
+returns-in-Answering-clause-parts g c = c.answer.ensures.same.1
+
+pub returns-in-Sleeping-clause-dom : goal.returns-in-Sleeping-clause-dom
+returns-in-Sleeping-clause-dom g c = c.sleep.ensures.same.0
+
+pub returns-in-Sleeping-clause-parts : goal.returns-in-Sleeping-clause-parts
+returns-in-Sleeping-clause-parts g c = c.sleep.ensures.same.1
+
+pub take-requires-clause-opened : goal.take-requires-clause-opened
+take-requires-clause-opened g c = c.args.self.now.whole.uses (ap uses_ring c.in-Taking.is)
+
+pub answer-requires-clause-opened : goal.answer-requires-clause-opened
+answer-requires-clause-opened g c = c.args.self.now.whole.uses (ap uses_ring c.in-Answering.is)
+
+pub returns-in-Leaving-clause-stays : goal.returns-in-Leaving-clause-stays
+returns-in-Leaving-clause-stays g c = c.leave.ensures.stays _

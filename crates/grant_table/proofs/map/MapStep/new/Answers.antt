@@ -1,5 +1,5 @@
 use Rattle.std.proofs.Common.{refl}
-use Rattle.grant_table.specs.MapLeft.{map_left, dom_of, is_over}
+use Rattle.grant_table.specs.MapLeft.{map_left, dom_of, gref_of, mode_of, is_over}
 use Rattle.grant_table.proofs.map.MapStep.new.Goals as goal
 
 pub returns-clause-whole : goal.returns-clause-whole
@@ -13,3 +13,7 @@ returns-clause-dom c = refl
 pub returns-clause-begins : goal.returns-clause-begins
 unfolding is_over
 returns-clause-begins c = refl
+
+pub returns-clause-entry : goal.returns-clause-entry
+unfolding gref_of mode_of
+returns-clause-entry c = (refl, refl)

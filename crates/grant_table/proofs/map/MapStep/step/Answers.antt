@@ -1,12 +1,13 @@
-use Rattle.std.proofs.Common.{◌+◌, Some, None, Ok, Err, is_some, sym, ◌∙◌, ap, arith}
+use Rattle.std.proofs.Common.{refl, ◌+◌, Some, None, Ok, Err, is_some, sym, ◌∙◌, ap, arith}
 use Rattle.std.proofs.lemmas.Bool.{false≢true}
 use Rattle.pv_words.specs.declared.access.Access.TheVariants as access
+use Rattle.pv_words.specs.declared.place.Half.TheVariants.{Flags, FrameNo}
 use Rattle.pv_words.specs.declared.grant.GrantRefusal.TheVariants.{NoEntry, Moved, BadFrame}
 use Rattle.pv_words.specs.Plan.{Finished}
 use Rattle.grant_table.specs.Flags.{flags_place, frame_place}
 use Rattle.grant_table.specs.Mapping.{begin_plan, frame_plan, undo_plan, hold_of}
-use Rattle.grant_table.specs.MapLeft.{map_left, dom_of, is_over, is_last}
-use Rattle.grant_table.proofs.Plans.{may_from, advances_as, by_access}
+use Rattle.grant_table.specs.MapLeft.{map_left, dom_of, gref_of, mode_of, is_over, is_last}
+use Rattle.grant_table.proofs.Plans.{may_from, advances_as, by_access, at_entry, wins_as}
 use Rattle.grant_table.proofs.Maps.{start_head, start_ends, flags_refuse, flags_permit, begin_head, begin_moved, begin_holds, name_head, name_ends, name_undoes, undo_head, undo_ends, over_ends}
 use Rattle.grant_table.proofs.map.MapStep.step.Goals as goal
 
@@ -229,3 +230,145 @@ returns-in-Over-clause-over g c = ap is_over c.ends-in-Over.ensures.left ∙ sym
 pub returns-in-Over-clause-held : goal.returns-in-Over-clause-held
 unfolding is_over
 returns-in-Over-clause-held g c = λ going. absurd (false≢true (sym going ∙ ap is_last c.in-Over.is))
+
+pub returns-then-self-grants-clause-entry : goal.returns-then-self-grants-clause-entry
+unfolding gref_of mode_of
+returns-then-self-grants-clause-entry g c = (ap gref_of c.ends.ensures.left, ap mode_of c.ends.ensures.left)
+
+pub returns-then-self-grants-clause-stays : goal.returns-then-self-grants-clause-stays
+unfolding dom_of gref_of
+returns-then-self-grants-clause-stays g c =
+    let m = c.args.self.now in
+    at_entry m.dom.0 m.gref.0 c.ends.result.access None c.ends.ensures.access tt
+
+pub returns-then-self-grants-clause-won : goal.returns-then-self-grants-clause-won
+unfolding dom_of gref_of mode_of
+returns-then-self-grants-clause-won g c =
+    let m = c.args.self.now in
+    λ _. wins_as m.dom.0 m.gref.0 m.mode c.ends.result.done (Some (Err (NoEntry m.gref.0))) c.ends.ensures.done tt
+
+pub returns-in-Some-clause-entry : goal.returns-in-Some-clause-entry
+unfolding gref_of mode_of
+returns-in-Some-clause-entry g c = (ap gref_of c.ends-in-Some.ensures.left, ap mode_of c.ends-in-Some.ensures.left)
+
+pub returns-in-Some-clause-stays : goal.returns-in-Some-clause-stays
+unfolding dom_of gref_of
+returns-in-Some-clause-stays g c =
+    let m = c.args.self.now in
+    at_entry m.dom.0 m.gref.0 c.ends-in-Some.result.access (Some (access.Load (flags_place m.dom.0 m.gref.0) c.load-word.result)) c.ends-in-Some.ensures.access (Flags, refl)
+
+pub returns-in-Some-clause-won : goal.returns-in-Some-clause-won
+unfolding dom_of gref_of mode_of
+returns-in-Some-clause-won g c =
+    let m = c.args.self.now in
+    λ _. wins_as m.dom.0 m.gref.0 m.mode c.ends-in-Some.result.done (Some (Err c.in-Some.refusal)) c.ends-in-Some.ensures.done tt
+
+pub returns-in-None-clause-entry : goal.returns-in-None-clause-entry
+unfolding gref_of mode_of
+returns-in-None-clause-entry g c = (ap gref_of c.goes_on.ensures.left, ap mode_of c.goes_on.ensures.left)
+
+pub returns-in-None-clause-stays : goal.returns-in-None-clause-stays
+unfolding dom_of gref_of
+returns-in-None-clause-stays g c =
+    let m = c.args.self.now in
+    at_entry m.dom.0 m.gref.0 c.goes_on.result.access (Some (access.Load (flags_place m.dom.0 m.gref.0) c.load-word.result)) c.goes_on.ensures.access (Flags, refl)
+
+pub returns-in-None-clause-won : goal.returns-in-None-clause-won
+unfolding dom_of gref_of mode_of
+returns-in-None-clause-won g c =
+    let m = c.args.self.now in
+    λ _. wins_as m.dom.0 m.gref.0 m.mode c.goes_on.result.done None c.goes_on.ensures.done tt
+
+pub returns-then-seen-old-clause-entry : goal.returns-then-seen-old-clause-entry
+unfolding gref_of mode_of
+returns-then-seen-old-clause-entry g c = (ap gref_of c.goes_on-then-seen-old.ensures.left, ap mode_of c.goes_on-then-seen-old.ensures.left)
+
+pub returns-then-seen-old-clause-stays : goal.returns-then-seen-old-clause-stays
+unfolding dom_of gref_of
+returns-then-seen-old-clause-stays g c =
+    let m = c.args.self.now in
+    at_entry m.dom.0 m.gref.0 c.goes_on-then-seen-old.result.access (Some (access.Cas (flags_place m.dom.0 m.gref.0) c.in-Begin.word (c.in-Begin.word + c.bits_of.result) c.swap_if-seen.result)) c.goes_on-then-seen-old.ensures.access (Flags, refl)
+
+pub returns-then-seen-old-clause-won : goal.returns-then-seen-old-clause-won
+unfolding dom_of gref_of mode_of
+returns-then-seen-old-clause-won g c =
+    let m = c.args.self.now in
+    λ _. wins_as m.dom.0 m.gref.0 m.mode c.goes_on-then-seen-old.result.done None c.goes_on-then-seen-old.ensures.done tt
+
+pub returns-else-seen-old-clause-entry : goal.returns-else-seen-old-clause-entry
+unfolding gref_of mode_of
+returns-else-seen-old-clause-entry g c = (ap gref_of c.ends-else-seen-old.ensures.left, ap mode_of c.ends-else-seen-old.ensures.left)
+
+pub returns-else-seen-old-clause-stays : goal.returns-else-seen-old-clause-stays
+unfolding dom_of gref_of
+returns-else-seen-old-clause-stays g c =
+    let m = c.args.self.now in
+    at_entry m.dom.0 m.gref.0 c.ends-else-seen-old.result.access (Some (access.Cas (flags_place m.dom.0 m.gref.0) c.in-Begin.word (c.in-Begin.word + c.bits_of.result) c.swap_if-seen.result)) c.ends-else-seen-old.ensures.access (Flags, refl)
+
+pub returns-else-seen-old-clause-won : goal.returns-else-seen-old-clause-won
+unfolding dom_of gref_of mode_of
+returns-else-seen-old-clause-won g c =
+    let m = c.args.self.now in
+    λ _. wins_as m.dom.0 m.gref.0 m.mode c.ends-else-seen-old.result.done (Some (Err (Moved c.in-Begin.word c.swap_if-seen.result))) c.ends-else-seen-old.ensures.done tt
+
+pub returns-then-frame-frames-clause-entry : goal.returns-then-frame-frames-clause-entry
+unfolding gref_of mode_of
+returns-then-frame-frames-clause-entry g c = (ap gref_of c.ends-then-frame-frames.ensures.left, ap mode_of c.ends-then-frame-frames.ensures.left)
+
+pub returns-then-frame-frames-clause-stays : goal.returns-then-frame-frames-clause-stays
+unfolding dom_of gref_of
+returns-then-frame-frames-clause-stays g c =
+    let m = c.args.self.now in
+    at_entry m.dom.0 m.gref.0 c.ends-then-frame-frames.result.access (Some (access.Load (frame_place m.dom.0 m.gref.0) c.load-frame.result)) c.ends-then-frame-frames.ensures.access (FrameNo, refl)
+
+pub returns-then-frame-frames-clause-won : goal.returns-then-frame-frames-clause-won
+unfolding dom_of gref_of mode_of
+returns-then-frame-frames-clause-won g c =
+    let m = c.args.self.now in
+    λ _. wins_as m.dom.0 m.gref.0 m.mode c.ends-then-frame-frames.result.done (Some (Ok (hold_of m.dom.0 m.gref.0 m.mode c.load-frame.result))) (c.ends-then-frame-frames.ensures.done ∙ ap (λ h. Some (Ok h)) c.hold-hold.ensures) (refl, refl, refl)
+
+pub returns-else-frame-frames-clause-entry : goal.returns-else-frame-frames-clause-entry
+unfolding gref_of mode_of
+returns-else-frame-frames-clause-entry g c = (ap gref_of c.goes_on-else-frame-frames.ensures.left, ap mode_of c.goes_on-else-frame-frames.ensures.left)
+
+pub returns-else-frame-frames-clause-stays : goal.returns-else-frame-frames-clause-stays
+unfolding dom_of gref_of
+returns-else-frame-frames-clause-stays g c =
+    let m = c.args.self.now in
+    at_entry m.dom.0 m.gref.0 c.goes_on-else-frame-frames.result.access (Some (access.Load (frame_place m.dom.0 m.gref.0) c.load-frame.result)) c.goes_on-else-frame-frames.ensures.access (FrameNo, refl)
+
+pub returns-else-frame-frames-clause-won : goal.returns-else-frame-frames-clause-won
+unfolding dom_of gref_of mode_of
+returns-else-frame-frames-clause-won g c =
+    let m = c.args.self.now in
+    λ _. wins_as m.dom.0 m.gref.0 m.mode c.goes_on-else-frame-frames.result.done None c.goes_on-else-frame-frames.ensures.done tt
+
+pub returns-in-Undo-clause-entry : goal.returns-in-Undo-clause-entry
+unfolding gref_of mode_of
+returns-in-Undo-clause-entry g c = (ap gref_of c.ends-in-Undo.ensures.left, ap mode_of c.ends-in-Undo.ensures.left)
+
+pub returns-in-Undo-clause-stays : goal.returns-in-Undo-clause-stays
+unfolding dom_of gref_of
+returns-in-Undo-clause-stays g c =
+    let m = c.args.self.now in
+    at_entry m.dom.0 m.gref.0 c.ends-in-Undo.result.access (Some (access.Clear (flags_place m.dom.0 m.gref.0) c.bits_of-mask.result c.clear-seen.result)) c.ends-in-Undo.ensures.access (Flags, refl)
+
+pub returns-in-Undo-clause-won : goal.returns-in-Undo-clause-won
+unfolding dom_of gref_of mode_of
+returns-in-Undo-clause-won g c =
+    let m = c.args.self.now in
+    λ _. wins_as m.dom.0 m.gref.0 m.mode c.ends-in-Undo.result.done (Some (Err (BadFrame c.in-Undo.frame))) c.ends-in-Undo.ensures.done tt
+
+pub returns-in-Over-clause-entry : goal.returns-in-Over-clause-entry
+unfolding gref_of mode_of
+returns-in-Over-clause-entry g c = (ap gref_of c.ends-in-Over.ensures.left, ap mode_of c.ends-in-Over.ensures.left)
+
+pub returns-in-Over-clause-stays : goal.returns-in-Over-clause-stays
+unfolding dom_of gref_of
+returns-in-Over-clause-stays g c =
+    let m = c.args.self.now in
+    at_entry m.dom.0 m.gref.0 c.ends-in-Over.result.access None c.ends-in-Over.ensures.access tt
+
+pub returns-in-Over-clause-won : goal.returns-in-Over-clause-won
+unfolding is_over
+returns-in-Over-clause-won g c = λ going. absurd (false≢true (sym going ∙ ap is_last c.in-Over.is))

@@ -12,6 +12,7 @@ returns-then-seen-old c =
     let t : (c.index-seen.result.now == c.args.old) ≡ true = eq-eqb _ _ c.if-seen-old.true in
     record {
       blocks = refl;
+      device = refl;
       answers = record {
         found = get_or_read w.words.items _ _ (omega (arith, w.words.ok.0)) c.index-seen.ensures 0 ∙ ap (λ i. get_or w.words.items i 0) c.index-i.ensures.exact;
         left = λ q r. taken _ _ _ _ t (stored w.words.items w.blocks c.args.at c.index-i.result c.args.new c.index-i.ensures.exact (omega (arith, w.words.ok.0)) c.requires q r);

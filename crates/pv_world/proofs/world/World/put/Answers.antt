@@ -1,27 +1,42 @@
-use Rattle.std.proofs.Common.{◌≡◌, List, ◌∷◌, ◌++◌, [], sym, ◌∙◌, ap}
+use Rattle.std.proofs.Common.{◌≡◌, List, [], ◌∷◌, ◌++◌, refl, sym, ◌∙◌, ap}
 use Rattle.std.proofs.lemmas.Result.{err_from_is_err_and}
 use Rattle.pv_words.specs.declared.access.Access.TheVariants as access
 use Rattle.pv_words.specs.declared.entry.Entry.{Entry}
 use Rattle.pv_words.specs.declared.entry.Entry.TheVariants as entry
 use Rattle.pv_words.specs.declared.place.DomId.{DomId}
+use Rattle.pv_words.specs.declared.place.Who.TheVariants.{Dom}
+use Rattle.pv_words.specs.Plan as plan
+use Rattle.pv_words.proofs.Listing.{port_may_own}
 use Rattle.pv_world.specs.Marked.{entries}
-use Rattle.pv_world.specs.World.{setups, front_store}
-use Rattle.pv_world.proofs.Extends.{in_range_from}
-use Rattle.pv_world.proofs.Fronts.{front_history, front_stands}
+use Rattle.pv_world.specs.World.{setups, front_store, sight}
+use Rattle.pv_world.proofs.Histories.{in_range_from}
 use Rattle.pv_world.proofs.Items.{entries_append}
+use Rattle.pv_world.proofs.Standings.{Behaves, Hands, front_history, front_stands, turned_stands}
 use Rattle.pv_world.proofs.world.World.put.Goals as goal
 
 pub returns-in_err-enter-clause-stored : goal.returns-in_err-enter-clause-stored
 returns-in_err-enter-clause-stored g c = λ frames grants m st e.
-    let p = err_from_is_err_and c.from_residual.result c.from_residual.ensures.1 in
+    let sees = sight g.W.Machine.word g.W.Words.frames_of g.W.Words.grants_of g.W.Words.port g.W.Machine.whole g.W.Machine.knows_device g.W.Machine.knows_domain in
     let w = c.args.self.now in
-    let range = in_range_from (g.W.Words.frames_of w.memory) frames (g.W.Words.grants_of w.memory) grants st.frames_are st.grants_are c.args.place c.requires in
-    rw (p.1, p.2) (front_history frames grants (setups w.device) m (access.Store c.args.place c.args.v) (range, tt) st.so_far, (e ∙ sym c.in_err-enter.ensures.err, c.in_err-enter.ensures.cause))
+    let p = err_from_is_err_and c.from_residual.result c.from_residual.ensures.1 in
+    let range = in_range_from (g.W.Words.frames_of w.memory) frames (g.W.Words.grants_of w.memory) grants st.frames_are st.grants_are c.args.place c.requires.range in
+    rw (p.1, p.2) (front_history sees frames grants (setups w.devices.items) m (access.Store c.args.place c.args.v) (range, tt) st.so_far, (e ∙ sym c.in_err-enter.ensures.err, c.in_err-enter.ensures.cause))
+
+pub store-requires : goal.store-requires
+store-requires g c =
+    let w = c.args.self.now in
+    let dom = c.domain-dom.result in
+    let range = in_range_from (g.W.Words.frames_of w.memory) (g.W.Words.frames_of c.turn.new.self) (g.W.Words.grants_of w.memory) (g.W.Words.grants_of c.turn.new.self) (λ d. sym (c.turn.ensures.frames d)) (λ d. sym (c.turn.ensures.grants d)) c.args.place c.requires.range in
+    g.met.W.Words.allows c.turn.new.self (plan.Store c.args.place c.args.v) (port_may_own (g.W.Words.frames_of c.turn.new.self) (g.W.Words.grants_of c.turn.new.self) (g.W.Words.port c.turn.new.self) dom.0 (plan.Store c.args.place c.args.v) c.turn.ensures.turned.device (c.turn.ensures.turned.serves dom.0 refl) range (sym (ap (λ (d : DomId). d.0) c.domain-dom.ensures)))
 
 pub returns-clause-stored : goal.returns-clause-stored
 returns-clause-stored g c = λ frames grants m st e.
+    let sees = sight g.W.Machine.word g.W.Words.frames_of g.W.Words.grants_of g.W.Words.port g.W.Machine.whole g.W.Machine.knows_device g.W.Machine.knows_domain in
+    let behaves : Behaves sees g.W.Words.makes = record { frames = g.met.W.Words.keeps_frames; grants = g.met.W.Words.keeps_grants; remembers = g.met.W.Machine.remembers; leaves = g.met.W.Words.leaves; whole = g.met.W.Machine.keeps_whole; devices = g.met.W.Machine.keeps_devices; domains = g.met.W.Machine.keeps_domains } in
     let w = c.args.self.now in
-    let entered : c.enter.new.journal.entries ≡ c.args.journal.now.entries ++ entry.Front c.domain.result (access.Store c.args.place c.args.v) ∷ [] = c.in_ok-enter.ensures.ok in (
-      front_stands frames grants g.W.Machine.word g.W.Words.frames_of g.W.Words.grants_of g.W.Words.makes g.met.W.Words.keeps_frames g.met.W.Words.keeps_grants g.met.W.Machine.remembers w.memory c.store.new.self w.device m (access.Store c.args.place c.args.v) c.requires c.store.ensures st,
-      entries_append m (front_store c.args.place c.args.v ∷ []) ∙ (ap (λ (es : List Entry). es ++ entries (front_store c.args.place c.args.v ∷ [])) e ∙ (ap (λ (d : DomId). c.args.journal.now.entries ++ entry.Front d (access.Store c.args.place c.args.v) ∷ []) (sym c.domain.ensures) ∙ sym entered)),
+    let hands : Hands sees (Dom c.domain-dom.result) w.memory c.turn.new.self = record { turned = c.turn.ensures.turned; words = c.turn.ensures.words; frames = c.turn.ensures.frames; grants = c.turn.ensures.grants; whole = c.turn.ensures.whole; devices = c.turn.ensures.devices; domains = c.turn.ensures.domains } in
+    let range = in_range_from (g.W.Words.frames_of w.memory) frames (g.W.Words.grants_of w.memory) grants st.frames_are st.grants_are c.args.place c.requires.range in
+    let entered : c.enter.new.journal.entries ≡ c.args.journal.now.entries ++ entry.Front c.domain-dom.result (access.Store c.args.place c.args.v) ∷ [] = c.in_ok-enter.ensures.ok in (
+      front_stands sees frames grants g.W.Words.makes behaves c.turn.new.self c.store.new.self w.devices.items m (access.Store c.args.place c.args.v) c.turn.ensures.turned.device range c.store.ensures (turned_stands sees frames grants (Dom c.domain-dom.result) w.memory c.turn.new.self w.devices.items m hands st),
+      entries_append m (front_store c.args.place c.args.v ∷ []) ∙ (ap (λ (es : List Entry). es ++ entries (front_store c.args.place c.args.v ∷ [])) e ∙ (ap (λ (d : DomId). c.args.journal.now.entries ++ entry.Front d (access.Store c.args.place c.args.v) ∷ []) (sym c.domain-dom.ensures) ∙ sym entered)),
     )

@@ -1,0 +1,85 @@
+-- The pages of the parts are held along each activity of a connected display.
+use Rattle.std.proofs.Common.{◌≡◌, inl, ℕ, zero, suc, ◌+◌, ◌≤◌, ◌==◌, Bool, true, false, List, [], ◌∷◌, ◌++◌, Option, Some, None, refl, sym, ◌∙◌, ap, subst, arith, length, append_assoc, append-nil, slice_get, set, length-set}
+use Rattle.std.proofs.lemmas.List.{length-replicate}
+use Rattle.pv_words.specs.declared.grant.Hold.{Hold}
+use Rattle.pv_words.specs.Held.{Holds, IsProper, holding, holds_of}
+use Rattle.pv_words.specs.Plan.{Plan, Finished}
+use Rattle.displ_wire.specs.declared.Request.{Request}
+use Rattle.ring_words.specs.declared.Looked.{Looked}
+use Rattle.ring_words.specs.Ring.{next_index, looked_of, slot_of}
+use Rattle.link_core.specs.Activities.{Joined, slot_place, pages_of, hold_list, look_plan, take_plan, answer_plan, publish_plan}
+use Rattle.link_core.proofs.PlanFits.{fits_loads, fits_stores}
+use Rattle.display_backend.specs.Reply.{reply_to}
+use Rattle.display_backend.specs.Work.{ring_hold, ring_page, all_pages, sleep_all, sleeps_on, counted}
+use Rattle.display_backend.proofs.SoundPlans.{IsIn, in_left, in_right, Fit, AllOwn, own_in, may_load, may_store}
+
+ring_first : (ring : Option Hold) (event : Hold) → IsIn (ring_hold event ring) (hold_list ring ++ event ∷ [])
+ring_first None event = inl refl
+ring_first (Some h) event = inl refl
+
+-- the page of a part's ring is one of the pages
+pub ring_in : (j : Joined) (js : List Joined) → IsIn (ring_hold j.event j.ring) (all_pages (j ∷ js))
+ring_in j js = in_left (ring_hold j.event j.ring) (pages_of j) (all_pages js) (ring_first j.ring j.event)
+
+pub part_in : (js : List Joined) (k : ℕ) (j : Joined) → slice_get js k ≡ Some j → IsIn (ring_hold j.event j.ring) (all_pages js)
+part_in [] k j e = let wrong : ⊥ = cc in absurd wrong
+part_in (i ∷ js) zero j e =
+    let same : i ≡ j = cc in subst (λ (x : Joined). IsIn (ring_hold x.event x.ring) (all_pages (i ∷ js))) same (ring_in i js)
+part_in (i ∷ js) (suc k) j e = in_right (ring_hold j.event j.ring) (pages_of i) (all_pages js) (part_in js k j e)
+
+-- one part more
+pub pages_last : (js : List Joined) (j : Joined) → all_pages (js ++ j ∷ []) ≡ all_pages js ++ pages_of j
+pages_last [] j = append-nil (pages_of j)
+pages_last (i ∷ js) j = ap (λ x. pages_of i ++ x) (pages_last js j) ∙ sym (append_assoc (pages_of i) (all_pages js) (pages_of j))
+
+-- a part that counts a reply has its pages still
+set_pages : (js : List Joined) (k : ℕ) (i j : Joined) → slice_get js k ≡ Some i → pages_of j ≡ pages_of i → all_pages (set js k j) ≡ all_pages js
+set_pages [] k i j e same = let wrong : ⊥ = cc in absurd wrong
+set_pages (x ∷ js) zero i j e same =
+    let is : x ≡ i = cc in ap (λ y. y ++ all_pages js) (same ∙ ap (λ (y : Joined). pages_of y) (sym is))
+set_pages (x ∷ js) (suc k) i j e same = ap (λ y. pages_of x ++ y) (set_pages js k i j e same)
+
+pub counted_pages : (js : List Joined) (k : ℕ) (x : Option Joined) → slice_get js k ≡ x → all_pages (counted js k x) ≡ all_pages js
+counted_pages js k None e = refl
+counted_pages js k (Some j) e = set_pages js k j (record j { rsp = next_index j.rsp }) e refl
+
+pub counted_length : (js : List Joined) (k : ℕ) (x : Option Joined) → length (counted js k x) ≡ length js
+counted_length js k None = refl
+counted_length js k (Some j) = length-set js k (record j { rsp = next_index j.rsp })
+
+reply_short : (q : Request) → 0 + length (reply_to q) ≤ 16
+reply_short q = omega (arith, length-replicate {A = ℕ} 14 0)
+
+module _ (frames grants : ℕ → ℕ) (dom : ℕ) (held : List Hold) (own : AllOwn frames grants dom held) where
+  module _ (j : Joined) (at : IsIn (ring_hold j.event j.ring) held) where
+    pub fits_look : (Q : Holds → Looked → Type 0) → ((prod : ℕ) → Q (holds_of held) (looked_of j.rsp prod)) → Fit frames grants dom Q (holds_of held) (look_plan (ring_page j) j.rsp)
+    fits_look Q h = (may_load frames grants dom (ring_hold j.event j.ring) held 0 (own_in frames grants dom (ring_hold j.event j.ring) held own at) at (omega arith), λ v. h v)
+
+    pub fits_take : (Q : Holds → List ℕ → Type 0) → ((words : List ℕ) → Q (holds_of held) words) → Fit frames grants dom Q (holds_of held) (take_plan (ring_page j) j.rsp)
+    fits_take Q h =
+        let o = own_in frames grants dom (ring_hold j.event j.ring) held own at in
+        fits_loads (IsProper frames grants dom) (holding frames) Q (holds_of held) (slot_place (ring_page j) j.rsp) Finished 16
+        (λ i small. may_load frames grants dom (ring_hold j.event j.ring) held (slot_of j.rsp i) o at (omega arith)) (λ i v. refl) h 16 0 [] (omega arith)
+
+    pub fits_answer : (Q : Holds → Bool → Type 0) (q : Request) → ((b : Bool) → Q (holds_of held) b) → Fit frames grants dom Q (holds_of held) (answer_plan (ring_page j) j.rsp (reply_to q))
+    fits_answer Q q h =
+        let o = own_in frames grants dom (ring_hold j.event j.ring) held own at in
+        fits_stores (IsProper frames grants dom) (holding frames) Q (holds_of held) (slot_place (ring_page j) j.rsp) (publish_plan (ring_page j) j.rsp) 16
+        (λ i v small. may_store frames grants dom (ring_hold j.event j.ring) held (slot_of j.rsp i) v o at (omega arith)) (λ i v. refl)
+        (may_store frames grants dom (ring_hold j.event j.ring) held 2 (next_index j.rsp) o at (omega arith), λ v. (may_load frames grants dom (ring_hold j.event j.ring) held 3 o at (omega arith), λ event. h _))
+        0 (reply_to q) (reply_short q)
+
+  module _ (Q : Holds → Bool → Type 0) (last : (b : Bool) → Q (holds_of held) b) where
+    sleeps_so : (more : Plan Bool) (b : Bool) → Fit frames grants dom Q (holds_of held) more → Fit frames grants dom Q (holds_of held) (sleeps_on more b)
+    sleeps_so more true f = f
+    sleeps_so more false f = last false
+
+    pub fits_sleeps : (js : List Joined) → ((h : Hold) → IsIn h (all_pages js) → IsIn h held) → Fit frames grants dom Q (holds_of held) (sleep_all js)
+    fits_sleeps [] sub = last true
+    fits_sleeps (j ∷ js) sub =
+        let at = sub (ring_hold j.event j.ring) (ring_in j js) in
+        let o = own_in frames grants dom (ring_hold j.event j.ring) held own at in
+        let rest = fits_sleeps js (λ h i. sub h (in_right h (pages_of j) (all_pages js) i)) in (
+          may_store frames grants dom (ring_hold j.event j.ring) held 1 (next_index j.rsp) o at (omega arith),
+          λ v. (may_load frames grants dom (ring_hold j.event j.ring) held 0 o at (omega arith), λ prod. sleeps_so (sleep_all js) (prod == j.rsp) rest),
+        )

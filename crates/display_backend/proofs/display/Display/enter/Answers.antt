@@ -1,0 +1,30 @@
+use Rattle.std.proofs.Common.{◌≡◌, Bool, false, None, refl, sym, ap, ◌∙◌}
+use Rattle.xenbus_states.specs.Connection.{Connection, moved_to}
+use Rattle.link_core.specs.Order.{Between}
+use Rattle.display_backend.specs.declared.display.Activity.{Activity}
+use Rattle.display_backend.specs.Activity.{is_open, is_connecting}
+use Rattle.display_backend.specs.Display.{dom_of, parts_of, stand_of, work_of, parts_in}
+use Rattle.display_backend.proofs.Choices.{whole_entered}
+use Rattle.display_backend.proofs.Works.{work, same_work, stands_between}
+use Rattle.display_backend.proofs.display.Display.enter.Goals as goal
+
+pub invariant_of-self : goal.invariant_of-self
+invariant_of-self c =
+    let d = c.args.self.now in
+    let shut = ap (λ (k : Connection). is_open d.activity false k.back) c.moved.ensures ∙ (ap (λ (a : Activity). is_open a false c.args.s) c.requires.between ∙ c.requires.state) in
+    record { whole = whole_entered d.dom.0 (is_open d.activity d.closing d.connection.back) d.hand d.reply d.at d.round d.activity d.links.items c.requires.between d.whole _ c.requires.apart shut }
+
+pub returns-clause-stand : goal.returns-clause-stand
+unfolding stand_of work_of
+returns-clause-stand c = λ site.
+    let d = c.args.self.now in
+    let ls = d.links.items in
+    let shut : is_open d.activity false c.args.s ≡ false = ap (λ (a : Activity). is_open a false c.args.s) c.requires.between ∙ c.requires.state in
+    stands_between site _ d.read ls d.reply d.at d.activity c.requires.between
+    ∙ ap (λ x. Between x)
+    (ap (λ (k : Connection). work k d.seen d.read (is_connecting d.activity) false (parts_in (is_open d.activity false k.back) ls) d.kept None d.at d.left d.round) c.moved.ensures
+    ∙ same_work (moved_to d.connection c.args.s) d.seen d.read _ _ false _ _ d.kept _ _ d.at _ _ d.round (ap is_connecting c.requires.between) (ap (λ (b : Bool). parts_in b ls) (shut ∙ sym c.requires.apart)) refl refl)
+
+pub returns-clause-same : goal.returns-clause-same
+unfolding dom_of parts_of
+returns-clause-same c = (refl, refl)

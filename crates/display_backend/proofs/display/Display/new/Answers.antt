@@ -1,0 +1,55 @@
+use Rattle.std.proofs.Common.{◌≡◌, inl, inr, length-append, ◌+◌, true, false, ◌∷◌, [], length, slice_get, None, refl, sym, ap, subst, ◌∙◌, arith}
+use Rattle.xenbus_states.specs.Connection.{Connection, first_connection}
+use Rattle.xenbus_states.specs.Nodes.{no_nodes}
+use Rattle.link_core.specs.Order.{Between}
+use Rattle.display_backend.specs.declared.display.Round.TheVariants as round
+use Rattle.display_backend.proofs.Works.{work}
+use Rattle.link_core.specs.declared.link.Link.{Link}
+use Rattle.link_core.specs.Link.{dom_of as link_dom, held_of as link_held, idle}
+use Rattle.display_backend.specs.declared.display.Activity.TheVariants as activity
+use Rattle.display_backend.specs.Activity.{is_open}
+use Rattle.display_backend.specs.Display.{dom_of, parts_of, held_of, stand_of, work_of, parts_in}
+use Rattle.display_backend.proofs.Held.{bare_held}
+use Rattle.display_backend.proofs.Lists.{get_push}
+use Rattle.display_backend.proofs.Wholes.{whole_new}
+use Rattle.display_backend.proofs.display.Display.new.Goals as goal
+
+pub loop-part-preserved : goal.loop-part-preserved
+loop-part-preserved c =
+    let items = c.in_ok-push.ensures.items in
+    let made = c.new.ensures in
+    let before = c.loop-part.invariant in (
+      ap length items ∙ (length-append c.loop-part.links.items (c.new.result ∷ []) ∙ ap (λ n. n + 1) before.0),
+      λ i b e.
+          elim (get_push c.loop-part.links.items i c.new.result b (ap (λ xs. slice_get xs i) (sym items) ∙ e)) [
+            | inl old ↦ before.1 i b old
+            | inr is ↦ subst (λ (x : Link). (link_dom x ≡ c.args.dom.0) × (length (link_held x) ≡ 0) × (idle x ≡ true)) is (made.dom, ap length made.bare, made.idle)
+          ],
+    )
+
+pub invariant_of-result : goal.invariant_of-result
+invariant_of-result c =
+    let before = c.loop-part.invariant in
+    let shut : is_open activity.Between false c.new-2.result.back ≡ false = ap (λ (k : Connection). is_open activity.Between false k.back) c.new-2.ensures in
+    record { whole = whole_new c.args.dom.0 _ _ c.loop-part.links.items c.args.connectors (before.0 ∙ omega arith) c.requires.some c.requires.few shut before.1 }
+
+pub returns-clause-between : goal.returns-clause-between
+unfolding stand_of work_of
+returns-clause-between c = λ site.
+    let items = c.loop-part.links.items in
+    ap (λ w. Between w)
+    (ap (λ (x : Connection). work x c.new-3.result c.new-4.result false false (parts_in (is_open activity.Between false x.back) items) None None 0 0 (round.Looks 0 false)) c.new-2.ensures
+    ∙ (ap (λ s. work first_connection s c.new-4.result false false [] None None 0 0 (round.Looks 0 false)) c.new-3.ensures
+    ∙ ap (λ s. work first_connection no_nodes s false false [] None None 0 0 (round.Looks 0 false)) c.new-4.ensures))
+
+pub returns-clause-dom : goal.returns-clause-dom
+unfolding dom_of
+returns-clause-dom c = refl
+
+pub returns-clause-parts : goal.returns-clause-parts
+unfolding parts_of
+returns-clause-parts c = c.loop-part.invariant.0 ∙ omega arith
+
+pub returns-clause-bare : goal.returns-clause-bare
+unfolding held_of
+returns-clause-bare c = bare_held _ (λ i l e. (c.loop-part.invariant.1 i l e).1)

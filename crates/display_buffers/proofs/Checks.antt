@@ -1,0 +1,50 @@
+-- The checks of a CREATE, by the outcome of each.
+use Rattle.std.proofs.Common.{◌≡◌, ◌<◌, ◌≤◌, Bool, true, false, not, cond, ◌==◌, List, length, Option, Some, None, is_some, Result, Ok, Err, nat_le, refl, sym, ap, ◌∙◌, eq-eqb}
+use Rattle.std.proofs.lemmas.Bool.{le-leb, lt-leb, leb-false}
+use Rattle.displ_wire.specs.declared.Create.{Create}
+use Rattle.displ_wire.specs.declared.buffer.Refused.{Refused}
+use Rattle.displ_wire.specs.declared.buffer.Refused.TheVariants.{NotSupported, Exists, Full, Invalid}
+use Rattle.display_buffers.specs.declared.live.Live.{Live}
+use Rattle.display_buffers.specs.Buffers.{buffer_of, check_of, cookies, is_in_range, made_of, IsFresh}
+use Rattle.display_buffers.proofs.Rows.{fresh_cookie}
+
+-- what is answered, by whether the flags are 0, the cookie is live, the table is full and the fields are in range
+abbrev pub answer_of : Bool → Bool → Bool → Bool → Result (Unit {0}) Refused
+answer_of clear live full valid =
+    cond (not clear) (Err NotSupported) (cond live (Err Exists) (cond full (Err Full) (cond valid (Ok tt) (Err Invalid))))
+
+pub passed : (clear live full valid : Bool) → answer_of clear live full valid ≡ Ok tt → (live ≡ false) × (full ≡ false) × (valid ≡ true)
+passed false live full valid h = absurd (cc)
+passed true true full valid h = absurd (cc)
+passed true false true valid h = absurd (cc)
+passed true false false false h = absurd (cc)
+passed true false false true h = (refl, refl, refl)
+
+pub none_of : {X : Type 0} (o : Option X) → is_some o ≡ false → o ≡ None
+none_of None h = refl
+none_of (Some x) h = absurd (cc)
+
+module _ {P : Type 0} (bs : List (Live P)) (c : Create) where
+  pub checked : (live full valid : Bool) → c.flags ≡ 0 → is_some (buffer_of c.dbuf_cookie bs) ≡ live → nat_le 64 (length bs) ≡ full → is_in_range (made_of c) ≡ valid → answer_of true live full valid ≡ check_of bs c
+  checked live full valid flags is_live is_full is_valid =
+      sym
+      (ap (λ t. answer_of t (is_some (buffer_of c.dbuf_cookie bs)) (nat_le 64 (length bs)) (is_in_range (made_of c))) (eq-eqb _ _ flags)
+      ∙ ap (λ t. answer_of true t (nat_le 64 (length bs)) (is_in_range (made_of c))) is_live
+      ∙ ap (λ t. answer_of true live t (is_in_range (made_of c))) is_full
+      ∙ ap (λ t. answer_of true live full t) is_valid)
+
+  pub passes : check_of bs c ≡ Ok tt → (is_some (buffer_of c.dbuf_cookie bs) ≡ false) × (nat_le 64 (length bs) ≡ false) × (is_in_range (made_of c) ≡ true)
+  passes h = passed (c.flags == 0) (is_some (buffer_of c.dbuf_cookie bs)) (nat_le 64 (length bs)) (is_in_range (made_of c)) h
+
+  -- while the table isn't full and the fields are looked at
+  pub is_full : 64 ≤ length bs → c.flags ≡ 0 → is_some (buffer_of c.dbuf_cookie bs) ≡ false → Err Full ≡ check_of bs c
+  is_full many flags free = checked false true (is_in_range (made_of c)) flags free (le-leb _ _ many) refl
+
+  pub is_checked : (valid : Bool) → length bs < 64 → c.flags ≡ 0 → is_some (buffer_of c.dbuf_cookie bs) ≡ false → is_in_range (made_of c) ≡ valid → answer_of true false false valid ≡ check_of bs c
+  is_checked valid few flags free fields = checked false false valid flags free (lt-leb _ _ few) fields
+
+  pub leaves_room : check_of bs c ≡ Ok tt → length bs < 64
+  leaves_room h = leb-false _ _ (passes h).1
+
+  pub leaves_cookie : check_of bs c ≡ Ok tt → IsFresh c.dbuf_cookie (cookies bs)
+  leaves_cookie h = fresh_cookie c.dbuf_cookie bs (none_of _ (passes h).0)

@@ -1,0 +1,4 @@
+pub mod Buffers
+pub mod Laws
+pub mod Pixels
+pub mod Table

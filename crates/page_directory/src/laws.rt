@@ -1,0 +1,21 @@
+//! What walks come to.
+
+ghost use Rattle.page_directory.specs.Laws.{WalksExactly};
+ghost use Rattle.page_directory.specs.Reading.{ReadsExactly};
+
+/// Whatever words a walk finds, a device that held some pages before holds beside them, where the walk ends with its
+/// pages, just these, which are as many of the domain's as were asked for; and just what it held before where the walk is
+/// refused. The refusal is NoNext or shows the cause of a refused map. Each access is in range and lies in a page that the
+/// device holds then, or in a grant entry of the domain.
+pub fn walks_exactly()
+    ensures { WalksExactly }
+{}
+
+/// Whatever words a walk finds, it loads the references in order, each once, from words 1 to 1023 of the directory page
+/// which the reference before names, and maps each before it loads the next. The pages are those of the references that
+/// were loaded, in order. A next directory page is asked for only where a further reference is needed, and a refusal is
+/// NoNext exactly where its reference is 0; each other refusal shows the cause of the map of the reference that was loaded
+/// last.
+pub fn reads_exactly()
+    ensures { ReadsExactly }
+{}

@@ -1,0 +1,14 @@
+//! Page directories: the pages of a buffer, listed by the domain that grants them (`struct xendispl_page_directory` of
+//! displif.h, the same in sndif.h). A device maps them all, one access at a time, or none.
+#![tactic(auto)]
+
+pub mod laws;
+pub mod pages;
+pub mod walk;
+
+pub use laws::{reads_exactly, walks_exactly};
+pub use pages::Pages;
+pub use walk::{Walk, Walked};
+
+#[cfg(test)]
+mod tests;

@@ -1,0 +1,68 @@
+//! The pages of a buffer.
+
+ghost use Rattle.std.specs.Prelude.{◌≡◌, ◌<◌, ◌==◌, length, slice_get, Some};
+
+use pv_words::{Hold, PageList};
+use std::marker::Model;
+
+/// The pages of a buffer, in order, as the holds of the device that mapped them. A contract sees the list of the holds.
+#[derive(Drop)]
+pub struct Pages {
+    holds: Vec<Hold>,
+}
+
+impl Model for Pages {
+    ghost use Rattle.std.specs.Prelude.{◌≤◌, List, vec_capacity};
+    ghost use Rattle.pv_words.specs.declared.grant.Hold.{Hold};
+
+    ghost Value = { List Hold };
+
+    ghost view = { λ p. p.holds.items };
+
+    ghost invariant = { λ p. vec_capacity p.holds ≤ 8192 };
+}
+
+impl Pages {
+    ghost use Rattle.std.specs.Prelude.{◌≤◌, vec_capacity};
+
+    /// The pages of these holds, of which there are at most 8192.
+    pub(crate) fn new(holds: Vec<Hold>) -> Pages
+        requires { vec_capacity holds ≤ 8192 }
+        ensures { result ≡ holds.items }
+    {
+        Pages { holds }
+    }
+
+    /// How many pages there are.
+    pub fn len(&self) -> u32
+        ensures { result ≡ length self.now }
+    {
+        self.holds.len() as u32
+    }
+
+    pub fn is_empty(&self) -> bool
+        ensures { result ≡ (length self.now == 0) }
+    {
+        self.holds.is_empty()
+    }
+
+    /// The page of this number, from 0.
+    pub fn get(&self, i: u32) -> Hold
+        requires { i < length self.now }
+        ensures { slice_get self.now i ≡ Some result }
+    {
+        self.holds[i as usize]
+    }
+}
+
+impl PageList for Pages {
+    ghost holds = { λ p. p };
+
+    fn len(&self) -> u32 {
+        self.len()
+    }
+
+    fn get(&self, i: u32) -> Hold {
+        self.get(i)
+    }
+}

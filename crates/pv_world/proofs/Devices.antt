@@ -1,0 +1,114 @@
+-- One device among others.
+use Rattle.std.proofs.Common.{◌≡◌, ℕ, zero, suc, ◌<◌, ◌==◌, ◌||◌, Bool, true, false, List, [], ◌∷◌, ◌++◌, Some, length, drop, set, get_or, refl, sym, subst, ◌∙◌, ap, arith, eq-eqb}
+use Rattle.std.proofs.lemmas.Bool.Decides.{nat_tests}
+use Rattle.std.proofs.lemmas.Option.{slice_get_read, get_or_from_slice_get}
+use Rattle.std.specs.List.{AllByRecursion, slice_get}
+use Rattle.pv_words.specs.declared.place.DevId.{DevId}
+use Rattle.pv_words.specs.declared.setup.DeviceSetup.{DeviceSetup}
+use Rattle.pv_world.specs.declared.world.Placed.{Placed}
+use Rattle.pv_world.specs.History.{AreApart, is_declared}
+use Rattle.pv_world.specs.World.{AreDeclaredAs, IsAt, IsDeclaredAs, setups}
+
+some_same : {A : Type 0} (x y : A) → Some x ≡ Some y → x ≡ y
+some_same x y e = cc
+
+neither : (a b : Bool) → (a || b) ≡ false → (a ≡ false) × (b ≡ false)
+neither false false e = (refl, refl)
+neither false true e = let wrong : ⊥ = cc in absurd wrong
+neither true b e = let wrong : ⊥ = cc in absurd wrong
+
+-- a device that isn't declared has another number than each that is
+others : (d : ℕ) (ps : List Placed) → is_declared (setups ps) d ≡ false → AllByRecursion (λ q. (q.setup.dev.0 == d) ≡ false) ps
+others d [] e = tt
+others d (q ∷ qs) e = let n = neither (q.setup.dev.0 == d) (is_declared (setups qs) d) e in (n.0, others d qs n.1)
+
+turned_round : (a b : ℕ) → (a == b) ≡ false → (b == a) ≡ false
+turned_round a b e = grind (arith, nat_tests)
+
+all_apart : (P Q : Placed → Type 0) (d : ℕ) (ps : List Placed) → AllByRecursion (λ q. (q.setup.dev.0 == d) ≡ false) ps → ((q : Placed) → (d == q.setup.dev.0) ≡ false → P q → Q q) → AllByRecursion P ps → AllByRecursion Q ps
+all_apart P Q d [] n f h = tt
+all_apart P Q d (q ∷ qs) n f h = (f q (turned_round q.setup.dev.0 d n.0) h.0, all_apart P Q d qs n.1 f h.1)
+
+-- what is so of the device that stands there
+pub at_index : (P : Placed → Type 0) (ps : List Placed) (i : ℕ) (p : Placed) → slice_get ps i ≡ Some p → AllByRecursion P ps → P p
+at_index P [] zero p e h = let wrong : ⊥ = cc in absurd wrong
+at_index P [] (suc i) p e h = let wrong : ⊥ = cc in absurd wrong
+at_index P (q ∷ qs) zero p e h = subst P (some_same q p e) h.0
+at_index P (q ∷ qs) (suc i) p e h = at_index P qs i p e h.1
+
+-- a device that is declared isn't one of those that aren't
+apart_from : (qs : List Placed) (i : ℕ) (p : Placed) (d : ℕ) → slice_get qs i ≡ Some p → is_declared (setups qs) d ≡ false → (p.setup.dev.0 == d) ≡ false
+apart_from qs i p d e n = at_index (λ q. (q.setup.dev.0 == d) ≡ false) qs i p e (others d qs n)
+
+-- one device changes, and the others stay
+pub all_step : (P Q : Placed → Type 0) (ps : List Placed) (i : ℕ) (p r : Placed) → AreApart (setups ps) → slice_get ps i ≡ Some p → ((q : Placed) → (p.setup.dev.0 == q.setup.dev.0) ≡ false → P q → Q q) → (P p → Q r) → AllByRecursion P ps → AllByRecursion Q (set ps i r)
+all_step P Q [] zero p r a e f g h = let wrong : ⊥ = cc in absurd wrong
+all_step P Q [] (suc i) p r a e f g h = let wrong : ⊥ = cc in absurd wrong
+all_step P Q (q ∷ qs) zero p r a e f g h =
+    let same : q ≡ p = some_same q p e in (
+      g (subst P same h.0),
+      all_apart P Q p.setup.dev.0 qs (subst (λ (x : Placed). AllByRecursion (λ t. (t.setup.dev.0 == x.setup.dev.0) ≡ false) qs) same (others q.setup.dev.0 qs a.0)) f h.1,
+    )
+all_step P Q (q ∷ qs) (suc i) p r a e f g h =
+    (f q (apart_from qs i p q.setup.dev.0 e a.0) h.0, all_step P Q qs i p r a.1 e f g h.1)
+
+-- what is so of all devices, as declared
+pub all_setups : (P : Placed → Type 0) (Q : DeviceSetup → Type 0) (ps : List Placed) → ((p : Placed) → P p → Q p.setup) → AllByRecursion P ps → AllByRecursion Q (setups ps)
+all_setups P Q [] f h = tt
+all_setups P Q (p ∷ ps) f h = (f p h.0, all_setups P Q ps f h.1)
+
+-- a device that changes is declared as it was
+pub setups_set : (ps : List Placed) (i : ℕ) (p r : Placed) → slice_get ps i ≡ Some p → r.setup ≡ p.setup → setups (set ps i r) ≡ setups ps
+setups_set [] zero p r e s = let wrong : ⊥ = cc in absurd wrong
+setups_set [] (suc i) p r e s = let wrong : ⊥ = cc in absurd wrong
+setups_set (q ∷ qs) zero p r e s = ap (λ (x : DeviceSetup). x ∷ setups qs) (s ∙ sym (ap (λ (x : Placed). x.setup) (some_same q p e)))
+setups_set (q ∷ qs) (suc i) p r e s = ap (λ (xs : List DeviceSetup). q.setup ∷ xs) (setups_set qs i p r e s)
+
+either_true : (a b : Bool) → b ≡ true → (a || b) ≡ true
+either_true true b e = refl
+either_true false b e = e
+
+pub declared_at : (ps : List Placed) (i : ℕ) (p : Placed) → slice_get ps i ≡ Some p → is_declared (setups ps) p.setup.dev.0 ≡ true
+declared_at [] zero p e = let wrong : ⊥ = cc in absurd wrong
+declared_at [] (suc i) p e = let wrong : ⊥ = cc in absurd wrong
+declared_at (q ∷ qs) zero p e =
+    subst (λ (x : Placed). is_declared (q.setup ∷ setups qs) x.setup.dev.0 ≡ true) (some_same q p e) (ap (λ (b : Bool). b || is_declared (setups qs) q.setup.dev.0) (eq-eqb q.setup.dev.0 q.setup.dev.0 refl))
+declared_at (q ∷ qs) (suc i) p e = either_true (q.setup.dev.0 == p.setup.dev.0) (is_declared (setups qs) p.setup.dev.0) (declared_at qs i p e)
+
+-- the device that an index reads
+pub read_is : (ps : List Placed) (i : ℕ) (p x : Placed) → slice_get ps i ≡ Some p → x ≡ get_or ps i x → x ≡ p
+read_is ps i p x e h = h ∙ get_or_from_slice_get ps i p x e
+
+pub is_at_set : (ps : List Placed) (i : ℕ) (p r : Placed) → slice_get ps i ≡ Some p → slice_get (set ps i r) i ≡ Some r
+is_at_set [] zero p r e = let wrong : ⊥ = cc in absurd wrong
+is_at_set [] (suc i) p r e = let wrong : ⊥ = cc in absurd wrong
+is_at_set (q ∷ qs) zero p r e = refl
+is_at_set (q ∷ qs) (suc i) p r e = is_at_set qs i p r e
+
+-- a device that is declared further on isn't past the end
+pub declared_within : (ps : List Placed) (i d : ℕ) → is_declared (setups (drop i ps)) d ≡ true → i < length ps
+declared_within [] zero d e = let wrong : ⊥ = cc in absurd wrong
+declared_within [] (suc i) d e = let wrong : ⊥ = cc in absurd wrong
+declared_within (p ∷ ps) zero d e = omega arith
+declared_within (p ∷ ps) (suc i) d e = let l = declared_within ps i d e in omega (arith, l)
+
+dev_same : (a b : DevId) → a.0 ≡ b.0 → a ≡ b
+dev_same a b e = ap (λ n. record { 0 = n }) e
+
+pub found_at : (ps : List Placed) (i : ℕ) (p : Placed) (dev : DevId) → is_declared (setups (drop i ps)) dev.0 ≡ true → p ≡ get_or ps i p → p.setup.dev.0 ≡ dev.0 → IsAt ps i dev
+found_at ps i p dev e read same =
+    (p, slice_get_read ps (length ps) i p refl (declared_within ps i dev.0 e) read, dev_same p.setup.dev dev same)
+
+-- one more device as declared
+pub declared_push : (ss : List DeviceSetup) (ps : List Placed) (s : DeviceSetup) (p : Placed) → AreDeclaredAs ss ps → IsDeclaredAs s p → AreDeclaredAs (ss ++ s ∷ []) (ps ++ p ∷ [])
+declared_push [] [] s p h k = (k, tt)
+declared_push [] (q ∷ ps) s p h k = absurd h
+declared_push (t ∷ ss) [] s p h k = absurd h
+declared_push (t ∷ ss) (q ∷ ps) s p h k = (h.0, declared_push ss ps s p h.1 k)
+
+-- devices as declared are declared so
+pub setups_as : (ss : List DeviceSetup) (ps : List Placed) → AreDeclaredAs ss ps → setups ps ≡ ss
+setups_as [] [] h = refl
+setups_as [] (q ∷ ps) h = absurd h
+setups_as (t ∷ ss) [] h = absurd h
+setups_as (t ∷ ss) (q ∷ ps) h = ap (λ (x : DeviceSetup). x ∷ setups ps) h.0.setup_is ∙ ap (λ (xs : List DeviceSetup). t ∷ xs) (setups_as ss ps h.1)

@@ -1,0 +1,50 @@
+use Rattle.std.proofs.Common.{List, ◌≡◌, ◌++◌, ◌∷◌, [], Some, refl, sym, ◌∙◌, ap, subst, slice_get, slice_set, arith}
+use Rattle.std.proofs.lemmas.Option.{slice_get_within}
+use Rattle.std.proofs.lemmas.Result.{err_from_is_err_and}
+use Rattle.pv_words.specs.declared.entry.Entry.{Entry}
+use Rattle.pv_words.specs.declared.entry.Entry.TheVariants as entry
+use Rattle.pv_words.specs.declared.place.DevId.{DevId}
+use Rattle.pv_world.specs.declared.world.Placed.{Placed}
+use Rattle.pv_world.specs.Marked.{Entered}
+use Rattle.pv_world.specs.History.{Belongs}
+use Rattle.pv_world.specs.World.{Stands, setups, sight}
+use Rattle.pv_world.proofs.Buses.{node_history, node_stands}
+use Rattle.pv_world.proofs.Devices.{read_is, setups_set}
+use Rattle.pv_world.proofs.Items.{entries_append}
+use Rattle.pv_world.proofs.world.World.node.Goals as goal
+
+pub returns-in_err-enter-clause-set : goal.returns-in_err-enter-clause-set
+returns-in_err-enter-clause-set g c = λ frames grants m st e.
+    let sees = sight g.W.Machine.word g.W.Words.frames_of g.W.Words.grants_of g.W.Words.port g.W.Machine.whole g.W.Machine.knows_device g.W.Machine.knows_domain in
+    let w = c.args.self.now in
+    let p = err_from_is_err_and c.from_residual.result c.from_residual.ensures.1 in
+    rw (p.1, p.2) (node_history sees frames grants w.memory (setups w.devices.items) m c.args.dev c.args.part c.args.key c.args.v (c.requires.declared, c.requires.part, c.requires.key) st.so_far, (e ∙ sym c.in_err-enter.ensures.err, c.in_err-enter.ensures.cause))
+
+pub index_mut-requires : goal.index_mut-requires
+index_mut-requires g c = let x = c.position-i.ensures in let within = slice_get_within c.args.self.now.devices.items c.position-i.result x.0 x.1 in let same = c.args.self.now.devices.ok in omega (arith, within, same)
+
+pub returns-clause-set : goal.returns-clause-set
+returns-clause-set g c = λ frames grants m st e.
+    let sees = sight g.W.Machine.word g.W.Words.frames_of g.W.Words.grants_of g.W.Words.port g.W.Machine.whole g.W.Machine.knows_device g.W.Machine.knows_domain in
+    let w = c.args.self.now in
+    let x = c.position-i.ensures in
+    let i = c.position-i.result in
+    let p = c.index_mut.result.now in
+    let r : Placed = record { setup = p.setup; display = p.display; nodes = c.set.new.self } in
+    let read = read_is w.devices.items i x.0 p x.1 c.index_mut.ensures.value in
+    let at = subst (λ (q : Placed). slice_get w.devices.items i ≡ Some q) (sym read) x.1 in
+    let dev = ap (λ (q : Placed). q.setup.dev) read ∙ x.2 in
+    let belongs = subst (λ (d : DevId). Belongs (setups w.devices.items) (entry.Node d c.args.part c.args.key c.args.v)) (sym dev) (c.requires.declared, c.requires.part, c.requires.key) in
+    let ok : c.enter.new.journal.entries ≡ c.args.journal.now.entries ++ entry.Node c.args.dev c.args.part c.args.key c.args.v ∷ [] = c.in_ok-enter.ensures.ok in (
+      subst (λ (d : DevId). Stands sees frames grants w.memory (slice_set w.devices.items i r) (m ++ Entered (entry.Node d c.args.part c.args.key c.args.v) ∷ [])) dev (node_stands sees frames grants w.memory w.devices.items i p r m c.args.part c.args.key c.args.v at belongs refl refl c.set.ensures st),
+      entries_append m (Entered (entry.Node c.args.dev c.args.part c.args.key c.args.v) ∷ []) ∙ (ap (λ (es : List Entry). es ++ entry.Node c.args.dev c.args.part c.args.key c.args.v ∷ []) e ∙ sym ok),
+    )
+
+pub returns-clause-devices : goal.returns-clause-devices
+returns-clause-devices g c =
+    let w = c.args.self.now in
+    let x = c.position-i.ensures in
+    let p = c.index_mut.result.now in
+    let r : Placed = record { setup = p.setup; display = p.display; nodes = c.set.new.self } in
+    let read = read_is w.devices.items c.position-i.result x.0 p x.1 c.index_mut.ensures.value in
+    setups_set w.devices.items c.position-i.result x.0 r x.1 (ap (λ (q : Placed). q.setup) read)

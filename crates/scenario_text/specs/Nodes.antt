@@ -1,0 +1,19 @@
+-- The nodes of a device, by name, and what they hold.
+use Rattle.std.specs.Prelude.{ℕ, ◌^◌, nat_lt, List, [], ◌∷◌, Option, Some, None, codes, if◌then◌else◌}
+use Rattle.pv_words.specs.declared.device.NodeValue.{NodeValue}
+use Rattle.pv_words.specs.declared.device.NodeValue.TheVariants as value
+use Rattle.scenario_text.specs.Numbers.{digits_of}
+
+-- the names of a display's nodes, and their keys
+abbrev pub keys : List (List ℕ × ℕ)
+keys =
+    (codes "req-ring-ref", 0) ∷ (codes "req-event-channel", 1) ∷ (codes "evt-ring-ref", 2) ∷ (codes "evt-event-channel", 3) ∷ []
+
+-- a number, where it is below 2 ^ 32
+abbrev pub of_number : Option ℕ → NodeValue
+of_number None = value.Bad
+of_number (Some n) = if nat_lt n (2 ^ 32) then value.Number n else value.Bad
+
+-- what a node holds whose text is this: a number where it is decimal digits of one below 2 ^ 32
+unfoldable pub node_value : List ℕ → NodeValue
+node_value octets = of_number (digits_of 10 octets)

@@ -1,0 +1,3 @@
+pub mod Nodes
+pub mod States
+pub mod Connection

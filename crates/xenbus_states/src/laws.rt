@@ -1,0 +1,22 @@
+//! What nodes, states and connections come to.
+
+ghost use Rattle.xenbus_states.specs.Connection.{RemembersWhatItHeard};
+ghost use Rattle.xenbus_states.specs.Nodes.{NodesStandApart};
+ghost use Rattle.xenbus_states.specs.States.{StatesReadBack, NumbersReadBack};
+
+/// Each state comes back from its number, and each number from its state.
+pub fn states_read_back()
+    ensures states { StatesReadBack }
+    ensures numbers { NumbersReadBack }
+{}
+
+/// A node has the value that was set last, and setting it leaves all others as they were.
+pub fn nodes_stand_apart()
+    ensures { NodesStandApart }
+{}
+
+/// A connection remembers the first ending state that the frontend set since Connect began, and whether it set
+/// Initialising since then.
+pub fn remembers_what_it_heard()
+    ensures { RemembersWhatItHeard }
+{}

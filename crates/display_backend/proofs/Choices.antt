@@ -1,5 +1,5 @@
 -- What a display does next between two activities.
-use Rattle.std.proofs.Common.{◌≡◌, ℕ, zero, suc, ◌+◌, ◌-◌, ◌<◌, Bool, true, false, not, List, [], Option, Some, None, Result, Ok, Err, length, map, slice_get, refl, sym, ap, subst, ◌∙◌, arith}
+use Rattle.std.proofs.Common.{◌≡◌, inl, inr, ℕ, zero, suc, ◌+◌, ◌-◌, ◌<◌, Bool, true, false, not, ◌++◌, List, [], Option, Some, None, Result, Ok, Err, length, map, slice_get, refl, sym, ap, subst, ◌∙◌, arith}
 use Rattle.std.proofs.lemmas.Bool.{false≢true}
 use Rattle.pv_words.specs.declared.access.Access.{Access}
 use Rattle.pv_words.specs.declared.device.Said.{Said}
@@ -9,8 +9,11 @@ use Rattle.pv_words.specs.declared.device.State.{State}
 use Rattle.pv_words.specs.declared.device.State.TheVariants as state
 use Rattle.pv_words.specs.declared.device.NodeFault.{NodeFault}
 use Rattle.pv_words.specs.declared.device.NodeValue.{NodeValue}
+use Rattle.pv_words.specs.declared.grant.Hold.{Hold}
 use Rattle.pv_words.specs.Plan.{Plan, Finished, Make, Want, mapped}
 use Rattle.displ_wire.specs.declared.Request.{Request}
+use Rattle.display_backend.specs.Stock.{Stock, pages_of}
+use Rattle.page_directory.specs.declared.walk.Walk.{Walk}
 use Rattle.xenbus_states.specs.declared.back.Action.{Action}
 use Rattle.xenbus_states.specs.declared.back.Action.TheVariants as action
 use Rattle.xenbus_states.specs.Connection.{Connection, action_of, action_from, asked_of}
@@ -18,20 +21,20 @@ use Rattle.xenbus_states.specs.Nodes.{node_at, needed}
 use Rattle.link_core.specs.declared.link.Link.{Link}
 use Rattle.link_core.specs.Activities.{Page, look_plan, take_plan, answer_plan}
 use Rattle.link_core.specs.Link.{dom_of, held_of, joined_of, idle, page_of, rsp_of}
-use Rattle.link_core.specs.Order.{Order, Act, Rest, Stand, Between, Steps, GoesOn, MayChoose, rests_next, at_rest}
+use Rattle.link_core.specs.Order.{Order, Act, Either, Rest, Stand, Between, Steps, GoesOn, MayChoose, rests_next, at_rest}
 use Rattle.link_core.proofs.Links.{whole_take, whole_answer, rsp_joined, idle_rings}
-use Rattle.link_core.proofs.Steps.{steps_between, steps_said, steps_rest}
+use Rattle.link_core.proofs.Steps.{steps_between, steps_first, steps_second, steps_second_said, steps_said, steps_rest}
 use Rattle.display_backend.specs.declared.display.Activity.{Activity}
 use Rattle.display_backend.specs.declared.display.Activity.TheVariants as activity
 use Rattle.display_backend.specs.declared.display.Ending.{Ending}
 use Rattle.display_backend.specs.declared.display.Round.{Round}
 use Rattle.display_backend.specs.Activity.{is_connected}
-use Rattle.display_backend.specs.Display.{stand_at, stand_in, all_held, parts_in, connecting, number_in, number_at, refs_at, refs_from, look_from, take_from, answer_from, sleeping}
+use Rattle.display_backend.specs.Display.{stand_at, stand_in, stock_in, all_held, parts_in, connecting, number_in, number_at, refs_at, refs_from, look_from, take_from, answer_from, sleeping}
 use Rattle.display_backend.specs.Goes.{Closes, GoesOut, Told, Comes, Begins, fault_in}
 use Rattle.display_backend.specs.Machine.{Site, Refs, Problem, part_refs, all_refs, with_ring_ref, with_channel, with_event_ref, with_channels, added, all_with}
 use Rattle.display_backend.specs.Reply.{reply_to}
 use Rattle.display_backend.specs.Whole.{Whole}
-use Rattle.display_backend.specs.Work.{Work, End, Saw, Took, Answered, Slept, Met, Denied, Lacked, Shut, Left, Renewed, display, choice, settled, said_at, shut, entered, all_pages, sleep_all, connect_all, with_closing, with_kept, with_action, with_state, with_hand, close, answers, takes_from, looks_at}
+use Rattle.display_backend.specs.Work.{Work, End, Saw, Took, Listed, Freed, Answered, Slept, Met, Denied, Lacked, Shut, Left, Renewed, display, choice, settled, said_at, shut, entered, all_pages, sleep_all, connect_all, status_of, with_closing, with_kept, with_action, with_state, with_hand, close, answers, takes_from, looks_at}
 use Rattle.display_backend.proofs.Held.{joined_held, bare_held, page_shown}
 use Rattle.display_backend.proofs.Leaving.{later_is}
 use Rattle.display_backend.proofs.Lists.{get_map, within}
@@ -44,6 +47,11 @@ steps_begin site w (Act v p) None event new e b =
     subst (λ (x : Option Said). Steps (display site) (Between w) None x new) (sym b.says)
     (steps_said (display site) w v b.end b.told new (e ∙ ap (λ (q : Plan End). Act v q) b.over) b.told_is b.left)
 steps_begin site w (Act v p) (Some a) event new e b = steps_between (display site) w v p (Some a) event new e b
+steps_begin site w (Either v p u q) None event new e b =
+    subst (λ (x : Option Said). Steps (display site) (Between w) None x new) (sym b.says)
+    (steps_second_said (display site) w v u p b.end b.told new (e ∙ ap (λ (x : Plan End). Either v p u x) b.over) b.told_is b.left)
+steps_begin site w (Either v p u q) (Some a) event new e (inl b) = steps_first (display site) w v u p q a event new e b.0 b.1
+steps_begin site w (Either v p u q) (Some a) event new e (inr b) = steps_second (display site) w v u p q a event new e b.0 b.1
 steps_begin site w (Rest v) access event new e b =
     subst (λ (x : Option Access). Steps (display site) (Between w) x event new) (sym b.0)
     (subst (λ (x : Option Said). Steps (display site) (Between w) None x new) (sym b.1) (steps_rest (display site) w v new e b.2))
@@ -54,6 +62,8 @@ closes_told site w (Denied r) why h = (ap (λ x. Some (said.Closed x)) (sym h), 
 closes_told site w (Shut r) why h = (ap (λ x. Some (said.Closed x)) (sym h), refl)
 closes_told site w (Saw x) why h = absurd h
 closes_told site w (Took x) why h = absurd h
+closes_told site w (Listed x) why h = absurd h
+closes_told site w Freed why h = absurd h
 closes_told site w (Answered x) why h = absurd h
 closes_told site w (Slept x) why h = absurd h
 closes_told site w (Met x) why h = absurd h
@@ -72,20 +82,20 @@ comes_on site w p None event new g = absurd g
 comes_on site w p (Some a) event new g = g
 
 -- between two activities
-module _ (dom : ℕ) (o : Bool) (hand : Option Request) (reply : List ℕ) (at : ℕ) (old_round : Round) (act : Activity) (ls : List Link) (e : act ≡ activity.Between) (w : Whole dom o hand reply at old_round act ls) where
-  resting : Whole dom o hand reply at old_round activity.Between ls
-  resting = subst (λ (a : Activity). Whole dom o hand reply at old_round a ls) e w
+module _ (dom : ℕ) (o : Bool) (at : ℕ) (old_round : Round) (act : Activity) (ls : List Link) (e : act ≡ activity.Between) (w : Whole dom o at old_round act ls) where
+  resting : Whole dom o at old_round activity.Between ls
+  resting = subst (λ (a : Activity). Whole dom o at old_round a ls) e w
 
-  pub whole_leaving : (end : Ending) → Whole dom false hand reply at old_round (activity.Leaving end) ls
+  pub whole_leaving : (end : Ending) → Whole dom false at old_round (activity.Leaving end) ls
   unfolding resting
   whole_leaving end =
       let n = length ls in
-      make_whole dom false hand reply at old_round (activity.Leaving end) ls n refl w.some w.few w.at_in w.round_in w.some
+      make_whole dom false at old_round (activity.Leaving end) ls n refl w.some w.few w.at_in w.round_in w.some
       (λ i l g.
       let f = resting.fits i l g in
       let lt = within ls i l g in
       record { dom_is = f.dom_is; both = λ b. absurd (omega (arith, b)); none = λ b. absurd (omega (arith, b, lt)); rests = f.rests; ring = f.ring })
-      w.ready (λ h. absurd (false≢true h)) (λ h. absurd (false≢true h))
+      (λ h. absurd (false≢true h))
 
   pub all_bare : o ≡ false → (i : ℕ) (l : Link) → slice_get ls i ≡ Some l → length (held_of l) ≡ 0
   unfolding resting
@@ -104,26 +114,26 @@ module _ (dom : ℕ) (o : Bool) (hand : Option Request) (reply : List ℕ) (at :
   unfolding resting
   resting_idle i l g = let lt = within ls i l g in (resting.fits i l g).rests (omega (arith, lt))
 
-  pub whole_connecting : o ≡ false → Whole dom false hand reply at old_round (activity.Connecting 0) ls
+  pub whole_connecting : o ≡ false → Whole dom false at old_round (activity.Connecting 0) ls
   unfolding resting
   whole_connecting s =
       let n = length ls in
-      make_whole dom false hand reply at old_round (activity.Connecting 0) ls n refl w.some w.few w.at_in w.round_in w.some
+      make_whole dom false at old_round (activity.Connecting 0) ls n refl w.some w.few w.at_in w.round_in w.some
       (λ i l g.
       let f = resting.fits i l g in
       let lt = within ls i l g in
       let rest : idle l ≡ true = f.rests (omega (arith, lt)) in
       record { dom_is = f.dom_is; both = λ b. absurd (omega (arith, b)); none = λ b. all_bare s i l g; rests = λ _. rest; ring = λ _. idle_rings l rest })
-      w.ready (λ h. absurd (false≢true h)) (λ h. absurd (false≢true h))
+      (λ h. absurd (false≢true h))
 
-  pub whole_entered : (p : Bool) → o ≡ false → p ≡ false → Whole dom p None reply at old_round act ls
+  pub whole_entered : (p : Bool) → o ≡ false → p ≡ false → Whole dom p at old_round act ls
   unfolding resting
   whole_entered p s t =
-      let v = subst (λ (x : Bool). Whole dom x hand reply at old_round activity.Between ls) s resting in
-      subst (λ (x : Bool). Whole dom x None reply at old_round act ls) (sym t)
-      (subst (λ (a : Activity). Whole dom false None reply at old_round a ls) (sym e)
-      (make_whole dom false None reply at old_round activity.Between ls (length ls) refl w.some w.few w.at_in w.round_in w.some v.fits
-      (λ q h. let wrong : ⊥ = cc in absurd wrong) (λ h. absurd (false≢true h)) (λ h. absurd (false≢true h))))
+      let v = subst (λ (x : Bool). Whole dom x at old_round activity.Between ls) s resting in
+      subst (λ (x : Bool). Whole dom x at old_round act ls) (sym t)
+      (subst (λ (a : Activity). Whole dom false at old_round a ls) (sym e)
+      (make_whole dom false at old_round activity.Between ls (length ls) refl w.some w.few w.at_in w.round_in w.some v.fits
+      (λ h. absurd (false≢true h))))
 
   pages_if : (x : Bool) → o ≡ x → all_pages (parts_in x ls) ≡ all_held ls
   pages_if true s = sym (joined_held ls (λ i l g. (all_both s i l g).0))
@@ -132,6 +142,10 @@ module _ (dom : ℕ) (o : Bool) (hand : Option Request) (reply : List ℕ) (at :
   pub pages_between : all_pages (parts_in o ls) ≡ all_held ls
   unfolding pages_if
   pages_between = pages_if o refl
+
+-- all pages
+pub pages_all : (a : Activity) (s : Stock) → a ≡ activity.Between → (hs ks : List Hold) → hs ≡ ks → pages_of (stock_in a s) ++ hs ≡ pages_of s ++ ks
+pages_all a s e hs ks f = ap (λ (x : Activity). pages_of (stock_in x s) ++ hs) e ∙ ap (λ xs. pages_of s ++ xs) f
 
 -- a backend that connects isn't connected
 asked_apart : (o : Option State) → asked_of o ≡ action.Connect → ⊥
@@ -192,11 +206,11 @@ module _ (w : Work) (ls : List Link) (k : ℕ) (l : Link) (p : w.parts ≡ map j
   joined_at : slice_get w.parts k ≡ Some (joined_of l)
   joined_at = ap (λ js. slice_get js k) p ∙ get_map joined_of ls k l g
 
-  pub answers_is : (q : Request) (reply : List ℕ) → reply ≡ reply_to q → answers w (record { part = k; request = q }) (slice_get w.parts k) ≡ Act w (mapped Answered (answer_from reply (slice_get ls k)))
+  pub answers_is : (q : Request) (reply : List ℕ) → reply ≡ reply_to q (status_of w q.asked) → answers w (record { part = k; request = q }) (slice_get w.parts k) ≡ Act w (mapped Answered (answer_from reply (slice_get ls k)))
   answers_is q reply e =
       ap (answers w (record { part = k; request = q })) joined_at
-      ∙ (ap (λ (x : Page). Act w (mapped (λ y. Answered y) (answer_plan x (joined_of l).rsp (reply_to q)))) (sym (page_shown l two))
-      ∙ (ap (λ n. Act w (mapped (λ y. Answered y) (answer_plan (page_of l) n (reply_to q)))) (sym (rsp_joined l))
+      ∙ (ap (λ (x : Page). Act w (mapped (λ y. Answered y) (answer_plan x (joined_of l).rsp (reply_to q (status_of w q.asked))))) (sym (page_shown l two))
+      ∙ (ap (λ n. Act w (mapped (λ y. Answered y) (answer_plan (page_of l) n (reply_to q (status_of w q.asked))))) (sym (rsp_joined l))
       ∙ (ap (λ x. Act w (mapped (λ y. Answered y) (answer_plan (page_of l) (rsp_of l) x))) (sym e)
       ∙ (ap (λ (x : Plan Bool). Act w (mapped (λ y. Answered y) x)) (sym (whole_answer l reply rest))
       ∙ ap (λ x. Act w (mapped (λ y. Answered y) (answer_from reply x))) (sym g)))))
@@ -250,22 +264,22 @@ pub action_is : (site : Site) (w : Work) (a : Action) → w.closing ≡ false �
 unfolding choice
 action_is site w a e f h = ap (with_closing site w) e ∙ (ap (with_kept site w) f ∙ ap (with_action site w) h)
 
-pub connected_is : (site : Site) (w : Work) → w.closing ≡ false → w.kept ≡ None → action_of w.connection ≡ action.Stay → w.connection.back ≡ state.Connected → choice site w ≡ with_hand w w.hand
-connected_is site w e f h b = action_is site w action.Stay e f h ∙ ap (with_state w) b
+pub connected_is : (site : Site) (w : Work) → w.closing ≡ false → w.kept ≡ None → action_of w.connection ≡ action.Stay → w.connection.back ≡ state.Connected → choice site w ≡ with_hand site w w.hand
+connected_is site w e f h b = action_is site w action.Stay e f h ∙ ap (with_state site w) b
 
-pub apart_rests : (w : Work) (s : State) → (s ≡ state.Connected → ⊥) → with_state w s ≡ Rest w
-apart_rests w state.Unknown n = refl
-apart_rests w state.Initialising n = refl
-apart_rests w state.InitWait n = refl
-apart_rests w state.Initialised n = refl
-apart_rests w state.Connected n = absurd (n refl)
-apart_rests w state.Closing n = refl
-apart_rests w state.Closed n = refl
-apart_rests w state.Reconfiguring n = refl
-apart_rests w state.Reconfigured n = refl
+pub apart_rests : (site : Site) (w : Work) (s : State) → (s ≡ state.Connected → ⊥) → with_state site w s ≡ Rest w
+apart_rests site w state.Unknown n = refl
+apart_rests site w state.Initialising n = refl
+apart_rests site w state.InitWait n = refl
+apart_rests site w state.Initialised n = refl
+apart_rests site w state.Connected n = absurd (n refl)
+apart_rests site w state.Closing n = refl
+apart_rests site w state.Closed n = refl
+apart_rests site w state.Reconfiguring n = refl
+apart_rests site w state.Reconfigured n = refl
 
 pub apart_is : (site : Site) (w : Work) → w.closing ≡ false → w.kept ≡ None → action_of w.connection ≡ action.Stay → (w.connection.back ≡ state.Connected → ⊥) → choice site w ≡ Rest w
-apart_is site w e f h n = action_is site w action.Stay e f h ∙ apart_rests w w.connection.back n
+apart_is site w e f h n = action_is site w action.Stay e f h ∙ apart_rests site w w.connection.back n
 
 -- whether there is something to be done
 act_busy : (site : Site) (w : Work) (a : Action) → (a ≡ action.Stay → ⊥) → true ≡ not (rests_next (with_action site w a))
@@ -285,13 +299,15 @@ unfolding choice
 at_busy site w (Finished x) = refl
 at_busy site w (Make want note more) = refl
 
-pub stand_busy : (site : Site) (w : Work) (read : List NodeValue) (ls : List Link) (reply : List ℕ) (at : ℕ) (a : Activity) → (a ≡ activity.Between → ⊥) → true ≡ not (at_rest (display site) (stand_in site w read ls reply at a))
-stand_busy site w read ls reply at activity.Between n = absurd (n refl)
-stand_busy site w read ls reply at (activity.Connecting part) n = at_busy site w _
-stand_busy site w read ls reply at (activity.Leaving end) n = at_busy site w _
-stand_busy site w read ls reply at activity.Taking n = refl
-stand_busy site w read ls reply at activity.Answering n = refl
-stand_busy site w read ls reply at (activity.Sleeping part) n = refl
+pub stand_busy : (site : Site) (w : Work) (read : List NodeValue) (s : Stock) (k : Option Walk) (ls : List Link) (reply : List ℕ) (at : ℕ) (a : Activity) → (a ≡ activity.Between → ⊥) → true ≡ not (at_rest (display site) (stand_in site w read s k ls reply at a))
+stand_busy site w read s k ls reply at activity.Between n = absurd (n refl)
+stand_busy site w read s k ls reply at (activity.Connecting part) n = at_busy site w _
+stand_busy site w read s k ls reply at (activity.Leaving end) n = at_busy site w _
+stand_busy site w read s k ls reply at activity.Taking n = refl
+stand_busy site w read s k ls reply at activity.Walking n = refl
+stand_busy site w read s k ls reply at (activity.Freeing cookie) n = refl
+stand_busy site w read s k ls reply at activity.Answering n = refl
+stand_busy site w read s k ls reply at (activity.Sleeping part) n = refl
 
 pub begins_as : (site : Site) (o p : Order Work End) (access : Option Access) (event : Option Said) (new : Stand Work End) → o ≡ p → Begins site p access event new → Begins site o access event new
 begins_as site o p access event new e b = subst (λ (x : Order Work End). Begins site x access event new) (sym e) b

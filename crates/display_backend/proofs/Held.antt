@@ -1,5 +1,5 @@
 -- What links hold.
-use Rattle.std.proofs.Common.{◌≡◌, ℕ, zero, suc, ◌+◌, ◌<◌, ◌≤◌, ◌++◌, List, [], ◌∷◌, Option, Some, None, length, map, slice_get, slice_set, refl, sym, ap, subst, ◌∙◌, append_assoc, arith}
+use Rattle.std.proofs.Common.{◌≡◌, ℕ, zero, suc, ◌+◌, ◌<◌, ◌≤◌, ◌++◌, List, [], ◌∷◌, Option, Some, None, length, map, slice_get, slice_set, refl, sym, ap, subst, ◌∙◌, append_assoc, length-append, arith}
 use Rattle.pv_words.specs.declared.access.Access.{Access}
 use Rattle.pv_words.specs.declared.grant.Hold.{Hold}
 use Rattle.pv_words.specs.Plan.{Plan, Finished, wanted}
@@ -42,6 +42,19 @@ held_bare (k ∷ ks) e zero l g =
     let same : k ≡ l = cc in
     ap (λ (x : Link). length (held_of x)) (sym same) ∙ left_nil (held_of k) (all_held ks) e
 held_bare (k ∷ ks) e (suc i) l g = held_bare ks (right_nil (held_of k) (all_held ks) e) i l g
+
+-- a link that holds some
+pub held_some : (ls : List Link) (k : ℕ) (l : Link) → slice_get ls k ≡ Some l → 0 < length (held_of l) → 0 < length (all_held ls)
+held_some [] k l e some = let wrong : ⊥ = cc in absurd wrong
+held_some (x ∷ xs) zero l e some =
+    let same : x ≡ l = cc in
+    let long = length-append (held_of x) (all_held xs) in
+    let is = ap (λ (y : Link). length (held_of y)) same in
+    omega (arith, long, is, some)
+held_some (x ∷ xs) (suc k) l e some =
+    let long = length-append (held_of x) (all_held xs) in
+    let rest = held_some xs k l e some in
+    omega (arith, long, rest)
 
 -- links that are all connected hold the pages of what they are joined to
 pub joined_held : (ls : List Link) → ((i : ℕ) (l : Link) → slice_get ls i ≡ Some l → length (held_of l) ≡ 2) → all_held ls ≡ all_pages (map joined_of ls)

@@ -9,7 +9,8 @@ use Rattle.pv_words.specs.declared.device.NodeValue.{NodeValue}
 use Rattle.pv_words.specs.declared.grant.Hold.{Hold}
 use Rattle.pv_words.specs.Plan.{Plan, Finished, Want, MayGo, IsUnfinished, joined, wanted}
 use Rattle.grant_table.specs.Mapping.{unmap_want}
-use Rattle.displ_wire.specs.declared.Request.{Request}
+use Rattle.display_backend.specs.Stock.{Stock}
+use Rattle.page_directory.specs.declared.walk.Walk.{Walk}
 use Rattle.link_core.specs.declared.link.Link.{Link}
 use Rattle.link_core.specs.Activities.{Joined, Connected, Joins, connect_plan, unmaps}
 use Rattle.link_core.specs.Link.{dom_of, held_of, joined_of, idle, rings, connect_left, drop_left, Leads}
@@ -31,59 +32,59 @@ use Rattle.display_backend.proofs.Lists.{get_set, take_more_of, within, same_or_
 use Rattle.display_backend.proofs.Out.{goes_joined, unfinished_joined, unfinished_next, refs_more, went_still}
 use Rattle.display_backend.proofs.Wholes.{AllFit, make_whole, fits_set}
 
-module _ (dom : ℕ) (o : Bool) (hand : Option Request) (reply : List ℕ) (at : ℕ) (old_round : Round) (ls : List Link) where
+module _ (dom : ℕ) (o : Bool) (at : ℕ) (old_round : Round) (ls : List Link) where
   -- a page is given up
-  pub whole_dropped : (end : Ending) (act : Activity) (k : ℕ) (l new : Link) → act ≡ activity.Leaving end → slice_get ls k ≡ Some l → dom_of new ≡ dom_of l → idle new ≡ true → Whole dom o hand reply at old_round act ls → Whole dom o hand reply at old_round act (slice_set ls k new)
+  pub whole_dropped : (end : Ending) (act : Activity) (k : ℕ) (l new : Link) → act ≡ activity.Leaving end → slice_get ls k ≡ Some l → dom_of new ≡ dom_of l → idle new ≡ true → Whole dom o at old_round act ls → Whole dom o at old_round act (slice_set ls k new)
   whole_dropped end act k l new e g d i w =
       let n = length ls in
-      let v = subst (λ (a : Activity). Whole dom o hand reply at old_round a ls) e w in
+      let v = subst (λ (a : Activity). Whole dom o at old_round a ls) e w in
       let old = v.fits k l g in
-      subst (λ (a : Activity). Whole dom o hand reply at old_round a (slice_set ls k new)) (sym e)
-      (make_whole dom o hand reply at old_round (activity.Leaving end) (slice_set ls k new) n (length-set ls k new) w.some w.few w.at_in w.round_in w.some
+      subst (λ (a : Activity). Whole dom o at old_round a (slice_set ls k new)) (sym e)
+      (make_whole dom o at old_round (activity.Leaving end) (slice_set ls k new) n (length-set ls k new) w.some w.few w.at_in w.round_in w.some
       (fits_set dom 0 n n 0 n n false false ls k new v.fits
       (record { dom_is = d ∙ old.dom_is; both = λ b. absurd (omega (arith, b)); none = λ b. let lt = within ls k l g in absurd (omega (arith, b, lt)); rests = λ _. i; ring = λ m. absurd (false≢true m) })
       (λ j x other lt f. f))
-      w.ready (λ h. absurd (false≢true h)) (λ h. absurd (false≢true h)))
+      (λ h. absurd (false≢true h)))
 
-  pub leaving_idle : (end : Ending) (act : Activity) (k : ℕ) (l : Link) → act ≡ activity.Leaving end → slice_get ls k ≡ Some l → Whole dom o hand reply at old_round act ls → idle l ≡ true
+  pub leaving_idle : (end : Ending) (act : Activity) (k : ℕ) (l : Link) → act ≡ activity.Leaving end → slice_get ls k ≡ Some l → Whole dom o at old_round act ls → idle l ≡ true
   leaving_idle end act k l e g w =
-      let v = subst (λ (a : Activity). Whole dom o hand reply at old_round a ls) e w in
+      let v = subst (λ (a : Activity). Whole dom o at old_round a ls) e w in
       (v.fits k l g).rests (let lt = within ls k l g in omega (arith, lt))
 
-  pub connecting_fits : (part : ℕ) (act : Activity) → act ≡ activity.Connecting part → Whole dom o hand reply at old_round act ls → AllFit dom part (part + 1) part true ls
+  pub connecting_fits : (part : ℕ) (act : Activity) → act ≡ activity.Connecting part → Whole dom o at old_round act ls → AllFit dom part (part + 1) part true ls
   connecting_fits part act e w =
-      let v = subst (λ (a : Activity). Whole dom o hand reply at old_round a ls) e w in v.fits
+      let v = subst (λ (a : Activity). Whole dom o at old_round a ls) e w in v.fits
 
-  module _ (part : ℕ) (act : Activity) (l new : Link) (e : act ≡ activity.Connecting part) (g : slice_get ls part ≡ Some l) (d : dom_of new ≡ dom_of l) (w : Whole dom o hand reply at old_round act ls) where
-    mapping : Whole dom o hand reply at old_round (activity.Connecting part) ls
-    mapping = subst (λ (a : Activity). Whole dom o hand reply at old_round a ls) e w
+  module _ (part : ℕ) (act : Activity) (l new : Link) (e : act ≡ activity.Connecting part) (g : slice_get ls part ≡ Some l) (d : dom_of new ≡ dom_of l) (w : Whole dom o at old_round act ls) where
+    mapping : Whole dom o at old_round (activity.Connecting part) ls
+    mapping = subst (λ (a : Activity). Whole dom o at old_round a ls) e w
 
     -- a page is mapped
-    pub whole_mapping : rings new ≡ true → Whole dom o hand reply at old_round act (slice_set ls part new)
+    pub whole_mapping : rings new ≡ true → Whole dom o at old_round act (slice_set ls part new)
     unfolding mapping
     whole_mapping r =
         let n = length ls in
         let v = mapping in
         let old = v.fits part l g in
-        subst (λ (a : Activity). Whole dom o hand reply at old_round a (slice_set ls part new)) (sym e)
-        (make_whole dom o hand reply at old_round (activity.Connecting part) (slice_set ls part new) n (length-set ls part new) w.some w.few w.at_in w.round_in v.come_to
+        subst (λ (a : Activity). Whole dom o at old_round a (slice_set ls part new)) (sym e)
+        (make_whole dom o at old_round (activity.Connecting part) (slice_set ls part new) n (length-set ls part new) w.some w.few w.at_in w.round_in v.come_to
         (fits_set dom part (part + 1) part part (part + 1) part true true ls part new v.fits
         (record { dom_is = d ∙ old.dom_is; both = λ b. absurd (omega (arith, b)); none = λ b. absurd (omega (arith, b)); rests = λ x. absurd (x refl); ring = λ m. r })
         (λ j x other lt f. f))
-        w.ready (λ h. absurd (false≢true h)) (λ h. absurd (false≢true h)))
+        (λ h. absurd (false≢true h)))
 
     -- a page was refused
-    pub whole_refused : (end : Ending) → idle new ≡ true → Whole dom false hand reply at old_round (activity.Leaving end) (slice_set ls part new)
+    pub whole_refused : (end : Ending) → idle new ≡ true → Whole dom false at old_round (activity.Leaving end) (slice_set ls part new)
     unfolding mapping
     whole_refused end i =
         let n = length ls in
         let v = mapping in
         let old = v.fits part l g in
-        make_whole dom false hand reply at old_round (activity.Leaving end) (slice_set ls part new) n (length-set ls part new) w.some w.few w.at_in w.round_in w.some
+        make_whole dom false at old_round (activity.Leaving end) (slice_set ls part new) n (length-set ls part new) w.some w.few w.at_in w.round_in w.some
         (fits_set dom part (part + 1) part 0 n n true false ls part new v.fits
         (record { dom_is = d ∙ old.dom_is; both = λ b. absurd (omega (arith, b)); none = λ b. let lt = within ls part l g in absurd (omega (arith, b, lt)); rests = λ _. i; ring = λ m. absurd (false≢true m) })
         (λ j x other lt f. record { dom_is = f.dom_is; both = λ b. absurd (omega (arith, b)); none = λ b. absurd (omega (arith, b, lt)); rests = λ _. f.rests other; ring = λ m. absurd (false≢true m) }))
-        w.ready (λ h. absurd (false≢true h)) (λ h. absurd (false≢true h))
+        (λ h. absurd (false≢true h))
 
     -- the pages that are held then
     pub held_refused : all_held (slice_set ls part new) ≡ all_pages (met_links part ls) ++ held_of new
@@ -92,11 +93,11 @@ module _ (dom : ℕ) (o : Bool) (hand : Option Request) (reply : List ℕ) (at :
         held_so_far ls part new (within ls part l g) (λ i x f b. (mapping.fits i x f).both b) (λ i x f b. (mapping.fits i x f).none b)
 
   -- a part is connected, and the next one comes
-  pub whole_next : (part : ℕ) (act : Activity) → act ≡ activity.Connecting part → ((l : Link) → slice_get ls part ≡ Some l → (length (held_of l) ≡ 2) × (idle l ≡ true)) → part + 1 < length ls → Whole dom o hand reply at old_round act ls → Whole dom false hand reply at old_round (activity.Connecting (part + 1)) ls
+  pub whole_next : (part : ℕ) (act : Activity) → act ≡ activity.Connecting part → ((l : Link) → slice_get ls part ≡ Some l → (length (held_of l) ≡ 2) × (idle l ≡ true)) → part + 1 < length ls → Whole dom o at old_round act ls → Whole dom false at old_round (activity.Connecting (part + 1)) ls
   whole_next part act e met lt w =
       let n = length ls in
-      let v = subst (λ (a : Activity). Whole dom o hand reply at old_round a ls) e w in
-      make_whole dom false hand reply at old_round (activity.Connecting (part + 1)) ls n refl w.some w.few w.at_in w.round_in lt
+      let v = subst (λ (a : Activity). Whole dom o at old_round a ls) e w in
+      make_whole dom false at old_round (activity.Connecting (part + 1)) ls n refl w.some w.few w.at_in w.round_in lt
       (λ i l g.
       let f = v.fits i l g in
       elim (same_or_not i part) [
@@ -106,15 +107,15 @@ module _ (dom : ℕ) (o : Bool) (hand : Option Request) (reply : List ℕ) (at :
         | inr other ↦
             record { dom_is = f.dom_is; both = λ b. f.both (omega (arith, b, other)); none = λ b. f.none (omega (arith, b)); rests = λ _. f.rests other; ring = f.ring }
       ])
-      w.ready (λ h. absurd (false≢true h)) (λ h. absurd (false≢true h))
+      (λ h. absurd (false≢true h))
 
   -- all parts are connected
-  pub whole_met : (part : ℕ) (act : Activity) (back : State) → act ≡ activity.Connecting part → ((l : Link) → slice_get ls part ≡ Some l → (length (held_of l) ≡ 2) × (idle l ≡ true)) → length ls ≤ part + 1 → is_open activity.Between false back ≡ true → Whole dom o hand reply at old_round act ls → Whole dom (is_open activity.Between false back) None reply at (round.Looks 0 false) activity.Between ls
+  pub whole_met : (part : ℕ) (act : Activity) (back : State) → act ≡ activity.Connecting part → ((l : Link) → slice_get ls part ≡ Some l → (length (held_of l) ≡ 2) × (idle l ≡ true)) → length ls ≤ part + 1 → is_open activity.Between false back ≡ true → Whole dom o at old_round act ls → Whole dom (is_open activity.Between false back) at (round.Looks 0 false) activity.Between ls
   whole_met part act back e met past p w =
       let n = length ls in
-      let v = subst (λ (a : Activity). Whole dom o hand reply at old_round a ls) e w in
-      subst (λ (x : Bool). Whole dom x None reply at (round.Looks 0 false) activity.Between ls) (sym p)
-      (make_whole dom true None reply at (round.Looks 0 false) activity.Between ls n refl w.some w.few w.at_in w.some w.some
+      let v = subst (λ (a : Activity). Whole dom o at old_round a ls) e w in
+      subst (λ (x : Bool). Whole dom x at (round.Looks 0 false) activity.Between ls) (sym p)
+      (make_whole dom true at (round.Looks 0 false) activity.Between ls n refl w.some w.few w.at_in w.some w.some
       (λ i l g.
       let f = v.fits i l g in
       let lt = within ls i l g in
@@ -125,7 +126,7 @@ module _ (dom : ℕ) (o : Bool) (hand : Option Request) (reply : List ℕ) (at :
         | inr other ↦
             record { dom_is = f.dom_is; both = λ b. f.both (omega (arith, b, other, past)); none = λ b. absurd (omega (arith, b, lt)); rests = λ _. f.rests other; ring = λ h. absurd (false≢true h) }
       ])
-      (λ q h. let wrong : ⊥ = cc in absurd wrong) (λ h. absurd (false≢true h)) (λ h. absurd (false≢true h)))
+      (λ h. absurd (false≢true h)))
 
 -- what is left of a Connect is the Connect of the next part
 pub later_is : (site : Site) (nodes : List NodeValue) (part : ℕ) (ls : List Link) (met : List Joined) (l : Link) → slice_get ls part ≡ Some l → idle l ≡ true → dom_of l ≡ site.dom → part < site.parts → later site nodes part met ≡ connect_from site nodes part met (slice_get ls part)
@@ -201,9 +202,9 @@ pub parts_leaving : (o : Bool) (ls ks : List Link) → o ≡ false → parts_in 
 parts_leaving o ls ks e = ap (λ x. parts_in x ks) e ∙ ap (λ x. parts_in x ls) (sym e)
 
 -- the stand while a Connect is under way
-pub connect_stand : (site : Site) (w v : Work) (read : List NodeValue) (ls : List Link) (reply : List ℕ) (at k : ℕ) (act : Activity) (new : Link) → act ≡ activity.Connecting k → k < length ls → v ≡ w → stand_in site v read (slice_set ls k new) reply at act ≡ stand_at w (connect_from site read k (met_links k ls) (Some new))
-connect_stand site w v read ls reply at k act new e lt same =
-    ap (stand_in site v read (slice_set ls k new) reply at) e
+pub connect_stand : (site : Site) (w v : Work) (read : List NodeValue) (s : Stock) (walk : Option Walk) (ls : List Link) (reply : List ℕ) (at k : ℕ) (act : Activity) (new : Link) → act ≡ activity.Connecting k → k < length ls → v ≡ w → stand_in site v read s walk (slice_set ls k new) reply at act ≡ stand_at w (connect_from site read k (met_links k ls) (Some new))
+connect_stand site w v read s walk ls reply at k act new e lt same =
+    ap (stand_in site v read s walk (slice_set ls k new) reply at) e
     ∙ (ap (λ (xs : List Link). stand_at v (connect_from site read k (map joined_of xs) (slice_get (slice_set ls k new) k))) (take-set ls k new)
     ∙ (ap (λ x. stand_at v (connect_from site read k (met_links k ls) x)) (get_set ls k new lt)
     ∙ ap (λ u. stand_at u (connect_from site read k (met_links k ls) (Some new))) same))
@@ -238,3 +239,13 @@ pub went_as : (site : Site) (v w : Work) (read : List NodeValue) (k : ℕ) (js k
 went_as site v w read k js ks event new e f went =
     subst (λ (x : Work). Went (display site) x (later site read k ks) event new) e
     (subst (λ (x : List Joined). Went (display site) v (later site read k x) event new) f went)
+
+-- the first page of several goes first
+pub may_first : (may : Want → Type 0) (end : Ending) (hs ks : List Hold) (h : Hold) → slice_get hs 0 ≡ Some h → MayGo may (leaving_plan end (hs ++ ks)) → may (unmap_want h)
+may_first may end [] ks h e m = let wrong : ⊥ = cc in absurd wrong
+may_first may end (x ∷ xs) ks h e m =
+    let same : x ≡ h = cc in
+    subst (λ (y : Hold). may (unmap_want y)) same m
+
+pub first_of : (hs : List Hold) (h : Hold) (rest : List Hold) → hs ≡ h ∷ rest → slice_get hs 0 ≡ Some h
+first_of hs h rest e = ap (λ xs. slice_get xs 0) e

@@ -11,20 +11,24 @@ use Rattle.pv_words.specs.declared.grant.Mode.TheVariants.{Write}
 use Rattle.pv_words.specs.Plan.{Plan, Finished, Make, Want, Goes, MayGo, IsUnfinished, joined, mapped}
 use Rattle.grant_table.specs.Mapping.{flags_plan}
 use Rattle.link_core.specs.Activities.{Joined, hold_list, connect_plan, with_ring, unmaps}
-use Rattle.link_core.specs.Order.{Stand, Between, Steps, Went, MayStep}
+use Rattle.display_backend.specs.Stock.{Stock, pages_of}
+use Rattle.link_core.specs.Order.{Act, Stand, Between, Steps, Went, MayStep}
 use Rattle.link_core.proofs.Steps.{steps_during, steps_said}
 use Rattle.display_backend.specs.declared.display.Ending.{Ending}
 use Rattle.display_backend.specs.declared.display.Ending.TheVariants as ending
 use Rattle.display_backend.specs.Machine.{Site}
 use Rattle.display_backend.specs.Display.{why_of, stuck, stand_at, end_of, reason_of, refs_from, refs_at}
 use Rattle.display_backend.specs.Goes.{Closes, GoesOut}
-use Rattle.display_backend.specs.Work.{Work, End, Saw, Took, Answered, Slept, Met, Denied, Lacked, Shut, Left, Renewed, display, choice, leaving, settled, said_at, shut, all_pages, after_part}
+use Rattle.display_backend.proofs.Stocks.{bare_stripped}
+use Rattle.display_backend.specs.Work.{Work, End, Saw, Took, Listed, Freed, Answered, Slept, Met, Denied, Lacked, Shut, Left, Renewed, display, choice, leaving, settled, said_at, shut, all_pages, after_part}
 
 why_is : (end : End) (why : Reason) → Closes end why → why_of end ≡ why
 why_is (Denied r) why h = sym h
 why_is (Shut r) why h = sym h
 why_is (Saw x) why h = absurd h
 why_is (Took x) why h = absurd h
+why_is (Listed x) why h = absurd h
+why_is Freed why h = absurd h
 why_is (Answered x) why h = absurd h
 why_is (Slept x) why h = absurd h
 why_is (Met x) why h = absurd h
@@ -35,20 +39,22 @@ why_is Renewed why h = absurd h
 end_in : {A : Type 0} (x y : A) → Finished x ≡ Finished y → x ≡ y
 end_in x y e = cc
 
-stuck_steps : (site : Site) (w : Work) (why : Reason) (event : Option Said) (new : Stand Work End) → event ≡ Some (said.Closed why) → new ≡ Between (shut w) → Steps (display site) (Between (stuck w why)) None event new
+stuck_steps : (site : Site) (w : Work) (why : Reason) (event : Option Said) (new : Stand Work End) → pages_of w.stock ≡ [] → event ≡ Some (said.Closed why) → new ≡ Between (shut w) → Steps (display site) (Between (stuck w why)) None event new
 unfolding choice said_at settled
-stuck_steps site w why event new e n =
+stuck_steps site w why event new bare e n =
+    let none : choice site (stuck w why) ≡ Act (leaving (stuck w why)) (Finished (Shut why)) = ap (λ (hs : List Hold). Act (leaving (stuck w why)) (unmaps (hs ++ []) (Finished (Shut why)))) bare in
+    let same : shut w ≡ shut (leaving (stuck w why)) = ap (λ (s : Stock). record (shut w) { stock = s }) (sym (bare_stripped w.stock bare)) in
     subst (λ (x : Option Said). Steps (display site) (Between (stuck w why)) None x new) (sym e)
-    (steps_said (display site) (stuck w why) (leaving (stuck w why)) (Shut why) (said.Closed why) new refl refl n)
+    (steps_said (display site) (stuck w why) (leaving (stuck w why)) (Shut why) (said.Closed why) new none refl (n ∙ ap (λ x. Between x) same))
 
-pub steps_out : (site : Site) (w : Work) (p : Plan End) (access : Option Access) (event : Option Said) (new : Stand Work End) → GoesOut site w p access event new → Steps (display site) (stand_at w p) access event new
-steps_out site w (Make want note more) None event new g = let over = g.over in let wrong : ⊥ = cc over in absurd wrong
-steps_out site w (Make want note more) (Some a) event new g = steps_during (display site) w (Make want note more) (Some a) event new g
-steps_out site w (Finished end) (Some a) event new g = absurd g.1
-steps_out site w (Finished end) None event new g =
+pub steps_out : (site : Site) (w : Work) (p : Plan End) (access : Option Access) (event : Option Said) (new : Stand Work End) → pages_of w.stock ≡ [] → GoesOut site w p access event new → Steps (display site) (stand_at w p) access event new
+steps_out site w (Make want note more) None event new bare g = let over = g.over in let wrong : ⊥ = cc over in absurd wrong
+steps_out site w (Make want note more) (Some a) event new bare g = steps_during (display site) w (Make want note more) (Some a) event new g
+steps_out site w (Finished end) (Some a) event new bare g = absurd g.1
+steps_out site w (Finished end) None event new bare g =
     let same : end ≡ g.end = end_in end g.end g.over in
     let why : why_of end ≡ g.why = ap why_of same ∙ why_is g.end g.why g.closes in
-    stuck_steps site w (why_of end) event new (g.says ∙ ap (λ (r : Reason). Some (said.Closed r)) (sym why)) g.left
+    stuck_steps site w (why_of end) event new bare (g.says ∙ ap (λ (r : Reason). Some (said.Closed r)) (sym why)) g.left
 
 pub may_out : (site : Site) (may : Want → Type 0) (w : Work) (p : Plan End) → MayStep may (display site) (stand_at w p) → MayGo may p
 may_out site may w (Make want note more) h = h

@@ -7,6 +7,8 @@ use Rattle.pv_words.specs.declared.device.Said.{Said}
 use Rattle.pv_words.specs.declared.device.State.{State}
 use Rattle.pv_words.specs.declared.device.NodeValue.{NodeValue}
 use Rattle.pv_words.specs.Plan.{Plan, Finished, Make, Goes, Turns, IsUnfinished, mapped, joined}
+use Rattle.display_backend.specs.Stock.{Stock}
+use Rattle.page_directory.specs.declared.walk.Walk.{Walk}
 use Rattle.link_core.specs.declared.link.Link.{Link}
 use Rattle.link_core.specs.Activities.{Page, sleep_plan}
 use Rattle.link_core.specs.Link.{idle, held_of, joined_of, rsp_of, sleep_left}
@@ -108,10 +110,12 @@ heard_during : (site : Site) (w : Work) (front : State) (nodes : List NodeValue)
 heard_during site w front nodes (Finished x) = refl
 heard_during site w front nodes (Make want note more) = refl
 
-pub heard_in : (site : Site) (w : Work) (read : List NodeValue) (ls : List Link) (reply : List ℕ) (at : ℕ) (a : Activity) (front : State) (nodes : List NodeValue) → stand_in site (told w front nodes) read ls reply at a ≡ next (display site) (stand_in site w read ls reply at a) (Heard front nodes)
-heard_in site w read ls reply at activity.Between front nodes = refl
-heard_in site w read ls reply at (activity.Connecting part) front nodes = heard_at site w front nodes _
-heard_in site w read ls reply at (activity.Leaving end) front nodes = heard_at site w front nodes _
-heard_in site w read ls reply at activity.Taking front nodes = heard_during site w front nodes _
-heard_in site w read ls reply at activity.Answering front nodes = heard_during site w front nodes _
-heard_in site w read ls reply at (activity.Sleeping part) front nodes = heard_during site w front nodes _
+pub heard_in : (site : Site) (w : Work) (read : List NodeValue) (s : Stock) (k : Option Walk) (ls : List Link) (reply : List ℕ) (at : ℕ) (a : Activity) (front : State) (nodes : List NodeValue) → stand_in site (told w front nodes) read s k ls reply at a ≡ next (display site) (stand_in site w read s k ls reply at a) (Heard front nodes)
+heard_in site w read s k ls reply at activity.Between front nodes = refl
+heard_in site w read s k ls reply at (activity.Connecting part) front nodes = heard_at site w front nodes _
+heard_in site w read s k ls reply at (activity.Leaving end) front nodes = heard_at site w front nodes _
+heard_in site w read s k ls reply at activity.Taking front nodes = heard_during site w front nodes _
+heard_in site w read s k ls reply at activity.Walking front nodes = heard_during site w front nodes _
+heard_in site w read s k ls reply at (activity.Freeing cookie) front nodes = heard_during site w front nodes _
+heard_in site w read s k ls reply at activity.Answering front nodes = heard_during site w front nodes _
+heard_in site w read s k ls reply at (activity.Sleeping part) front nodes = heard_during site w front nodes _

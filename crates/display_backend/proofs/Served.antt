@@ -1,16 +1,14 @@
 -- What stays true of a display's fields while it serves.
-use Rattle.std.proofs.Common.{◌≡◌, ◌≢◌, ℕ, ◌+◌, ◌<◌, Bool, true, false, List, Option, Some, length, is_some, slice_get, slice_set, refl, sym, ap, subst, ◌∙◌, if◌then◌else◌, arith}
+use Rattle.std.proofs.Common.{◌≡◌, ◌≢◌, ℕ, ◌+◌, ◌<◌, Bool, true, false, List, Some, length, slice_get, slice_set, refl, sym, ap, subst, ◌∙◌, if◌then◌else◌, arith}
 use Rattle.std.proofs.lemmas.Bool.{false≢true}
 use Rattle.std.proofs.lemmas.List.{length-set}
 use Rattle.pv_words.specs.declared.device.State.{State}
-use Rattle.displ_wire.specs.declared.Request.{Request}
 use Rattle.link_core.specs.declared.link.Link.{Link}
 use Rattle.link_core.specs.Link.{dom_of, held_of, idle}
 use Rattle.display_backend.specs.declared.display.Activity.{Activity}
 use Rattle.display_backend.specs.declared.display.Activity.TheVariants as activity
 use Rattle.display_backend.specs.declared.display.Round.{Round}
-use Rattle.display_backend.specs.Activity.{is_open, is_serving, is_answering, uses_ring, is_mapping, met_in, bare_in, busy_in, part_of}
-use Rattle.display_backend.specs.Reply.{reply_to}
+use Rattle.display_backend.specs.Activity.{is_open, is_serving, uses_ring, is_mapping, met_in, bare_in, busy_in, part_of}
 use Rattle.display_backend.specs.Whole.{Whole}
 use Rattle.display_backend.specs.Work.{part_in}
 use Rattle.display_backend.proofs.Lists.{got, get_set_other}
@@ -21,6 +19,8 @@ met_serving activity.Between o n h = refl
 met_serving (activity.Connecting part) o n h = absurd (false≢true h)
 met_serving (activity.Leaving end) o n h = absurd (false≢true h)
 met_serving activity.Taking o n h = refl
+met_serving activity.Walking o n h = refl
+met_serving (activity.Freeing cookie) o n h = refl
 met_serving activity.Answering o n h = refl
 met_serving (activity.Sleeping part) o n h = refl
 
@@ -29,6 +29,8 @@ bare_serving activity.Between o n h = refl
 bare_serving (activity.Connecting part) o n h = absurd (false≢true h)
 bare_serving (activity.Leaving end) o n h = absurd (false≢true h)
 bare_serving activity.Taking o n h = refl
+bare_serving activity.Walking o n h = refl
+bare_serving (activity.Freeing cookie) o n h = refl
 bare_serving activity.Answering o n h = refl
 bare_serving (activity.Sleeping part) o n h = refl
 
@@ -37,19 +39,21 @@ mapping_serving activity.Between h = refl
 mapping_serving (activity.Connecting part) h = absurd (false≢true h)
 mapping_serving (activity.Leaving end) h = absurd (false≢true h)
 mapping_serving activity.Taking h = refl
+mapping_serving activity.Walking h = refl
+mapping_serving (activity.Freeing cookie) h = refl
 mapping_serving activity.Answering h = refl
 mapping_serving (activity.Sleeping part) h = refl
 
 -- The link k is busy, and changes; what it holds stays. The activity a goes on as b.
-pub served : (dom : ℕ) (closing : Bool) (back : State) (hand hand' : Option Request) (reply reply' : List ℕ) (at at' : ℕ) (round round' : Round) (a b : Activity) (ls : List Link) → Whole dom (is_open a closing back) hand reply at round a ls
+pub served : (dom : ℕ) (closing : Bool) (back : State) (at at' : ℕ) (round round' : Round) (a b : Activity) (ls : List Link) → Whole dom (is_open a closing back) at round a ls
     → (k : ℕ) (old new : Link) → slice_get ls k ≡ Some old
     → AllFit dom (if is_open a closing back then length ls else 0) (if is_open a closing back then length ls else 0) k false ls
     → is_serving b ≡ true → is_open b closing back ≡ is_open a closing back
     → dom_of new ≡ dom_of old → held_of new ≡ held_of old → (k ≢ busy_in b at' (length ls) → idle new ≡ true)
     → at' < length ls → part_in round' < length ls → part_of b < length ls
-    → ((q : Request) → hand' ≡ Some q → reply' ≡ reply_to q) → (is_answering b ≡ true → is_some hand' ≡ true) → (uses_ring b ≡ true → is_open b closing back ≡ true)
-    → Whole dom (is_open b closing back) hand' reply' at' round' b (slice_set ls k new)
-served dom closing back hand hand' reply reply' at at' round round' a b ls w k old new e fits s same d h rests at_in round_in come_to ready answers uses =
+    → (uses_ring b ≡ true → is_open b closing back ≡ true)
+    → Whole dom (is_open b closing back) at' round' b (slice_set ls k new)
+served dom closing back at at' round round' a b ls w k old new e fits s same d h rests at_in round_in come_to uses =
     let n = length ls in
     let o = is_open a closing back in
     let t = if o then n else 0 in
@@ -59,7 +63,7 @@ served dom closing back hand hand' reply reply' at at' round round' a b ls w k o
     let one = subst (λ m. AllFit dom m t (busy_in b at' n) false (slice_set ls k new)) met now in
     let two = subst (λ m. AllFit dom (met_in b (is_open b closing back) n) m (busy_in b at' n) false (slice_set ls k new)) bare one in
     let three = subst (λ m. AllFit dom (met_in b (is_open b closing back) n) (bare_in b (is_open b closing back) n) (busy_in b at' n) m (slice_set ls k new)) (sym (mapping_serving b s)) two in
-    make_whole dom (is_open b closing back) hand' reply' at' round' b (slice_set ls k new) n (length-set ls k new) w.some w.few at_in round_in come_to three ready answers uses
+    make_whole dom (is_open b closing back) at' round' b (slice_set ls k new) n (length-set ls k new) w.some w.few at_in round_in come_to three uses
 
 -- the link that follows one that is busy, where all hold both pages
 pub following : (dom k : ℕ) (o : Bool) (ls : List Link) (new : Link) → o ≡ true → AllFit dom (if o then length ls else 0) (if o then length ls else 0) k false ls → k + 1 < length ls → (l : Link) × (slice_get (slice_set ls k new) (k + 1) ≡ Some l) × (idle l ≡ true) × (length (held_of l) ≡ 2)
@@ -68,3 +72,40 @@ following dom k o ls new e fits lt =
     let f = fits (k + 1) g.0 g.1 in
     let all : k + 1 < (if o then length ls else 0) = rw e lt in
     (g.0, get_set_other ls k (k + 1) new (omega arith) ∙ g.1, f.rests (omega arith), f.both all)
+
+-- Between two activities, and while pages of buffers are mapped or unmapped, all links rest.
+abbrev pub is_aside : Activity → Bool
+is_aside activity.Between = true
+is_aside (activity.Connecting part) = false
+is_aside (activity.Leaving end) = false
+is_aside activity.Taking = false
+is_aside activity.Walking = true
+is_aside (activity.Freeing cookie) = true
+is_aside activity.Answering = false
+is_aside (activity.Sleeping part) = false
+
+aside_is : (a : Activity) (at n : ℕ) → is_aside a ≡ true → (is_serving a ≡ true) × (busy_in a at n ≡ n) × (part_of a ≡ 0)
+aside_is activity.Between at n h = (refl, refl, refl)
+aside_is (activity.Connecting part) at n h = absurd (false≢true h)
+aside_is (activity.Leaving end) at n h = absurd (false≢true h)
+aside_is activity.Taking at n h = absurd (false≢true h)
+aside_is activity.Walking at n h = (refl, refl, refl)
+aside_is (activity.Freeing cookie) at n h = (refl, refl, refl)
+aside_is activity.Answering at n h = absurd (false≢true h)
+aside_is (activity.Sleeping part) at n h = absurd (false≢true h)
+
+pub whole_aside : (dom : ℕ) (o o' : Bool) (at : ℕ) (round : Round) (a b : Activity) (ls : List Link) → is_aside a ≡ true → is_aside b ≡ true → o' ≡ o → (uses_ring b ≡ true → o' ≡ true) → Whole dom o at round a ls → Whole dom o' at round b ls
+whole_aside dom o o' at round a b ls h i e uses w =
+    let n = length ls in
+    let f = aside_is a at n h in
+    let g = aside_is b at n i in
+    let met : met_in a o n ≡ met_in b o' n = met_serving a o n f.0 ∙ (ap (λ (x : Bool). if x then n else 0) (sym e) ∙ sym (met_serving b o' n g.0)) in
+    let bare : bare_in a o n ≡ bare_in b o' n = bare_serving a o n f.0 ∙ (ap (λ (x : Bool). if x then n else 0) (sym e) ∙ sym (bare_serving b o' n g.0)) in
+    let busy : busy_in a at n ≡ busy_in b at n = f.1 ∙ sym g.1 in
+    let mapping : is_mapping a ≡ is_mapping b = mapping_serving a f.0 ∙ sym (mapping_serving b g.0) in
+    let one = subst (λ m. AllFit dom m (bare_in a o n) (busy_in a at n) (is_mapping a) ls) met w.fits in
+    let two = subst (λ m. AllFit dom (met_in b o' n) m (busy_in a at n) (is_mapping a) ls) bare one in
+    let three = subst (λ m. AllFit dom (met_in b o' n) (bare_in b o' n) m (is_mapping a) ls) busy two in
+    let four = subst (λ m. AllFit dom (met_in b o' n) (bare_in b o' n) (busy_in b at n) m ls) mapping three in
+    let first : part_of b < n = omega (arith, w.some, g.2) in
+    make_whole dom o' at round b ls n refl w.some w.few w.at_in w.round_in first four uses

@@ -1,5 +1,5 @@
 -- The pages of the parts are held along each activity of a connected display.
-use Rattle.std.proofs.Common.{◌≡◌, inl, ℕ, zero, suc, ◌+◌, ◌≤◌, ◌==◌, Bool, true, false, List, [], ◌∷◌, ◌++◌, Option, Some, None, refl, sym, ◌∙◌, ap, subst, arith, length, append_assoc, append-nil, slice_get, set, length-set}
+use Rattle.std.proofs.Common.{◌≡◌, inl, ℕ, zero, suc, ◌+◌, ◌≤◌, ◌==◌, ℤ, Bool, true, false, List, [], ◌∷◌, ◌++◌, Option, Some, None, refl, sym, ◌∙◌, ap, subst, arith, length, append_assoc, append-nil, slice_get, set, length-set}
 use Rattle.std.proofs.lemmas.List.{length-replicate}
 use Rattle.pv_words.specs.declared.grant.Hold.{Hold}
 use Rattle.pv_words.specs.Held.{Holds, IsProper, holding, holds_of}
@@ -11,7 +11,8 @@ use Rattle.link_core.specs.Activities.{Joined, slot_place, pages_of, hold_list, 
 use Rattle.link_core.proofs.PlanFits.{fits_loads, fits_stores}
 use Rattle.display_backend.specs.Reply.{reply_to}
 use Rattle.display_backend.specs.Work.{ring_hold, ring_page, all_pages, sleep_all, sleeps_on, counted}
-use Rattle.display_backend.proofs.SoundPlans.{IsIn, in_left, in_right, Fit, AllOwn, own_in, may_load, may_store}
+use Rattle.display_backend.proofs.SoundPlans.{Fit, IsOwn, AllOwn, own_in, own_behind, may_load, may_store}
+use Rattle.display_backend.proofs.SoundSame.{IsIn, in_left, in_right}
 
 ring_first : (ring : Option Hold) (event : Hold) → IsIn (ring_hold event ring) (hold_list ring ++ event ∷ [])
 ring_first None event = inl refl
@@ -47,39 +48,38 @@ pub counted_length : (js : List Joined) (k : ℕ) (x : Option Joined) → length
 counted_length js k None = refl
 counted_length js k (Some j) = length-set js k (record j { rsp = next_index j.rsp })
 
-reply_short : (q : Request) → 0 + length (reply_to q) ≤ 16
-reply_short q = omega (arith, length-replicate {A = ℕ} 14 0)
+reply_short : (q : Request) (status : ℤ) → 0 + length (reply_to q status) ≤ 16
+reply_short q status = omega (arith, length-replicate {A = ℕ} 14 0)
 
-module _ (frames grants : ℕ → ℕ) (dom : ℕ) (held : List Hold) (own : AllOwn frames grants dom held) where
-  module _ (j : Joined) (at : IsIn (ring_hold j.event j.ring) held) where
+module _ (frames grants : ℕ → ℕ) (dom : ℕ) (held : List Hold) where
+  -- the page of the ring is the domain's own, and is held
+  module _ (j : Joined) (own : IsOwn frames grants dom (ring_hold j.event j.ring)) (at : IsIn (ring_hold j.event j.ring) held) where
     pub fits_look : (Q : Holds → Looked → Type 0) → ((prod : ℕ) → Q (holds_of held) (looked_of j.rsp prod)) → Fit frames grants dom Q (holds_of held) (look_plan (ring_page j) j.rsp)
-    fits_look Q h = (may_load frames grants dom (ring_hold j.event j.ring) held 0 (own_in frames grants dom (ring_hold j.event j.ring) held own at) at (omega arith), λ v. h v)
+    fits_look Q h = (may_load frames grants dom (ring_hold j.event j.ring) held 0 own at (omega arith), λ v. h v)
 
     pub fits_take : (Q : Holds → List ℕ → Type 0) → ((words : List ℕ) → Q (holds_of held) words) → Fit frames grants dom Q (holds_of held) (take_plan (ring_page j) j.rsp)
     fits_take Q h =
-        let o = own_in frames grants dom (ring_hold j.event j.ring) held own at in
         fits_loads (IsProper frames grants dom) (holding frames) Q (holds_of held) (slot_place (ring_page j) j.rsp) Finished 16
-        (λ i small. may_load frames grants dom (ring_hold j.event j.ring) held (slot_of j.rsp i) o at (omega arith)) (λ i v. refl) h 16 0 [] (omega arith)
+        (λ i small. may_load frames grants dom (ring_hold j.event j.ring) held (slot_of j.rsp i) own at (omega arith)) (λ i v. refl) h 16 0 [] (omega arith)
 
-    pub fits_answer : (Q : Holds → Bool → Type 0) (q : Request) → ((b : Bool) → Q (holds_of held) b) → Fit frames grants dom Q (holds_of held) (answer_plan (ring_page j) j.rsp (reply_to q))
-    fits_answer Q q h =
-        let o = own_in frames grants dom (ring_hold j.event j.ring) held own at in
+    pub fits_answer : (Q : Holds → Bool → Type 0) (q : Request) (status : ℤ) → ((b : Bool) → Q (holds_of held) b) → Fit frames grants dom Q (holds_of held) (answer_plan (ring_page j) j.rsp (reply_to q status))
+    fits_answer Q q status h =
         fits_stores (IsProper frames grants dom) (holding frames) Q (holds_of held) (slot_place (ring_page j) j.rsp) (publish_plan (ring_page j) j.rsp) 16
-        (λ i v small. may_store frames grants dom (ring_hold j.event j.ring) held (slot_of j.rsp i) v o at (omega arith)) (λ i v. refl)
-        (may_store frames grants dom (ring_hold j.event j.ring) held 2 (next_index j.rsp) o at (omega arith), λ v. (may_load frames grants dom (ring_hold j.event j.ring) held 3 o at (omega arith), λ event. h _))
-        0 (reply_to q) (reply_short q)
+        (λ i v small. may_store frames grants dom (ring_hold j.event j.ring) held (slot_of j.rsp i) v own at (omega arith)) (λ i v. refl)
+        (may_store frames grants dom (ring_hold j.event j.ring) held 2 (next_index j.rsp) own at (omega arith), λ v. (may_load frames grants dom (ring_hold j.event j.ring) held 3 own at (omega arith), λ event. h _))
+        0 (reply_to q status) (reply_short q status)
 
   module _ (Q : Holds → Bool → Type 0) (last : (b : Bool) → Q (holds_of held) b) where
     sleeps_so : (more : Plan Bool) (b : Bool) → Fit frames grants dom Q (holds_of held) more → Fit frames grants dom Q (holds_of held) (sleeps_on more b)
     sleeps_so more true f = f
     sleeps_so more false f = last false
 
-    pub fits_sleeps : (js : List Joined) → ((h : Hold) → IsIn h (all_pages js) → IsIn h held) → Fit frames grants dom Q (holds_of held) (sleep_all js)
-    fits_sleeps [] sub = last true
-    fits_sleeps (j ∷ js) sub =
+    pub fits_sleeps : (js : List Joined) → AllOwn frames grants dom (all_pages js) → ((h : Hold) → IsIn h (all_pages js) → IsIn h held) → Fit frames grants dom Q (holds_of held) (sleep_all js)
+    fits_sleeps [] own sub = last true
+    fits_sleeps (j ∷ js) own sub =
         let at = sub (ring_hold j.event j.ring) (ring_in j js) in
-        let o = own_in frames grants dom (ring_hold j.event j.ring) held own at in
-        let rest = fits_sleeps js (λ h i. sub h (in_right h (pages_of j) (all_pages js) i)) in (
+        let o = own_in frames grants dom (ring_hold j.event j.ring) (all_pages (j ∷ js)) own (ring_in j js) in
+        let rest = fits_sleeps js (own_behind frames grants dom (pages_of j) (all_pages js) own) (λ h i. sub h (in_right h (pages_of j) (all_pages js) i)) in (
           may_store frames grants dom (ring_hold j.event j.ring) held 1 (next_index j.rsp) o at (omega arith),
           λ v. (may_load frames grants dom (ring_hold j.event j.ring) held 0 o at (omega arith), λ prod. sleeps_so (sleep_all js) (prod == j.rsp) rest),
         )

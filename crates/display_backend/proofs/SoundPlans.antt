@@ -1,27 +1,17 @@
 -- Pages that are the device's own: what may be accessed where they are held, and how they come and go.
-use Rattle.std.proofs.Common.{◌≡◌, inl, inr, ℕ, ◌<◌, List, [], ◌∷◌, ◌++◌, Option, Some, None, refl, sym, ◌∙◌, ap, subst, append-nil}
+use Rattle.std.proofs.Common.{◌≡◌, inl, inr, ℕ, ◌<◌, List, [], ◌∷◌, ◌++◌, Option, Some, None, refl, sym, ◌∙◌, ap, subst, arith}
 use Rattle.pv_words.specs.declared.grant.GrantRefusal.{GrantRefusal}
 use Rattle.pv_words.specs.declared.grant.Hold.{Hold}
 use Rattle.pv_words.specs.declared.grant.Mode.TheVariants.{Write}
-use Rattle.pv_words.specs.Held.{Has, Holds, Covers, CoversToWrite, IsProper, holding, holds_of}
+use Rattle.pv_words.specs.Held.{Has, Holds, Covers, CoversToWrite, IsProper, holding, holds_of, unheld}
 use Rattle.pv_words.specs.Plan.{Plan, Load, Store, Plain, FitsFrom}
 use Rattle.grant_table.specs.Laws.{IsHold, IsCause}
 use Rattle.link_core.specs.Activities.{hold_list, page_at, word_of, unmaps}
 use Rattle.link_core.specs.Laws.{AreOf, IsRing, IsRefused}
-use Rattle.link_core.proofs.PlanFits.{fits_unmaps}
-
--- one of these pages
-abbrev pub IsIn : Hold → List Hold → Type 0
-IsIn h held = Has (λ k. k ≡ h) held
-
-pub in_left : (h : Hold) (xs ys : List Hold) → IsIn h xs → IsIn h (xs ++ ys)
-in_left h [] ys at = absurd at
-in_left h (x ∷ xs) ys (inl e) = inl e
-in_left h (x ∷ xs) ys (inr at) = inr (in_left h xs ys at)
-
-pub in_right : (h : Hold) (xs ys : List Hold) → IsIn h ys → IsIn h (xs ++ ys)
-in_right h [] ys at = at
-in_right h (x ∷ xs) ys at = inr (in_right h xs ys at)
+use Rattle.grant_table.proofs.Holdings.{unmaps_exactly}
+use Rattle.page_directory.specs.Same.{AreSame}
+use Rattle.page_directory.proofs.Counts.{times_here, times_unheld, has_counted}
+use Rattle.display_backend.proofs.SoundSame.{IsIn}
 
 covered : (h : Hold) (held : List Hold) → IsIn h held → Has (Covers h.dom.0 h.frame.0) held
 covered h [] at = absurd at
@@ -57,6 +47,10 @@ module _ (frames grants : ℕ → ℕ) (dom : ℕ) where
   own_append [] ys a b = b
   own_append (x ∷ xs) ys a b = (a.0, own_append xs ys a.1 b)
 
+  pub own_behind : (xs ys : List Hold) → AllOwn (xs ++ ys) → AllOwn ys
+  own_behind [] ys a = a
+  own_behind (x ∷ xs) ys a = own_behind xs ys a.1
+
   -- a word of a page that is held may be loaded, and stored
   pub may_load : (h : Hold) (held : List Hold) (w : ℕ) → IsOwn h → IsIn h held → w < 1024 → IsProper frames grants dom (holds_of held) (Load (word_of (page_at h) w)) Plain
   may_load h held w o at small = ((subst (λ d. h.frame.0 < frames d) (sym o.dom_is) o.frame_in, small), (covered h held at, tt))
@@ -64,14 +58,19 @@ module _ (frames grants : ℕ → ℕ) (dom : ℕ) where
   pub may_store : (h : Hold) (held : List Hold) (w v : ℕ) → IsOwn h → IsIn h held → w < 1024 → IsProper frames grants dom (holds_of held) (Store (word_of (page_at h) w) v) Plain
   may_store h held w v o at small = ((subst (λ d. h.frame.0 < frames d) (sym o.dom_is) o.frame_in, small), (covered_to_write h held o.mode_is at, tt))
 
-  own_are : (hs : List Hold) → AllOwn hs → AreOf (grants dom) dom hs
+  pub own_are : (hs : List Hold) → AllOwn hs → AreOf (grants dom) dom hs
   own_are [] all = tt
   own_are (h ∷ hs) all = (all.0.dom_is, all.0.gref_in, own_are hs all.1)
 
-  -- pages that are unmapped in order are held no longer
-  pub fits_drop : {A : Type 0} (Q : Holds → A → Type 0) (more : Plan A) (hs : List Hold) → AllOwn hs → Fit Q (holds_of []) more → Fit Q (holds_of hs) (unmaps hs more)
-  fits_drop Q more hs all last =
-      subst (λ x. Fit Q (holds_of x) (unmaps hs more)) (append-nil hs) (fits_unmaps frames grants dom Q hs [] more (own_are hs all) last)
+  -- pages that are unmapped in order are held no longer, the others still are
+  pub fits_drop : {A : Type 0} (Q : Holds → A → Type 0) (more : Plan A) (rest hs held : List Hold) → AreOf (grants dom) dom hs → AreSame held (hs ++ rest) → ((left : List Hold) → AreSame left rest → Fit Q (holds_of left) more) → Fit Q (holds_of held) (unmaps hs more)
+  fits_drop Q more rest [] held are same last = last held same
+  fits_drop Q more rest (h ∷ hs) held are same last =
+      let has : IsIn h held = has_counted h held (omega (arith, same h, times_here h (hs ++ rest))) in
+      let left : AreSame (unheld h held) (hs ++ rest) = λ k. omega (arith, same k, times_unheld k h held has) in (
+        (unmaps_exactly frames grants dom h held 0 are.0 are.1 has).0,
+        λ v. subst (λ (t : Holds). Fit Q t (unmaps hs more)) (sym (unmaps_exactly frames grants dom h held v are.0 are.1 has).1) (fits_drop Q more rest hs (unheld h held) are.2 left last),
+      )
 
   -- the pages of a link that is joined by these references
   pub own_joined : (ring event : ℕ) (o : Option Hold) (e : Hold) → IsRing (frames dom) (grants dom) dom (Some ring) o → IsHold (frames dom) (grants dom) dom event Write e → AllOwn (hold_list o ++ e ∷ [])

@@ -1,82 +1,187 @@
 -- What a display says at an activity's end is a move of the machine, and an end that says nothing changes no row.
-use Rattle.std.proofs.Common.{◌≡◌, ℕ, Bool, true, false, List, [], Option, Some, None, refl, sym, ap, subst}
+use Rattle.std.proofs.Common.{◌≡◌, ℕ, Bool, true, false, List, [], ◌∷◌, ◌++◌, Option, Some, None, refl, sym, ◌∙◌, ap, subst, length}
+use Rattle.std.proofs.lemmas.Bool.{true≢false}
 use Rattle.pv_words.specs.declared.device.Said.{Said}
 use Rattle.pv_words.specs.declared.device.Said.TheVariants as said
 use Rattle.pv_words.specs.declared.device.Reason.{Reason}
 use Rattle.pv_words.specs.declared.device.Reason.TheVariants as reason
+use Rattle.pv_words.specs.declared.device.State.{State}
 use Rattle.pv_words.specs.declared.device.State.TheVariants as state
+use Rattle.pv_words.specs.declared.grant.GrantRefusal.{GrantRefusal}
+use Rattle.pv_words.specs.declared.grant.Hold.{Hold}
+use Rattle.pv_words.specs.declared.place.Place.{Place}
+use Rattle.pv_words.specs.Memory.{Memory}
 use Rattle.displ_wire.specs.Wire.{request_of}
+use Rattle.display_buffers.specs.declared.live.Live.{Live}
+use Rattle.display_backend.specs.Stock.{Stock, no_stock, pages_of, buffer_pages}
+use Rattle.page_directory.specs.declared.walk.Walked.{Walked}
+use Rattle.page_directory.specs.declared.walk.Walked.TheVariants as walked
+use Rattle.page_directory.specs.Laws as walk
 use Rattle.ring_words.specs.declared.Looked.{Looked}
 use Rattle.ring_words.specs.declared.Looked.TheVariants as looked
-use Rattle.display_backend.specs.Machine.{Site, Hand, Moves, Says, Tells, verdict}
-use Rattle.display_backend.specs.Reply.{replied}
-use Rattle.display_backend.specs.Work.{Work, End, Saw, Took, Answered, Slept, Met, Denied, Lacked, Shut, Left, Renewed, settled, said_at, shut, entered, after_look, after_sleep, after_answer, rows_of, taken_at}
-use Rattle.display_backend.proofs.SoundActions.{renews_from}
-use Rattle.display_backend.proofs.SoundWork.{the_site, IsServing, IsShut, EndsWell}
-
-look_rows : (site : Site) (w : Work) (l : Looked) → rows_of (after_look site w l) ≡ rows_of w
-look_rows site w looked.Nothing = refl
-look_rows site w (looked.Ready n) = refl
-look_rows site w (looked.Overrun x y) = refl
-
-sleep_rows : (w : Work) (quiet : Bool) → rows_of (after_sleep w quiet) ≡ rows_of w
-sleep_rows w true = refl
-sleep_rows w false = refl
-
-always_replies : (x : Option Hand) (b : Bool) (h : Hand) → x ≡ Some h → replied x b ≡ None → ⊥
-always_replies None b h e n = cc
-always_replies (Some k) b h e n = cc
+use Rattle.link_core.specs.Machine.{Moves, Stays}
+use Rattle.link_core.specs.Names.{all_drawn, words_at, with_name}
+use Rattle.display_backend.specs.declared.display.Progress.TheVariants as progress
+use Rattle.display_backend.specs.Machine.{Site, Rows, Hand, Event, Says, Enters, is_accepted}
+use Rattle.display_backend.specs.Machine as machine
+use Rattle.display_backend.specs.Work.{Work, Naming, End, Saw, Took, Listed, Freed, Answered, Slept, Met, Denied, Lacked, Shut, Left, Renewed, settled, said_at, shut, entered, after_look, after_sleep, after_answer, after_walk, denied_by, status_of, is_denied, replied_in, reading, rows_of, names_of, named_after, named_by, unnamed, made_at, made_by, taken_at, live_names}
+use Rattle.display_backend.proofs.SoundActions.{closed_apart, renews_from}
+use Rattle.display_backend.proofs.SoundAnswer.{answer_all, answer_rows, answer_names}
+use Rattle.display_backend.proofs.SoundNames.{names_none}
+use Rattle.display_backend.proofs.SoundRows.{same_status, same_verdict}
+use Rattle.display_backend.proofs.SoundWork.{the_site, IsNamed, IsServing, IsSane, IsShut, IsWalking, IsAnswer, EndsWell, bare_unless, due_rows}
 
 same_said : (s t : Said) → Some s ≡ Some t → s ≡ t
 same_said s t e = cc
 
-answer_rows : (w : Work) (x : Option Hand) (h : Hand) → x ≡ Some h → rows_of (after_answer w x) ≡ record { connection = w.connection; seen = w.seen; read = w.read; connecting = w.connecting; closing = w.closing; hand = None }
-answer_rows w None h e = let wrong : ⊥ = cc in absurd wrong
-answer_rows w (Some k) h e = refl
+always_replies : (w : Work) (x : Option Hand) (b : Bool) (h : Hand) → x ≡ Some h → replied_in w x b ≡ None → ⊥
+always_replies w None b h e n = cc
+always_replies w (Some k) b h e n = cc
+
+-- without pages there are no names
+no_names : (w : Work) (m : Naming) → pages_of w.stock ≡ [] → names_of w m ≡ []
+no_names w m bare = names_none w.stock.buffers m.ids (all_behind w.stock.mapped (buffer_pages w.stock.buffers) bare)
+  where
+    all_behind : (xs ys : List Hold) → xs ++ ys ≡ [] → ys ≡ []
+    all_behind [] ys e = e
+    all_behind (x ∷ xs) ys e = let wrong : ⊥ = cc in absurd wrong
 
 module _ (frames grants : ℕ → ℕ) (dom parts : ℕ) where
-  pub quiet : (w : Work) (o : End) → EndsWell frames grants dom parts w o → said_at w o ≡ None → rows_of (settled (the_site frames grants dom parts) w o) ≡ rows_of w
-  unfolding settled said_at
-  quiet w (Saw l) q e = look_rows (the_site frames grants dom parts) w l
-  quiet w (Took words) q e = let wrong : ⊥ = cc in absurd wrong
-  quiet w (Answered notified) q e = absurd (always_replies w.hand notified q.1.0 q.1.1 e)
-  quiet w (Slept b) q e = sleep_rows w b
-  quiet w (Met ps) q e = let wrong : ⊥ = cc in absurd wrong
-  quiet w (Denied why) q e = let wrong : ⊥ = cc in absurd wrong
-  quiet w (Lacked problem) q e = let wrong : ⊥ = cc in absurd wrong
-  quiet w (Shut why) q e = let wrong : ⊥ = cc in absurd wrong
-  quiet w Left q e = let wrong : ⊥ = cc in absurd wrong
-  quiet w Renewed q e = let wrong : ⊥ = cc in absurd wrong
+  abbrev Keeps : Work → Work → Naming → Type 0
+  Keeps old new m = IsNamed new m × Stays (reading (the_site frames grants dom parts)) old new m
 
-  tells_request : (w : Work) (words : List ℕ) → EndsWell frames grants dom parts w (Took words) → Tells (the_site frames grants dom parts) (rows_of w) (said.Request w.at (request_of words).id (request_of words).op) words (rows_of (settled (the_site frames grants dom parts) w (Took words)))
+  look_keeps : (w : Work) (m : Naming) (l : Looked) → IsNamed w m → Keeps w (after_look (the_site frames grants dom parts) w l) m
+  look_keeps w m looked.Nothing named = (named, record { rows = refl; names = refl })
+  look_keeps w m (looked.Ready n) named = (named, record { rows = refl; names = refl })
+  look_keeps w m (looked.Overrun x y) named = (named, record { rows = refl; names = refl })
+
+  sleep_keeps : (w : Work) (m : Naming) (quiet : Bool) → IsNamed w m → Keeps w (after_sleep w quiet) m
+  sleep_keeps w m true named = (named, record { rows = refl; names = refl })
+  sleep_keeps w m false named = (named, record { rows = refl; names = refl })
+
+  -- the progress of the request in hand is no matter, unless a page is denied to it
+  undenied : (w v : Work) (m : Naming) → record (rows_of w m) { denied = false } ≡ rows_of v m → is_denied w.progress ≡ false → rows_of v m ≡ rows_of w m
+  undenied w v m e f = sym e ∙ ap (λ d. let r : Rows = record (rows_of w m) { denied = d } in r) (sym f)
+
+  walk_keeps : (w : Work) (m : Naming) (came : Walked) → IsNamed w m → IsWalking w → said_at w (Listed came) ≡ None → Keeps w (after_walk w came) m
+  unfolding said_at
+  walk_keeps w m (walked.Pages ps) named is e =
+      (named, record { rows = undenied w (after_walk w (walked.Pages ps)) m refl (ap is_denied is.decided); names = refl })
+  walk_keeps w m (walked.Refused why) named is e = let wrong : ⊥ = cc in absurd wrong
+
+  pub quiet : (w : Work) (o : End) (m : Naming) → EndsWell frames grants dom parts w o → IsNamed w m → said_at w o ≡ None → Keeps w (settled (the_site frames grants dom parts) w o) m
+  unfolding settled said_at
+  quiet w (Saw l) m q named e = look_keeps w m l named
+  quiet w (Took words) m q named e = let wrong : ⊥ = cc in absurd wrong
+  quiet w (Listed came) m q named e = walk_keeps w m came named q.0 e
+  quiet w Freed m q named e =
+      (named, record { rows = undenied w (record w { progress = progress.Released }) m refl (ap is_denied q.decided); names = refl })
+  quiet w (Answered notified) m q named e = absurd (always_replies w w.hand notified q.1.0 q.1.1 e)
+  quiet w (Slept b) m q named e = sleep_keeps w m b named
+  quiet w (Met ps) m q named e = let wrong : ⊥ = cc in absurd wrong
+  quiet w (Denied why) m q named e = let wrong : ⊥ = cc in absurd wrong
+  quiet w (Lacked problem) m q named e = let wrong : ⊥ = cc in absurd wrong
+  quiet w (Shut why) m q named e = let wrong : ⊥ = cc in absurd wrong
+  quiet w Left m q named e = let wrong : ⊥ = cc in absurd wrong
+  quiet w Renewed m q named e = let wrong : ⊥ = cc in absurd wrong
+
+  -- what is said is a move of the machine, and the names are those of the work that it leaves
+  abbrev TellsSo : Work → Naming → Said → List ℕ → List Place → Work → Naming → Type 0
+  TellsSo w m t taken cells v n = IsNamed v n × Moves (reading (the_site frames grants dom parts)) w m (Says t taken) cells v n
+
+  tells_as : (w : Work) (m : Naming) (s t : Said) (taken : List ℕ) (cells : List Place) (v : Work) (n : Naming) → Some s ≡ Some t → TellsSo w m s taken cells v n → TellsSo w m t taken cells v n
+  tells_as w m s t taken cells v n e h = subst (λ u. TellsSo w m u taken cells v n) (same_said s t e) h
+
+  tells_request : (w : Work) (words : List ℕ) (m : Naming) → EndsWell frames grants dom parts w (Took words) → IsNamed w m → TellsSo w m (said.Request w.at (request_of words).id (request_of words).op) words [] (settled (the_site frames grants dom parts) w (Took words)) m
   unfolding settled
-  tells_request w words q =
-      record { connected = q.0.0; not_closing = q.0.1; part_is = q.2; id_is = refl; op_is = refl; empty = q.1; taken = refl }
+  tells_request w words m q named =
+      (named, record { move = record { connected = q.0.0; not_closing = q.0.1; part_is = q.2; id_is = refl; op_is = refl; empty = q.1; taken = refl }; names = λ memory. refl })
 
-  tells_reply : (w : Work) (b : Bool) (t : Said) (h : Hand) → IsServing w → w.hand ≡ Some h → replied w.hand b ≡ Some t → Tells (the_site frames grants dom parts) (rows_of w) t [] (rows_of (after_answer w w.hand))
-  tells_reply w b t h serving has e =
-      let told : t ≡ said.Replied h.part h.request.id (verdict h.request.asked) b =
-      let f : replied w.hand b ≡ replied (Some h) b = ap (λ x. replied x b) has in cc in
-      subst (λ u. Tells (the_site frames grants dom parts) (rows_of w) u [] (rows_of (after_answer w w.hand))) (sym told)
-      (record { request = h.request; connected = serving.0; not_closing = serving.1; in_hand = has; id_is = refl; status_is = refl; done = answer_rows w w.hand h has })
+  tells_denied : (w : Work) (why : GrantRefusal) (m : Naming) → IsWalking w → walk.IsReason (frames dom) (grants dom) why → IsNamed w m → TellsSo w m (said.Denied why) [] [] (after_walk w (walked.Refused why)) m
+  tells_denied w why m is cause named = (
+    named,
+    record {
+      move = record {
+        hand = is.hand;
+        create = is.create;
+        connected = is.serving.0;
+        not_closing = is.serving.1;
+        in_hand = is.in_hand;
+        asks = is.creating.0;
+        accepted = same_verdict w.stock.buffers m.ids is.hand.request.asked ∙ is.creating.1;
+        first = ap is_denied is.decided;
+        cause = cause;
+        done = refl;
+      };
+      names = λ memory. refl;
+    },
+  )
 
-  tells_closed : (w : Work) (why : Reason) (t : Said) → IsShut frames grants dom parts w why → Some (said.Closed why) ≡ Some t → Tells (the_site frames grants dom parts) (rows_of w) t [] (rows_of (shut w))
-  tells_closed w why t q e =
-      subst (λ u. Tells (the_site frames grants dom parts) (rows_of w) u [] (rows_of (shut w))) (same_said (said.Closed why) t e) (q.0, q.1, refl)
+  -- a reply
+  module _ (w : Work) (m : Naming) (s : IsSane frames grants dom parts w) (named : IsNamed w m) (serving : IsServing w) (h : Hand) (has : w.hand ≡ Some h) (is : IsAnswer w h) where
+    tells_reply : (b : Bool) → TellsSo w m (said.Replied h.part h.request.id (status_of w h.request.asked) b) [] (made_by w (Some h)) (after_answer w (Some h)) (named_by w (Some h) m)
+    tells_reply b =
+        let status = status_of w h.request.asked in
+        let accepted = is_accepted status in
+        let rows = answer_rows w.stock m named h.request.asked accepted in
+        let names = λ (memory : Memory). answer_names w.stock m named h.request.asked accepted memory s.buffers.distinct is.0 in (
+          answer_all w.stock m named h.request.asked accepted,
+          record {
+            move = record {
+              request = h.request;
+              connected = serving.0;
+              not_closing = serving.1;
+              in_hand = has;
+              id_is = refl;
+              status_is = same_status (is_denied w.progress) w.stock.buffers m.ids h.request.asked status is.1;
+              done = ap (λ (x : List (Live ℕ)). let r : Rows = record (rows_of (after_answer w (Some h)) (named_by w (Some h) m)) { buffers = x } in r) rows;
+            };
+            names = λ memory. subst (λ (x : Option Hand). all_drawn memory (names_of (after_answer w (Some h)) (named_by w (Some h) m)) ≡ with_name (all_drawn memory (names_of w m)) (machine.made_at x status m.replies) (words_at memory (made_by w (Some h)))) (sym has) (names memory);
+          },
+        )
 
-  pub tells : (w : Work) (o : End) (t : Said) → EndsWell frames grants dom parts w o → said_at w o ≡ Some t → Moves (the_site frames grants dom parts) (rows_of w) (Says t (taken_at o)) (rows_of (settled (the_site frames grants dom parts) w o))
+    pub tells_answer : (b : Bool) (t : Said) → replied_in w w.hand b ≡ Some t → TellsSo w m t [] (made_by w w.hand) (after_answer w w.hand) (named_by w w.hand m)
+    tells_answer b t e =
+        let said_is : replied_in w (Some h) b ≡ Some t = ap (λ (x : Option Hand). replied_in w x b) (sym has) ∙ e in
+        subst (λ (x : Option Hand). TellsSo w m t [] (made_by w x) (after_answer w x) (named_by w x m)) (sym has)
+        (tells_as w m (said.Replied h.part h.request.id (status_of w h.request.asked) b) t [] (made_by w (Some h)) (after_answer w (Some h)) (named_by w (Some h) m) said_is (tells_reply b))
+
+  tells_closed : (w : Work) (m : Naming) (why : Reason) (t : Said) → IsShut frames grants dom parts w why → IsNamed w m → Some (said.Closed why) ≡ Some t → TellsSo w m t [] [] (shut w) m
+  tells_closed w m why t q named e =
+      tells_as w m (said.Closed why) t [] [] (shut w) m e
+      (named, record { move = (due_rows (the_site frames grants dom parts) w m why q.0, q.1, refl); names = λ memory. refl })
+
+  -- a state in which there is no name
+  tells_state : (w v : Work) (m : Naming) (b : State) (t : Said) → Enters (the_site frames grants dom parts) (rows_of w m) b (rows_of v (unnamed m)) → v.stock ≡ no_stock → pages_of w.stock ≡ [] → Some (said.State b) ≡ Some t → TellsSo w m t [] [] v (unnamed m)
+  tells_state w v m b t enters none bare e =
+      tells_as w m (said.State b) t [] [] v (unnamed m) e (
+        ap (λ (x : Stock). length x.buffers) (sym none),
+        record {
+          move = enters;
+          names = λ memory. ap (λ (x : Stock). all_drawn memory (live_names x.buffers [])) none ∙ sym (ap (all_drawn memory) (no_names w m bare));
+        },
+      )
+
+  tells_listed : (w : Work) (came : Walked) (m : Naming) (t : Said) → EndsWell frames grants dom parts w (Listed came) → IsNamed w m → denied_by came ≡ Some t → TellsSo w m t [] [] (after_walk w came) m
+  tells_listed w (walked.Pages ps) m t q named e = let wrong : ⊥ = cc in absurd wrong
+  tells_listed w (walked.Refused why) m t q named e =
+      tells_as w m (said.Denied why) t [] [] (after_walk w (walked.Refused why)) m e (tells_denied w why m q.0 q.1 named)
+
+  pub tells : (w : Work) (o : End) (t : Said) (m : Naming) → IsSane frames grants dom parts w → EndsWell frames grants dom parts w o → IsNamed w m → said_at w o ≡ Some t → TellsSo w m t (taken_at o) (made_at w o) (settled (the_site frames grants dom parts) w o) (named_after w o m)
   unfolding settled said_at
-  tells w (Saw l) t q e = let wrong : ⊥ = cc in absurd wrong
-  tells w (Took words) t q e =
-      subst (λ u. Tells (the_site frames grants dom parts) (rows_of w) u words (rows_of (settled (the_site frames grants dom parts) w (Took words)))) (same_said (said.Request w.at (request_of words).id (request_of words).op) t e) (tells_request w words q)
-  tells w (Answered notified) t q e = tells_reply w notified t q.1.0 q.0 q.1.1 e
-  tells w (Slept b) t q e = let wrong : ⊥ = cc in absurd wrong
-  tells w (Met ps) t q e =
-      subst (λ u. Tells (the_site frames grants dom parts) (rows_of w) u [] (rows_of (entered w state.Connected))) (same_said (said.State state.Connected) t e) (q.0, q.3, refl)
-  tells w (Denied why) t q e = tells_closed w (reason.Refused why) t q e
-  tells w (Lacked problem) t q e = tells_closed w (reason.Node problem.part problem.key problem.fault) t q e
-  tells w (Shut why) t q e = tells_closed w why t q e
-  tells w Left t q e =
-      subst (λ u. Tells (the_site frames grants dom parts) (rows_of w) u [] (rows_of (entered w state.Closed))) (same_said (said.State state.Closed) t e) (q, refl)
-  tells w Renewed t q e =
-      subst (λ u. Tells (the_site frames grants dom parts) (rows_of w) u [] (rows_of (entered w state.InitWait))) (same_said (said.State state.InitWait) t e) (q.0, renews_from w.connection q.1 q.2, refl)
+  tells w (Saw l) t m s q named e = let wrong : ⊥ = cc in absurd wrong
+  tells w (Took words) t m s q named e =
+      tells_as w m (said.Request w.at (request_of words).id (request_of words).op) t words [] (settled (the_site frames grants dom parts) w (Took words)) m e (tells_request w words m q named)
+  tells w (Listed came) t m s q named e = tells_listed w came m t q named e
+  tells w Freed t m s q named e = let wrong : ⊥ = cc in absurd wrong
+  tells w (Answered notified) t m s q named e = tells_answer w m s named q.0 q.1.0 q.1.1 q.1.2 notified t e
+  tells w (Slept b) t m s q named e = let wrong : ⊥ = cc in absurd wrong
+  tells w (Met ps) t m s q named e =
+      tells_state w (settled (the_site frames grants dom parts) w (Met ps)) m state.Connected t (q.0, q.3, refl) refl q.4 e
+  tells w (Denied why) t m s q named e = tells_closed w m (reason.Refused why) t q named e
+  tells w (Lacked problem) t m s q named e = tells_closed w m (reason.Node problem.part problem.key problem.fault) t q named e
+  tells w (Shut why) t m s q named e = tells_closed w m why t q named e
+  tells w Left t m s q named e =
+      tells_state w (entered w state.Closed) m state.Closed t (q, refl) refl (bare_unless frames grants dom parts w s (λ serving. true≢false (sym q ∙ serving.1))).1 e
+  tells w Renewed t m s q named e =
+      tells_state w (entered w state.InitWait) m state.InitWait t (q.0, renews_from w.connection q.1 q.2, refl) refl (bare_unless frames grants dom parts w s (λ serving. closed_apart w.connection.back q.1 serving.0)).1 e

@@ -1,51 +1,160 @@
 -- What is known of a display's work between two activities, and of an activity's end.
-use Rattle.std.proofs.Common.{◌≡◌, ◌⊎◌, ℕ, ◌<◌, ◌≤◌, ◌||◌, Bool, true, false, List, [], Option, Some, None, Ok, refl, ap, length}
+use Rattle.std.proofs.Common.{◌≡◌, ◌⊎◌, ℕ, ◌<◌, ◌≤◌, ◌||◌, pos, Bool, true, false, List, [], ◌++◌, Option, Some, None, Ok, refl, sym, ap, subst, inl, inr, length}
 use Rattle.pv_words.specs.declared.device.NodeValue.{NodeValue}
 use Rattle.pv_words.specs.declared.device.Reason.{Reason}
 use Rattle.pv_words.specs.declared.device.Reason.TheVariants as reason
 use Rattle.pv_words.specs.declared.device.State.{State}
 use Rattle.pv_words.specs.declared.device.State.TheVariants as state
+use Rattle.pv_words.specs.declared.grant.Hold.{Hold}
 use Rattle.pv_words.specs.Held.{Holds, holds_of}
+use Rattle.displ_wire.specs.declared.Asked.{Asked}
+use Rattle.displ_wire.specs.declared.Asked.TheVariants as asked
+use Rattle.displ_wire.specs.declared.Create.{Create}
+use Rattle.display_buffers.specs.Buffers.{AreSound, check_of}
+use Rattle.display_backend.specs.Stock.{Stock, pages_of, pages_under}
+use Rattle.page_directory.specs.declared.walk.Walked.{Walked}
+use Rattle.page_directory.specs.declared.walk.Walked.TheVariants as walked
+use Rattle.page_directory.specs.Laws as walk
+use Rattle.page_directory.specs.Same.{AreSame}
 use Rattle.ring_words.specs.declared.Looked.{Looked}
 use Rattle.ring_words.specs.declared.Looked.TheVariants as looked
 use Rattle.ring_words.specs.Ring.{looked_of}
-use Rattle.xenbus_states.specs.Connection.{first_ending, is_start}
-use Rattle.display_backend.specs.Machine.{Site, Rows, Hand, Refs, IsReason, all_refs}
-use Rattle.display_backend.specs.Work.{Work, End, Saw, Took, Answered, Slept, Met, Denied, Lacked, Shut, Left, Renewed, all_pages, after_look, after_sleep, after_answer, settled, told, rows_of}
+use Rattle.xenbus_states.specs.Connection.{Connection, first_ending, heard, is_start}
+use Rattle.link_core.specs.Laws.{AreOf}
+use Rattle.display_backend.specs.declared.display.Progress.{Progress}
+use Rattle.display_backend.specs.declared.display.Progress.TheVariants as progress
+use Rattle.display_backend.specs.Machine.{Site, Rows, Hand, Refs, IsReason, all_refs, IsStatus, first_rows, verdict, is_accepted}
+use Rattle.display_backend.specs.Reply.{status_in}
+use Rattle.display_backend.specs.Work.{Work, Naming, End, Saw, Took, Listed, Freed, Answered, Slept, Met, Denied, Lacked, Shut, Left, Renewed, all_pages, after_look, after_sleep, after_answer, after_walk, settled, told, rows_of, is_denied}
 use Rattle.display_backend.proofs.SoundPlans.{AllOwn}
 
 -- what the domain has, and how many parts
 abbrev pub the_site : (frames grants : ℕ → ℕ) → (dom parts : ℕ) → Site
 the_site frames grants dom parts = record { dom = dom; parts = parts; frames = frames dom; grants = grants dom }
 
--- what the device holds: the pages of its parts
-abbrev pub start_of : Work → Holds
-start_of w = holds_of (all_pages w.parts)
+-- all pages that are held between two activities: those that are held for buffers, then those of the parts
+abbrev pub held_pages : Work → List Hold
+held_pages w = pages_of w.stock ++ all_pages w.parts
+
+-- the device holds just the pages of buffers and of parts, in some order
+abbrev pub TellsHeld : Work → Holds → Type 0
+TellsHeld w h = (h ≡ holds_of h.held) × AreSame h.held (held_pages w)
+
+-- there are as many numbers as buffers
+abbrev pub IsNamed : Work → Naming → Type 0
+IsNamed w m = length m.ids ≡ length w.stock.buffers
 
 abbrev pub IsServing : Work → Type 0
 IsServing w = (w.connection.back ≡ state.Connected) × (w.closing ≡ false)
 
--- The pages are the domain's own, there are no more parts than the device has, there are none unless it is connected and
--- not closing, and a kept reason is one.
+-- the request in hand is a CREATE that is accepted, or a DESTROY of this cookie
+abbrev pub IsCreating : Stock → Hand → Create → Type 0
+IsCreating stock h c = (h.request.asked ≡ asked.Create c) × (verdict stock.buffers h.request.asked ≡ pos 0)
+
+abbrev pub IsDestroying : Stock → Hand → ℕ → Type 0
+IsDestroying stock h cookie =
+    (h.request.asked ≡ asked.Destroy cookie) × (verdict stock.buffers h.request.asked ≡ pos 0)
+
+-- How far the request in hand has come: pages are mapped for an accepted CREATE alone, and those of the buffer of an accepted
+-- DESTROY are unmapped.
+abbrev pub HasComeTo : Stock → Hand → Progress → Type 0
+HasComeTo stock h progress.Decided = stock.mapped ≡ []
+HasComeTo stock h progress.NoMemory = ((c : Create) × IsCreating stock h c) × (stock.mapped ≡ [])
+HasComeTo stock h progress.Denied = ((c : Create) × IsCreating stock h c) × (stock.mapped ≡ [])
+HasComeTo stock h progress.Mapped = ((c : Create) × IsCreating stock h c) × (0 < length stock.mapped)
+HasComeTo stock h progress.Released =
+    ((cookie : ℕ) × IsDestroying stock h cookie × (pages_under cookie stock.buffers ≡ [])) × (stock.mapped ≡ [])
+
+abbrev pub HasComeIn : Stock → Progress → Option Hand → Type 0
+HasComeIn stock p None = (p ≡ progress.Decided) × (stock.mapped ≡ [])
+HasComeIn stock p (Some h) = HasComeTo stock h p
+
+abbrev pub HasCome : Work → Type 0
+HasCome w = HasComeIn w.stock w.progress w.hand
+
+-- no page is held
+abbrev pub IsBare : Work → Type 0
+IsBare w = (w.parts ≡ []) × (pages_of w.stock ≡ [])
+
+-- the rows that a reason speaks of
+abbrev pub reason_rows : Connection → Bool → List NodeValue → Rows
+reason_rows c connecting read = record first_rows { connection = c; connecting = connecting; read = read }
+
+abbrev pub IsDue : Site → Work → Reason → Type 0
+IsDue site w why = IsReason site (reason_rows w.connection w.connecting w.read) why
+
+-- The pages of the parts are the domain's own, mapped for writing, and those of buffers the domain's; there are no more parts
+-- than the device has; the buffers are sound; no page is held unless the device is connected and not closing, and then the
+-- request in hand has come so far; and a kept reason is one.
 pub record IsSane (frames grants : ℕ → ℕ) (dom parts : ℕ) (w : Work) : Type 0 where
   pub own : AllOwn frames grants dom (all_pages w.parts)
+  pub stored : AreOf (grants dom) dom (pages_of w.stock)
   pub few : length w.parts ≤ parts
-  pub opened : (w.parts ≡ []) ⊎ IsServing w
-  pub kept : (why : Reason) → w.kept ≡ Some why → IsReason (the_site frames grants dom parts) (rows_of w) why × (w.closing ≡ false)
+  pub buffers : AreSound w.stock.buffers
+  pub opened : IsBare w ⊎ (IsServing w × HasCome w)
+  pub kept : (why : Reason) → w.kept ≡ Some why → IsDue (the_site frames grants dom parts) w why × (w.closing ≡ false)
+
+-- no page is held unless the device is connected and not closing
+pub bare_unless : (frames grants : ℕ → ℕ) (dom parts : ℕ) (w : Work) → IsSane frames grants dom parts w → (IsServing w → ⊥) → IsBare w
+bare_unless frames grants dom parts w s apart = elim s.opened [ inl bare ↦ bare | inr o ↦ absurd (apart o.0) ]
+
+-- an accepted CREATE that has its pages mapped
+pub record IsWalking (w : Work) : Type 0 where
+  pub serving : IsServing w
+  pub hand : Hand
+  pub create : Create
+  pub in_hand : w.hand ≡ Some hand
+  pub creating : IsCreating w.stock hand create
+  pub decided : w.progress ≡ progress.Decided
+  pub none : w.stock.mapped ≡ []
+
+-- an accepted DESTROY whose buffer has its pages unmapped
+pub record IsFreeing (w : Work) : Type 0 where
+  pub serving : IsServing w
+  pub hand : Hand
+  pub cookie : ℕ
+  pub in_hand : w.hand ≡ Some hand
+  pub destroying : IsDestroying w.stock hand cookie
+  pub decided : w.progress ≡ progress.Decided
+  pub bare : pages_under cookie w.stock.buffers ≡ []
+  pub none : w.stock.mapped ≡ []
+
+-- What there is once a request is answered by a status that accepts it, or by another: a CREATE that passed its checks with its
+-- pages, or a DESTROY of a buffer without any.
+abbrev pub IsDone : Stock → Asked → Bool → Type 0
+IsDone stock (asked.Create c) true = (check_of stock.buffers c ≡ Ok tt) × (0 < length stock.mapped)
+IsDone stock (asked.Destroy cookie) true = (pages_under cookie stock.buffers ≡ []) × (stock.mapped ≡ [])
+IsDone stock asks accepted = stock.mapped ≡ []
+
+-- the request in hand is answered by a status that it may get, where it has come so far
+abbrev pub IsAnswerAt : Stock → Hand → Progress → Type 0
+IsAnswerAt stock h p =
+    IsDone stock h.request.asked (is_accepted (status_in p (verdict stock.buffers h.request.asked)))
+    × IsStatus (is_denied p) stock.buffers h.request.asked (status_in p (verdict stock.buffers h.request.asked))
+
+abbrev pub IsAnswer : Work → Hand → Type 0
+IsAnswer w h = IsAnswerAt w.stock h w.progress
 
 module _ (frames grants : ℕ → ℕ) (dom parts : ℕ) where
-  -- a connection that is closed for this reason
+  -- a connection that is closed for this reason, with no page of a buffer
   abbrev pub IsShut : Work → Reason → Type 0
-  IsShut w why = IsReason (the_site frames grants dom parts) (rows_of w) why × (w.closing ≡ false)
+  IsShut w why = IsDue (the_site frames grants dom parts) w why × (w.closing ≡ false) × (pages_of w.stock ≡ [])
+
+  -- what a walk came to
+  abbrev pub HasListed : Walked → Type 0
+  HasListed (walked.Pages ps) = AreOf (grants dom) dom ps × (0 < length ps)
+  HasListed (walked.Refused why) = walk.IsReason (frames dom) (grants dom) why
 
   -- how an activity ends, of the work in which it was chosen
   abbrev pub EndsWell : Work → End → Type 0
   EndsWell w (Saw l) = IsServing w × ((rsp : ℕ) × (prod : ℕ) × (l ≡ looked_of rsp prod))
   EndsWell w (Took words) = IsServing w × (w.hand ≡ None) × (w.at < parts)
-  EndsWell w (Answered notified) = IsServing w × ((h : Hand) × (w.hand ≡ Some h))
+  EndsWell w (Listed came) = IsWalking w × HasListed came
+  EndsWell w Freed = IsFreeing w
+  EndsWell w (Answered notified) = IsServing w × ((h : Hand) × (w.hand ≡ Some h) × IsAnswer w h)
   EndsWell w (Slept quiet) = Unit {0}
   EndsWell w (Met ps) =
-      (w.connecting ≡ true) × AllOwn frames grants dom (all_pages ps) × (length ps ≤ parts) × ((refs : List Refs) × (all_refs w.read 0 parts ≡ Ok refs))
+      (w.connecting ≡ true) × AllOwn frames grants dom (all_pages ps) × (length ps ≤ parts) × ((refs : List Refs) × (all_refs w.read 0 parts ≡ Ok refs)) × (pages_of w.stock ≡ [])
   EndsWell w (Denied why) = IsShut w (reason.Refused why)
   EndsWell w (Lacked problem) = IsShut w (reason.Node problem.part problem.key problem.fault)
   EndsWell w (Shut why) = IsShut w why
@@ -55,74 +164,100 @@ module _ (frames grants : ℕ → ℕ) (dom parts : ℕ) where
 
   -- the pages are those that the work then tells, and the activity ends well
   abbrev pub EndsSo : Work → Holds → End → Type 0
-  EndsSo w k o = (k ≡ start_of (settled (the_site frames grants dom parts) w o)) × EndsWell w o
+  EndsSo w k o = TellsHeld (settled (the_site frames grants dom parts) w o) k × EndsWell w o
 
--- a reason stays one where a request comes or goes, and whatever the frontend sets
-pub reason_stays : (site : Site) (old : Rows) (seen : List NodeValue) (closing : Bool) (hand : Option Hand) (why : Reason) → IsReason site old why → IsReason site (record { connection = old.connection; seen = seen; read = old.read; connecting = old.connecting; closing = closing; hand = hand }) why
-reason_stays site old seen closing hand (reason.Asked s) h = h
-reason_stays site old seen closing hand (reason.Overrun prod rsp) h = h
-reason_stays site old seen closing hand (reason.Refused why) h = h
-reason_stays site old seen closing hand (reason.Node part key fault) h = h
-reason_stays site old seen closing hand (reason.BadCons p c) h = h
-reason_stays site old seen closing hand (reason.Spent p) h = h
+-- a reason stays one, whatever the frontend sets
+due_heard : (site : Site) (c : Connection) (connecting : Bool) (read : List NodeValue) (front : State) (why : Reason) → IsReason site (reason_rows c connecting read) why → IsReason site (reason_rows (heard c front) connecting read) why
+due_heard site c connecting read front (reason.Asked s) h = (h.0, ap (λ e. first_ending e front) h.1)
+due_heard site c connecting read front (reason.Overrun prod rsp) h = h
+due_heard site c connecting read front (reason.Refused why) h = h
+due_heard site c connecting read front (reason.Node part key fault) h = h
+due_heard site c connecting read front (reason.BadCons p x) h = h
+due_heard site c connecting read front (reason.Spent p) h = h
 
-pub reason_heard : (site : Site) (w : Work) (front : State) (nodes : List NodeValue) (why : Reason) → IsReason site (rows_of w) why → IsReason site (rows_of (told w front nodes)) why
-reason_heard site w front nodes (reason.Asked s) h = (h.0, ap (λ e. first_ending e front) h.1)
-reason_heard site w front nodes (reason.Overrun prod rsp) h = h
-reason_heard site w front nodes (reason.Refused why) h = h
-reason_heard site w front nodes (reason.Node part key fault) h = h
-reason_heard site w front nodes (reason.BadCons p c) h = h
-reason_heard site w front nodes (reason.Spent p) h = h
+-- it is one of all rows with this connection
+pub due_rows : (site : Site) (w : Work) (m : Naming) (why : Reason) → IsDue site w why → IsReason site (rows_of w m) why
+due_rows site w m (reason.Asked s) h = h
+due_rows site w m (reason.Overrun prod rsp) h = h
+due_rows site w m (reason.Refused why) h = h
+due_rows site w m (reason.Node part key fault) h = h
+due_rows site w m (reason.BadCons p x) h = h
+due_rows site w m (reason.Spent p) h = h
 
 -- what a Look, a Sleep and an Answer leave
-pub look_parts : (site : Site) (w : Work) (l : Looked) → (after_look site w l).parts ≡ w.parts
-look_parts site w looked.Nothing = refl
-look_parts site w (looked.Ready n) = refl
-look_parts site w (looked.Overrun prod rsp) = refl
+pub look_pages : (site : Site) (w : Work) (l : Looked) → held_pages (after_look site w l) ≡ held_pages w
+look_pages site w looked.Nothing = refl
+look_pages site w (looked.Ready n) = refl
+look_pages site w (looked.Overrun prod rsp) = refl
 
-pub sleep_parts : (w : Work) (quiet : Bool) → (after_sleep w quiet).parts ≡ w.parts
-sleep_parts w true = refl
-sleep_parts w false = refl
+pub sleep_pages : (w : Work) (quiet : Bool) → held_pages (after_sleep w quiet) ≡ held_pages w
+sleep_pages w true = refl
+sleep_pages w false = refl
 
 module _ (frames grants : ℕ → ℕ) (dom parts : ℕ) (w : Work) (front : State) (nodes : List NodeValue) where
   pub hears_sane : IsSane frames grants dom parts w → IsSane frames grants dom parts (told w front nodes)
   hears_sane s =
-      record { own = s.own; few = s.few; opened = s.opened; kept = λ why e. (reason_heard (the_site frames grants dom parts) w front nodes why (s.kept why e).0, (s.kept why e).1) }
+      record {
+        own = s.own;
+        stored = s.stored;
+        few = s.few;
+        buffers = s.buffers;
+        opened = s.opened;
+        kept = λ why e. (due_heard (the_site frames grants dom parts) w.connection w.connecting w.read front why (s.kept why e).0, (s.kept why e).1);
+      }
+
+  shut_told : (why : Reason) → IsShut frames grants dom parts w why → IsShut frames grants dom parts (told w front nodes) why
+  shut_told why q =
+      (due_heard (the_site frames grants dom parts) w.connection w.connecting w.read front why q.0, q.1, q.2)
 
   pub hears_well : (o : End) → EndsWell frames grants dom parts w o → EndsWell frames grants dom parts (told w front nodes) o
   hears_well (Saw l) q = q
   hears_well (Took words) q = q
+  hears_well (Listed came) q =
+      (record { serving = q.0.serving; hand = q.0.hand; create = q.0.create; in_hand = q.0.in_hand; creating = q.0.creating; decided = q.0.decided; none = q.0.none }, q.1)
+  hears_well Freed q =
+      record { serving = q.serving; hand = q.hand; cookie = q.cookie; in_hand = q.in_hand; destroying = q.destroying; decided = q.decided; bare = q.bare; none = q.none }
   hears_well (Answered notified) q = q
   hears_well (Slept quiet) q = q
   hears_well (Met ps) q = q
   hears_well (Denied why) q = q
   hears_well (Lacked problem) q = q
-  hears_well (Shut why) q = (reason_heard (the_site frames grants dom parts) w front nodes why q.0, q.1)
+  hears_well (Shut why) q = shut_told why q
   hears_well Left q = q
   hears_well Renewed q = (q.0, q.1, ap (λ t. t || is_start front) q.2, q.3)
 
-  look_told : (l : Looked) → start_of (after_look (the_site frames grants dom parts) (told w front nodes) l) ≡ start_of (after_look (the_site frames grants dom parts) w l)
+  look_told : (l : Looked) → held_pages (after_look (the_site frames grants dom parts) (told w front nodes) l) ≡ held_pages (after_look (the_site frames grants dom parts) w l)
   look_told looked.Nothing = refl
   look_told (looked.Ready n) = refl
   look_told (looked.Overrun prod rsp) = refl
 
-  sleep_told : (quiet : Bool) → start_of (after_sleep (told w front nodes) quiet) ≡ start_of (after_sleep w quiet)
+  sleep_told : (quiet : Bool) → held_pages (after_sleep (told w front nodes) quiet) ≡ held_pages (after_sleep w quiet)
   sleep_told true = refl
   sleep_told false = refl
 
-  answer_told : (h : Option Hand) → start_of (after_answer (told w front nodes) h) ≡ start_of (after_answer w h)
-  answer_told None = refl
-  answer_told (Some h) = refl
+  walk_told : (came : Walked) → held_pages (after_walk (told w front nodes) came) ≡ held_pages (after_walk w came)
+  walk_told (walked.Pages ps) = refl
+  walk_told (walked.Refused why) = refl
 
-  pub hears_start : (o : End) → start_of (settled (the_site frames grants dom parts) (told w front nodes) o) ≡ start_of (settled (the_site frames grants dom parts) w o)
+  replied_told : (h : Option Hand) → held_pages (after_answer (told w front nodes) h) ≡ held_pages (after_answer w h)
+  replied_told None = refl
+  replied_told (Some h) = refl
+
+  hears_pages : (o : End) → held_pages (settled (the_site frames grants dom parts) (told w front nodes) o) ≡ held_pages (settled (the_site frames grants dom parts) w o)
   unfolding settled
-  hears_start (Saw l) = look_told l
-  hears_start (Took words) = refl
-  hears_start (Answered notified) = answer_told w.hand
-  hears_start (Slept quiet) = sleep_told quiet
-  hears_start (Met ps) = refl
-  hears_start (Denied why) = refl
-  hears_start (Lacked problem) = refl
-  hears_start (Shut why) = refl
-  hears_start Left = refl
-  hears_start Renewed = refl
+  hears_pages (Saw l) = look_told l
+  hears_pages (Took words) = refl
+  hears_pages (Listed came) = walk_told came
+  hears_pages Freed = refl
+  hears_pages (Answered notified) = replied_told w.hand
+  hears_pages (Slept quiet) = sleep_told quiet
+  hears_pages (Met ps) = refl
+  hears_pages (Denied why) = refl
+  hears_pages (Lacked problem) = refl
+  hears_pages (Shut why) = refl
+  hears_pages Left = refl
+  hears_pages Renewed = refl
+
+  -- the pages that an activity's end tells are the same
+  pub hears_told : (o : End) (h : Holds) → TellsHeld (settled (the_site frames grants dom parts) w o) h → TellsHeld (settled (the_site frames grants dom parts) (told w front nodes) o) h
+  hears_told o h t = (t.0, subst (λ x. AreSame h.held x) (sym (hears_pages o)) t.1)

@@ -1,15 +1,20 @@
 -- Accesses that lie in the pages of one link lie in those of all.
-use Rattle.std.proofs.Common.{◌≡◌, inl, inr, ℕ, zero, suc, ◌<◌, ◌++◌, Bool, true, false, List, [], ◌∷◌, Option, Some, None, length, slice_get, sym, subst, if◌then◌else◌}
+use Rattle.std.proofs.Common.{◌≡◌, inl, inr, ℕ, zero, suc, ◌<◌, ◌++◌, Bool, true, false, List, [], ◌∷◌, Option, Some, None, length, slice_get, IfSome, sym, subst, if◌then◌else◌}
 use Rattle.pv_words.specs.declared.place.Place.TheVariants.{Cell, Grant}
 use Rattle.pv_words.specs.declared.access.Access.{Access}
+use Rattle.pv_words.specs.declared.access.Access.TheVariants as access
 use Rattle.pv_words.specs.declared.grant.Hold.{Hold}
 use Rattle.pv_words.specs.Held.{Has, Covers, CoversToWrite}
 use Rattle.pv_words.specs.Plan.{Want, Load, Store, Swap, Clear, wanted}
 use Rattle.grant_table.specs.Mapping.{unmap_want}
+use Rattle.display_backend.specs.Stock.{Stock, pages_of}
+use Rattle.page_directory.specs.declared.walk.Walk.{Walk}
+use Rattle.page_directory.specs.WalkLeft.{held_by}
+use Rattle.page_directory.specs.WalkLeft.{LiesIn as WalkLies}
 use Rattle.link_core.specs.declared.link.Link.{Link}
 use Rattle.link_core.specs.Link.{held_of}
 use Rattle.link_core.specs.Stays.{LiesIn, AccessIn}
-use Rattle.display_backend.specs.Display.{all_held}
+use Rattle.display_backend.specs.Display.{all_held, walk_pages}
 use Rattle.display_backend.proofs.Wholes.{AllFit}
 
 has_left : {A : Type 0} (P : A → Type 0) (xs ys : List A) → Has P xs → Has P (xs ++ ys)
@@ -47,6 +52,57 @@ pub in_served : (access : Option Access) (dom busy : ℕ) (o : Bool) (ls : List 
 in_served access dom busy o ls k l opened fits lt e stays =
     let met : k < (if o then length ls else 0) = rw opened lt in
     in_all access ls k l e (stays ((fits k l e).both met))
+
+-- an access lies in the pages of some of several lists
+lies_left : (want : Want) (xs ys : List Hold) → LiesIn xs want → LiesIn (xs ++ ys) want
+lies_left (Load (Cell d f w)) xs ys h = has_left (Covers d.0 f.0) xs ys h
+lies_left (Store (Cell d f w) v) xs ys h = has_left (CoversToWrite d.0 f.0) xs ys h
+lies_left (Swap (Cell d f w) old new) xs ys h = has_left (CoversToWrite d.0 f.0) xs ys h
+lies_left (Clear (Cell d f w) mask) xs ys h = has_left (CoversToWrite d.0 f.0) xs ys h
+lies_left (Load (Grant d g half)) xs ys h = tt
+lies_left (Store (Grant d g half) v) xs ys h = tt
+lies_left (Swap (Grant d g half) old new) xs ys h = tt
+lies_left (Clear (Grant d g half) mask) xs ys h = tt
+
+lies_right : (want : Want) (xs ys : List Hold) → LiesIn ys want → LiesIn (xs ++ ys) want
+lies_right (Load (Cell d f w)) xs ys h = has_right (Covers d.0 f.0) xs ys h
+lies_right (Store (Cell d f w) v) xs ys h = has_right (CoversToWrite d.0 f.0) xs ys h
+lies_right (Swap (Cell d f w) old new) xs ys h = has_right (CoversToWrite d.0 f.0) xs ys h
+lies_right (Clear (Cell d f w) mask) xs ys h = has_right (CoversToWrite d.0 f.0) xs ys h
+lies_right (Load (Grant d g half)) xs ys h = tt
+lies_right (Store (Grant d g half) v) xs ys h = tt
+lies_right (Swap (Grant d g half) old new) xs ys h = tt
+lies_right (Clear (Grant d g half) mask) xs ys h = tt
+
+-- in a page of the links, or of the walk
+pub in_links : (access : Option Access) (k : Option Walk) (s : Stock) (ls : List Link) → AccessIn (all_held ls) access → AccessIn (walk_pages k ++ pages_of s ++ all_held ls) access
+in_links None k s ls h = tt
+in_links (Some a) k s ls h = lies_right (wanted a) (walk_pages k ++ pages_of s) (all_held ls) h
+
+pub in_walk : (access : Option Access) (k : Option Walk) (w : Walk) (s : Stock) (ls : List Link) → k ≡ Some w → AccessIn (held_by w) access → AccessIn (walk_pages k ++ pages_of s ++ all_held ls) access
+in_walk None k w s ls e h = tt
+in_walk (Some a) k w s ls e h =
+    subst (λ (o : Option Walk). LiesIn (walk_pages o ++ pages_of s ++ all_held ls) (wanted a)) (sym e)
+    (lies_left (wanted a) (held_by w ++ pages_of s) (all_held ls) (lies_left (wanted a) (held_by w) (pages_of s) h))
+
+walk_lies : (held : List Hold) (a : Access) → WalkLies held a → LiesIn held (wanted a)
+walk_lies held (access.Load (Cell d f w) v) h = h
+walk_lies held (access.Store (Cell d f w) v) h = h
+walk_lies held (access.Cas (Cell d f w) old new seen) h = h
+walk_lies held (access.Clear (Cell d f w) mask seen) h = h
+walk_lies held (access.Load (Grant d g half) v) h = tt
+walk_lies held (access.Store (Grant d g half) v) h = tt
+walk_lies held (access.Cas (Grant d g half) old new seen) h = tt
+walk_lies held (access.Clear (Grant d g half) mask seen) h = tt
+
+pub in_walked : (held : List Hold) (access : Option Access) → IfSome access (λ a. WalkLies held a) → AccessIn held access
+in_walked held None h = tt
+in_walked held (Some a) h = walk_lies held a h
+
+-- where nothing is held, an access is one to a grant entry
+pub in_none : (access : Option Access) (held : List Hold) → AccessIn [] access → AccessIn held access
+in_none None held h = tt
+in_none (Some a) held h = lies_left (wanted a) [] held h
 
 -- an unmap accesses no page
 pub in_unmap : (pages : List Hold) (access : Option Access) (a : Access) (h : Hold) → access ≡ Some a → wanted a ≡ unmap_want h → AccessIn pages access

@@ -1,16 +1,14 @@
 -- What is always true stays true where one link changes.
-use Rattle.std.proofs.Common.{◌≡◌, ◌≢◌, inl, inr, ℕ, ◌<◌, ◌≤◌, Bool, true, false, List, [], Option, Some, None, length, is_some, slice_get, slice_set, refl, sym, ap, subst, ◌∙◌, if◌then◌else◌, arith}
+use Rattle.std.proofs.Common.{◌≡◌, ◌≢◌, inl, inr, ℕ, ◌<◌, ◌≤◌, Bool, true, false, List, [], Some, length, slice_get, slice_set, refl, sym, ap, subst, ◌∙◌, if◌then◌else◌, arith}
 use Rattle.std.proofs.lemmas.Bool.{false≢true}
 use Rattle.std.proofs.lemmas.List.{length-set}
-use Rattle.displ_wire.specs.declared.Request.{Request}
 use Rattle.link_core.specs.declared.link.Link.{Link}
 use Rattle.link_core.specs.Link.{dom_of, held_of, idle}
 use Rattle.display_backend.specs.declared.display.Activity.{Activity}
 use Rattle.display_backend.specs.declared.display.Activity.TheVariants as activity
 use Rattle.display_backend.specs.declared.display.Round.{Round}
 use Rattle.display_backend.specs.declared.display.Round.TheVariants as round
-use Rattle.display_backend.specs.Activity.{met_in, bare_in, busy_in, part_of, is_mapping, is_answering, uses_ring, MayServe}
-use Rattle.display_backend.specs.Reply.{reply_to}
+use Rattle.display_backend.specs.Activity.{met_in, bare_in, busy_in, part_of, is_mapping, uses_ring, MayServe}
 use Rattle.display_backend.specs.declared.display.Ending.{Ending}
 use Rattle.display_backend.specs.Display.{all_held}
 use Rattle.display_backend.specs.Whole.{Fits, Whole}
@@ -21,8 +19,8 @@ use Rattle.display_backend.proofs.Lists.{same_or_not, get_set, get_set_other, wi
 abbrev pub AllFit : (dom met bare busy : ℕ) → Bool → List Link → Type 0
 AllFit dom met bare busy mapping ls = (i : ℕ) (l : Link) → slice_get ls i ≡ Some l → Fits dom met bare busy mapping i l
 
-pub make_whole : (dom : ℕ) (o : Bool) (hand : Option Request) (reply : List ℕ) (at : ℕ) (old_round : Round) (act : Activity) (ls : List Link) (n : ℕ) → length ls ≡ n → 0 < n → n ≤ 4 → at < n → part_in old_round < n → part_of act < n → AllFit dom (met_in act o n) (bare_in act o n) (busy_in act at n) (is_mapping act) ls → ((q : Request) → hand ≡ Some q → reply ≡ reply_to q) → (is_answering act ≡ true → is_some hand ≡ true) → (uses_ring act ≡ true → o ≡ true) → Whole dom o hand reply at old_round act ls
-make_whole dom o hand reply at old_round act ls n e some few at_in round_in come_to fits ready answers uses =
+pub make_whole : (dom : ℕ) (o : Bool) (at : ℕ) (old_round : Round) (act : Activity) (ls : List Link) (n : ℕ) → length ls ≡ n → 0 < n → n ≤ 4 → at < n → part_in old_round < n → part_of act < n → AllFit dom (met_in act o n) (bare_in act o n) (busy_in act at n) (is_mapping act) ls → (uses_ring act ≡ true → o ≡ true) → Whole dom o at old_round act ls
+make_whole dom o at old_round act ls n e some few at_in round_in come_to fits uses =
     record {
       some = omega (arith, e, some);
       few = omega (arith, e, few);
@@ -30,8 +28,6 @@ make_whole dom o hand reply at old_round act ls n e some few at_in round_in come
       round_in = omega (arith, e, round_in);
       come_to = omega (arith, e, come_to);
       fits = subst (λ m. AllFit dom (met_in act o m) (bare_in act o m) (busy_in act at m) (is_mapping act) ls) (sym e) fits;
-      ready = ready;
-      answers = answers;
       uses = uses;
     }
 
@@ -75,12 +71,12 @@ busy_set dom t k busy ls old new fits e d h rests =
     (λ i l other lt g. record { dom_is = g.dom_is; both = g.both; none = g.none; rests = λ _. g.rests other; ring = g.ring })
 
 -- while it serves, all links but that of the activity rest
-module _ (dom : ℕ) (o : Bool) (hand : Option Request) (reply : List ℕ) (at : ℕ) (old_round : Round) (act : Activity) (ls : List Link) (w : Whole dom o hand reply at old_round act ls) where
+module _ (dom : ℕ) (o : Bool) (at : ℕ) (old_round : Round) (act : Activity) (ls : List Link) (w : Whole dom o at old_round act ls) where
   abbrev pub bound : ℕ
   bound = if o then length ls else 0
 
-  whole_in : (a : Activity) → act ≡ a → Whole dom o hand reply at old_round a ls
-  whole_in a e = subst (λ (x : Activity). Whole dom o hand reply at old_round x ls) e w
+  whole_in : (a : Activity) → act ≡ a → Whole dom o at old_round a ls
+  whole_in a e = subst (λ (x : Activity). Whole dom o at old_round x ls) e w
 
   pub in_between : (busy : ℕ) → act ≡ activity.Between → AllFit dom bound bound busy false ls
   unfolding whole_in
@@ -102,21 +98,19 @@ module _ (dom : ℕ) (o : Bool) (hand : Option Request) (reply : List ℕ) (at :
   in_sleeping part (inr e) = (whole_in (activity.Sleeping part) e).fits
 
   -- the connection is closed
-  pub whole_shut : (end : Ending) → act ≡ activity.Leaving end → all_held ls ≡ [] → Whole dom false None reply at old_round activity.Between ls
+  pub whole_shut : (end : Ending) → act ≡ activity.Leaving end → all_held ls ≡ [] → Whole dom false at old_round activity.Between ls
   unfolding whole_in
   whole_shut end e bare =
-      make_whole dom false None reply at old_round activity.Between ls (length ls) refl w.some w.few w.at_in w.round_in w.some
+      make_whole dom false at old_round activity.Between ls (length ls) refl w.some w.few w.at_in w.round_in w.some
       (λ i l g.
       let f = (whole_in (activity.Leaving end) e).fits i l g in
       record { dom_is = f.dom_is; both = λ b. absurd (omega (arith, b)); none = λ _. held_bare ls bare i l g; rests = f.rests; ring = f.ring })
-      (λ q h. let wrong : ⊥ = cc in absurd wrong)
-      (λ h. absurd (false≢true h))
       (λ h. absurd (false≢true h))
 
 -- no part is connected yet
-pub whole_new : (dom : ℕ) (o : Bool) (reply : List ℕ) (ls : List Link) (n : ℕ) → length ls ≡ n → 1 ≤ n → n ≤ 4 → o ≡ false → ((i : ℕ) (b : Link) → slice_get ls i ≡ Some b → (dom_of b ≡ dom) × (length (held_of b) ≡ 0) × (idle b ≡ true)) → Whole dom o None reply 0 (round.Looks 0 false) activity.Between ls
-whole_new dom o reply ls n e some few shut all =
-    subst (λ (x : Bool). Whole dom x None reply 0 (round.Looks 0 false) activity.Between ls) (sym shut)
-    (make_whole dom false None reply 0 (round.Looks 0 false) activity.Between ls n e (omega (arith, some)) few (omega (arith, some)) (omega (arith, some)) (omega (arith, some))
+pub whole_new : (dom : ℕ) (o : Bool) (ls : List Link) (n : ℕ) → length ls ≡ n → 1 ≤ n → n ≤ 4 → o ≡ false → ((i : ℕ) (b : Link) → slice_get ls i ≡ Some b → (dom_of b ≡ dom) × (length (held_of b) ≡ 0) × (idle b ≡ true)) → Whole dom o 0 (round.Looks 0 false) activity.Between ls
+whole_new dom o ls n e some few shut all =
+    subst (λ (x : Bool). Whole dom x 0 (round.Looks 0 false) activity.Between ls) (sym shut)
+    (make_whole dom false 0 (round.Looks 0 false) activity.Between ls n e (omega (arith, some)) few (omega (arith, some)) (omega (arith, some)) (omega (arith, some))
     (λ i l g. let f = all i l g in record { dom_is = f.0; both = λ b. absurd (omega (arith, b)); none = λ _. f.1; rests = λ _. f.2; ring = λ m. absurd (false≢true m) })
-    (λ q h. let wrong : ⊥ = cc in absurd wrong) (λ h. absurd (false≢true h)) (λ h. absurd (false≢true h)))
+    (λ h. absurd (false≢true h)))

@@ -1,5 +1,5 @@
 -- What of a display's work stays the same.
-use Rattle.std.proofs.Common.{◌≡◌, inl, inr, ℕ, Bool, true, false, not, ◌&&◌, List, Option, Some, None, is_some, map, slice_get, slice_set, refl, sym, ap, ◌∙◌}
+use Rattle.std.proofs.Common.{◌≡◌, inl, inr, ℕ, ℤ, Bool, true, false, not, ◌&&◌, List, Option, Some, None, is_some, map, slice_get, slice_set, refl, sym, ap, ◌∙◌}
 use Rattle.std.proofs.lemmas.Bool.{false≢true}
 use Rattle.pv_words.specs.declared.device.NodeValue.{NodeValue}
 use Rattle.pv_words.specs.declared.device.Reason.{Reason}
@@ -10,25 +10,39 @@ use Rattle.link_core.specs.Activities.{Joined}
 use Rattle.link_core.specs.Order.{Between}
 use Rattle.link_core.specs.Link.{joined_of, answered_of}
 use Rattle.displ_wire.specs.declared.Request.{Request}
+use Rattle.display_backend.specs.Stock.{Stock}
+use Rattle.page_directory.specs.declared.walk.Walk.{Walk}
 use Rattle.display_backend.specs.declared.display.Activity.{Activity}
 use Rattle.display_backend.specs.declared.display.Activity.TheVariants as activity
+use Rattle.display_backend.specs.declared.display.Progress.{Progress}
+use Rattle.display_backend.specs.declared.display.Progress.TheVariants as progress
 use Rattle.display_backend.specs.declared.display.Round.{Round}
 use Rattle.display_backend.specs.Activity.{is_open, is_connected, is_connecting, is_serving, MayServe}
-use Rattle.display_backend.specs.Display.{parts_in, hand_of, stand_in}
-use Rattle.display_backend.specs.Machine.{Hand, Site}
-use Rattle.display_backend.specs.Work.{Work, counted, after_answer}
+use Rattle.display_backend.specs.Display.{parts_in, hand_of, stock_in, stand_in}
+use Rattle.display_backend.specs.Machine.{Hand, Site, is_accepted}
+use Rattle.display_backend.specs.Work.{Work, counted, status_of, after_answer}
+use Rattle.display_backend.specs.Work.{stock_after as after_stock}
 use Rattle.display_backend.proofs.Lists.{map_set_same, map_set, get_map}
 
-abbrev pub work : Connection → List NodeValue → List NodeValue → Bool → Bool → List Joined → Option Reason → Option Hand → ℕ → ℕ → Round → Work
-work c seen read b closing parts kept hand at left r =
-    record { connection = c; seen = seen; read = read; connecting = b; closing = closing; parts = parts; kept = kept; hand = hand; at = at; left = left; round = r }
+abbrev pub work : Connection → List NodeValue → List NodeValue → Bool → Bool → List Joined → Option Reason → Option Hand → Progress → ℕ → ℕ → Round → Stock → Work
+work c seen read b closing parts kept hand g at left r s =
+    record { connection = c; seen = seen; read = read; connecting = b; closing = closing; parts = parts; kept = kept; hand = hand; progress = g; at = at; left = left; round = r; stock = s }
 
-pub same_work : (c : Connection) (seen read : List NodeValue) (b b' closing : Bool) (p p' : List Joined) (kept : Option Reason) (h h' : Option Hand) (at n n' : ℕ) (r : Round) → b ≡ b' → p ≡ p' → h ≡ h' → n ≡ n' → work c seen read b closing p kept h at n r ≡ work c seen read b' closing p' kept h' at n' r
-same_work c seen read b b' closing p p' kept h h' at n n' r e f g i =
-    ap (λ x. work c seen read x closing p kept h at n r) e
-    ∙ (ap (λ x. work c seen read b' closing x kept h at n r) f
-    ∙ (ap (λ x. work c seen read b' closing p' kept x at n r) g
-    ∙ ap (λ x. work c seen read b' closing p' kept h' at x r) i))
+pub same_work : (c : Connection) (seen read : List NodeValue) (b b' closing : Bool) (p p' : List Joined) (kept : Option Reason) (h h' : Option Hand) (g : Progress) (at n n' : ℕ) (r : Round) (s s' : Stock) → b ≡ b' → p ≡ p' → h ≡ h' → n ≡ n' → s ≡ s' → work c seen read b closing p kept h g at n r s ≡ work c seen read b' closing p' kept h' g at n' r s'
+same_work c seen read b b' closing p p' kept h h' g at n n' r s s' e f i j k =
+    ap (λ x. work c seen read x closing p kept h g at n r s) e
+    ∙ (ap (λ x. work c seen read b' closing x kept h g at n r s) f
+    ∙ (ap (λ x. work c seen read b' closing p' kept x g at n r s) i
+    ∙ (ap (λ x. work c seen read b' closing p' kept h' g at x r s) j
+    ∙ ap (work c seen read b' closing p' kept h' g at n' r) k)))
+
+-- the pages that an activity gives up
+pub stock_as : (a b : Activity) (s : Stock) → stock_in b s ≡ s → MayServe a b → stock_in b s ≡ stock_in a s
+stock_as a b s e (inl f) = e ∙ ap (λ x. stock_in x s) (sym f)
+stock_as a b s e (inr f) = ap (λ x. stock_in x s) (sym f)
+
+pub stock_after : (a b : Activity) (s : Stock) → stock_in b s ≡ s → MayServe a b → s ≡ stock_in a s
+stock_after a b s e m = sym e ∙ stock_as a b s e m
 
 -- while it serves
 pub open_serving : (a : Activity) (closing : Bool) (back : State) → is_serving a ≡ true → is_open a closing back ≡ not closing && is_connected back
@@ -36,6 +50,8 @@ open_serving activity.Between closing back h = refl
 open_serving (activity.Connecting part) closing back h = absurd (false≢true h)
 open_serving (activity.Leaving end) closing back h = absurd (false≢true h)
 open_serving activity.Taking closing back h = refl
+open_serving activity.Walking closing back h = refl
+open_serving (activity.Freeing cookie) closing back h = refl
 open_serving activity.Answering closing back h = refl
 open_serving (activity.Sleeping part) closing back h = refl
 
@@ -44,6 +60,8 @@ connecting_serving activity.Between h = refl
 connecting_serving (activity.Connecting part) h = absurd (false≢true h)
 connecting_serving (activity.Leaving end) h = absurd (false≢true h)
 connecting_serving activity.Taking h = refl
+connecting_serving activity.Walking h = refl
+connecting_serving (activity.Freeing cookie) h = refl
 connecting_serving activity.Answering h = refl
 connecting_serving (activity.Sleeping part) h = refl
 
@@ -90,23 +108,27 @@ pub parts_answered : (a b : Activity) (closing : Bool) (back : State) → is_ser
 parts_answered a b closing back s m ls k old new e h =
     ap (λ o. parts_in o (slice_set ls k new)) (between_as a b closing back s m) ∙ parts_counted (is_open a closing back) ls k old new e h
 
-pub answered_work : (w : Work) (q : Request) (at : ℕ) (h : Option Request) → h ≡ Some q → record w { hand = None; parts = counted w.parts at (slice_get w.parts at) } ≡ after_answer w (hand_of h at)
-answered_work w q at h e = ap (λ (x : Option Request). after_answer w (hand_of x at)) (sym e)
+pub answered_work : (w : Work) (q : Request) (at : ℕ) (h : Option Request) (status : ℤ) (s : Stock) → h ≡ Some q → status ≡ status_of w q.asked → s ≡ after_stock w.stock q.asked (is_accepted status) → record w { hand = None; progress = progress.Decided; parts = counted w.parts at (slice_get w.parts at); stock = s } ≡ after_answer w (hand_of h at)
+answered_work w q at h status s e t f =
+    let done : Stock → Work = λ x. record w { hand = None; progress = progress.Decided; parts = counted w.parts at (slice_get w.parts at); stock = x } in
+    ap done f
+    ∙ (ap (λ x. done (after_stock w.stock q.asked (is_accepted x))) t
+    ∙ ap (λ (x : Option Request). after_answer w (hand_of x at)) (sym e))
 
 pub some_of : {A : Type 0} (o : Option A) → is_some o ≡ true → (x : A) × (o ≡ Some x)
 some_of None h = absurd (false≢true h)
 some_of (Some x) h = (x, refl)
 
 -- after a Look
-pub same_look : (c : Connection) (seen read : List NodeValue) (b closing : Bool) (p p' : List Joined) (kept : Option Reason) (h h' : Option Hand) (at at' n : ℕ) (r r' : Round) → p ≡ p' → h ≡ h' → at ≡ at' → r ≡ r' → work c seen read b closing p kept h at n r ≡ work c seen read b closing p' kept h' at' n r'
-same_look c seen read b closing p p' kept h h' at at' n r r' e f g i =
-    ap (λ x. work c seen read b closing x kept h at n r) e
-    ∙ (ap (λ x. work c seen read b closing p' kept x at n r) f
-    ∙ (ap (λ x. work c seen read b closing p' kept h' x n r) g
-    ∙ ap (λ x. work c seen read b closing p' kept h' at' n x) i))
+pub same_look : (c : Connection) (seen read : List NodeValue) (b closing : Bool) (p p' : List Joined) (kept : Option Reason) (h h' : Option Hand) (g : Progress) (at at' n : ℕ) (r r' : Round) (s : Stock) → p ≡ p' → h ≡ h' → at ≡ at' → r ≡ r' → work c seen read b closing p kept h g at n r s ≡ work c seen read b closing p' kept h' g at' n r' s
+same_look c seen read b closing p p' kept h h' g at at' n r r' s e f i j =
+    ap (λ x. work c seen read b closing x kept h g at n r s) e
+    ∙ (ap (λ x. work c seen read b closing p' kept x g at n r s) f
+    ∙ (ap (λ x. work c seen read b closing p' kept h' g x n r s) i
+    ∙ ap (λ x. work c seen read b closing p' kept h' g at' n x s) j))
 
 pub no_hand : (h : Option Request) (at at' : ℕ) → h ≡ None → hand_of h at ≡ hand_of h at'
 no_hand h at at' e = ap (λ x. hand_of x at) e ∙ ap (λ x. hand_of x at') (sym e)
 
-pub stands_between : (site : Site) (w : Work) (read : List NodeValue) (ls : List Link) (reply : List ℕ) (at : ℕ) (a : Activity) → a ≡ activity.Between → stand_in site w read ls reply at a ≡ Between w
-stands_between site w read ls reply at a e = ap (stand_in site w read ls reply at) e
+pub stands_between : (site : Site) (w : Work) (read : List NodeValue) (s : Stock) (k : Option Walk) (ls : List Link) (reply : List ℕ) (at : ℕ) (a : Activity) → a ≡ activity.Between → stand_in site w read s k ls reply at a ≡ Between w
+stands_between site w read s k ls reply at a e = ap (stand_in site w read s k ls reply at) e

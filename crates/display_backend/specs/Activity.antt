@@ -12,6 +12,8 @@ is_between activity.Between = true
 is_between (activity.Connecting part) = false
 is_between (activity.Leaving end) = false
 is_between activity.Taking = false
+is_between activity.Walking = false
+is_between (activity.Freeing cookie) = false
 is_between activity.Answering = false
 is_between (activity.Sleeping part) = false
 
@@ -32,6 +34,8 @@ is_open activity.Between closing back = not closing && is_connected back
 is_open (activity.Connecting part) closing back = false
 is_open (activity.Leaving end) closing back = false
 is_open activity.Taking closing back = not closing && is_connected back
+is_open activity.Walking closing back = not closing && is_connected back
+is_open (activity.Freeing cookie) closing back = not closing && is_connected back
 is_open activity.Answering closing back = not closing && is_connected back
 is_open (activity.Sleeping part) closing back = not closing && is_connected back
 
@@ -46,6 +50,8 @@ is_connecting activity.Between = false
 is_connecting (activity.Connecting part) = true
 is_connecting (activity.Leaving end) = is_refused end
 is_connecting activity.Taking = false
+is_connecting activity.Walking = false
+is_connecting (activity.Freeing cookie) = false
 is_connecting activity.Answering = false
 is_connecting (activity.Sleeping part) = false
 
@@ -55,23 +61,41 @@ is_mapping activity.Between = false
 is_mapping (activity.Connecting part) = true
 is_mapping (activity.Leaving end) = false
 is_mapping activity.Taking = false
+is_mapping activity.Walking = false
+is_mapping (activity.Freeing cookie) = false
 is_mapping activity.Answering = false
 is_mapping (activity.Sleeping part) = false
 
-abbrev pub is_answering : Activity → Bool
-is_answering activity.Between = false
-is_answering (activity.Connecting part) = false
-is_answering (activity.Leaving end) = false
-is_answering activity.Taking = false
-is_answering activity.Answering = true
-is_answering (activity.Sleeping part) = false
+-- the pages of a CREATE are mapped
+abbrev pub is_walking : Activity → Bool
+is_walking activity.Between = false
+is_walking (activity.Connecting part) = false
+is_walking (activity.Leaving end) = false
+is_walking activity.Taking = false
+is_walking activity.Walking = true
+is_walking (activity.Freeing cookie) = false
+is_walking activity.Answering = false
+is_walking (activity.Sleeping part) = false
 
--- it accesses the ring of a part
+-- pages may be held for buffers
+abbrev pub may_hold : Activity → Bool → Bool
+may_hold activity.Between opened = opened
+may_hold (activity.Connecting part) opened = opened
+may_hold (activity.Leaving end) opened = true
+may_hold activity.Taking opened = opened
+may_hold activity.Walking opened = opened
+may_hold (activity.Freeing cookie) opened = opened
+may_hold activity.Answering opened = opened
+may_hold (activity.Sleeping part) opened = opened
+
+-- it is of a part that is connected
 abbrev pub uses_ring : Activity → Bool
 uses_ring activity.Between = false
 uses_ring (activity.Connecting part) = false
 uses_ring (activity.Leaving end) = false
 uses_ring activity.Taking = true
+uses_ring activity.Walking = true
+uses_ring (activity.Freeing cookie) = true
 uses_ring activity.Answering = true
 uses_ring (activity.Sleeping part) = true
 
@@ -81,6 +105,8 @@ met_in activity.Between opened n = if opened then n else 0
 met_in (activity.Connecting part) opened n = part
 met_in (activity.Leaving end) opened n = 0
 met_in activity.Taking opened n = if opened then n else 0
+met_in activity.Walking opened n = if opened then n else 0
+met_in (activity.Freeing cookie) opened n = if opened then n else 0
 met_in activity.Answering opened n = if opened then n else 0
 met_in (activity.Sleeping part) opened n = if opened then n else 0
 
@@ -90,6 +116,8 @@ bare_in activity.Between opened n = if opened then n else 0
 bare_in (activity.Connecting part) opened n = part + 1
 bare_in (activity.Leaving end) opened n = n
 bare_in activity.Taking opened n = if opened then n else 0
+bare_in activity.Walking opened n = if opened then n else 0
+bare_in (activity.Freeing cookie) opened n = if opened then n else 0
 bare_in activity.Answering opened n = if opened then n else 0
 bare_in (activity.Sleeping part) opened n = if opened then n else 0
 
@@ -99,6 +127,8 @@ busy_in activity.Between at n = n
 busy_in (activity.Connecting part) at n = part
 busy_in (activity.Leaving end) at n = n
 busy_in activity.Taking at n = at
+busy_in activity.Walking at n = n
+busy_in (activity.Freeing cookie) at n = n
 busy_in activity.Answering at n = at
 busy_in (activity.Sleeping part) at n = part
 
@@ -108,6 +138,8 @@ part_of activity.Between = 0
 part_of (activity.Connecting part) = part
 part_of (activity.Leaving end) = 0
 part_of activity.Taking = 0
+part_of activity.Walking = 0
+part_of (activity.Freeing cookie) = 0
 part_of activity.Answering = 0
 part_of (activity.Sleeping part) = part
 
@@ -117,6 +149,8 @@ is_serving activity.Between = true
 is_serving (activity.Connecting part) = false
 is_serving (activity.Leaving end) = false
 is_serving activity.Taking = true
+is_serving activity.Walking = true
+is_serving (activity.Freeing cookie) = true
 is_serving activity.Answering = true
 is_serving (activity.Sleeping part) = true
 

@@ -7,6 +7,12 @@ use Rattle.pv_words.specs.declared.device.Reason.TheVariants as reason
 use Rattle.pv_words.specs.declared.grant.Hold.{Hold}
 use Rattle.pv_words.specs.Plan.{Plan, Finished, Make, mapped, joined}
 use Rattle.displ_wire.specs.declared.Request.{Request}
+use Rattle.display_backend.specs.Stock.{Stock, pages_of, pages_under, bared, stripped}
+use Rattle.display_backend.specs.Store.{stock_of}
+use Rattle.page_directory.specs.declared.walk.Walk.{Walk}
+use Rattle.page_directory.specs.declared.walk.Walked.{Walked}
+use Rattle.page_directory.specs.declared.walk.Walked.TheVariants as walked
+use Rattle.page_directory.specs.WalkLeft.{walk_left, held_by}
 use Rattle.ring_words.specs.declared.Looked.{Looked}
 use Rattle.ring_words.specs.declared.Looked.TheVariants as looked
 use Rattle.xenbus_states.specs.Nodes.{node_at, needed}
@@ -21,7 +27,7 @@ use Rattle.display_backend.specs.declared.display.Ending.{Ending}
 use Rattle.display_backend.specs.declared.display.Ending.TheVariants as ending
 use Rattle.display_backend.specs.Activity.{is_open, is_connecting}
 use Rattle.display_backend.specs.Machine.{Site, Hand, Refs}
-use Rattle.display_backend.specs.Work.{Work, End, Took, Answered, Slept, Denied, Shut, sleeps_on, sleep_all, after_part, connect_parts}
+use Rattle.display_backend.specs.Work.{Work, End, Took, Listed, Freed, Answered, Slept, Denied, Shut, sleeps_on, sleep_all, after_part, connect_parts}
 
 -- the domain that it serves
 unfoldable pub dom_of : Display → ℕ
@@ -44,8 +50,18 @@ abbrev pub all_held : List Link → List Hold
 all_held [] = []
 all_held (l ∷ ls) = link.held_of l ++ all_held ls
 
+-- the pages that a walk holds
+abbrev pub walk_pages : Option Walk → List Hold
+walk_pages None = []
+walk_pages (Some w) = held_by w
+
+-- all pages that it holds
 unfoldable pub held_of : Display → List Hold
-held_of d = all_held d.links.items
+held_of d = walk_pages d.walk ++ pages_of (stock_of d.store) ++ all_held d.links.items
+
+-- the pages that an activity that gives up all pages has still to unmap
+unfoldable pub given_up : Display → List Hold
+given_up d = pages_of (stock_of d.store) ++ all_held d.links.items
 
 -- what the links are joined to, where they are
 abbrev pub parts_in : Bool → List Link → List Joined
@@ -56,6 +72,17 @@ parts_in false ls = []
 abbrev pub hand_of : Option Request → ℕ → Option Hand
 hand_of None part = None
 hand_of (Some q) part = Some (record { part = part; request = q })
+
+-- the buffers and their pages, less those that an activity under way gives up
+abbrev pub stock_in : Activity → Stock → Stock
+stock_in activity.Between s = s
+stock_in (activity.Connecting part) s = s
+stock_in (activity.Leaving end) s = stripped s
+stock_in activity.Taking s = s
+stock_in activity.Walking s = s
+stock_in (activity.Freeing cookie) s = record { mapped = s.mapped; buffers = bared cookie s.buffers }
+stock_in activity.Answering s = s
+stock_in (activity.Sleeping part) s = s
 
 unfoldable pub work_of : Display → Work
 work_of d =
@@ -68,9 +95,11 @@ work_of d =
       parts = parts_in (is_open d.activity d.closing d.connection.back) d.links.items;
       kept = d.kept;
       hand = hand_of d.hand d.at;
+      progress = d.progress;
       at = d.at;
       left = d.left;
       round = d.round;
+      stock = stock_in d.activity (stock_of d.store);
     }
 
 -- the references of a part, once its nodes are known to be there
@@ -121,6 +150,15 @@ abbrev pub look_from : Option Link → Plan Looked
 look_from None = Finished looked.Nothing
 look_from (Some l) = look_plan (link.page_of l) (link.rsp_of l)
 
+-- what is left of a walk
+abbrev pub walk_from : Site → Option Walk → Plan Walked
+walk_from site None = Finished (walked.Pages [])
+walk_from site (Some w) = walk_left site.frames site.grants w
+
+-- what is left of a Release
+abbrev pub freeing_plan : ℕ → Stock → Plan End
+freeing_plan cookie s = unmaps (pages_under cookie s.buffers) (Finished Freed)
+
 -- what is left of a Take, an Answer, a Sleep
 abbrev pub take_from : Option Link → Plan (List ℕ)
 take_from None = Finished []
@@ -150,13 +188,15 @@ abbrev pub stand_at : Work → Plan End → Stand Work End
 stand_at w (Make want note more) = During w (Make want note more)
 stand_at w (Finished end) = Between (stuck w (why_of end))
 
-abbrev pub stand_in : Site → Work → List NodeValue → List Link → List ℕ → ℕ → Activity → Stand Work End
-stand_in site w nodes ls reply at activity.Between = Between w
-stand_in site w nodes ls reply at (activity.Connecting part) = stand_at w (connecting site nodes part ls)
-stand_in site w nodes ls reply at (activity.Leaving end) = stand_at w (leaving_plan end (all_held ls))
-stand_in site w nodes ls reply at activity.Taking = During w (mapped Took (take_from (slice_get ls at)))
-stand_in site w nodes ls reply at activity.Answering = During w (mapped Answered (answer_from reply (slice_get ls at)))
-stand_in site w nodes ls reply at (activity.Sleeping part) = During w (mapped Slept (sleeping part ls))
+abbrev pub stand_in : Site → Work → List NodeValue → Stock → Option Walk → List Link → List ℕ → ℕ → Activity → Stand Work End
+stand_in site w nodes s k ls reply at activity.Between = Between w
+stand_in site w nodes s k ls reply at (activity.Connecting part) = stand_at w (connecting site nodes part ls)
+stand_in site w nodes s k ls reply at (activity.Leaving end) = stand_at w (leaving_plan end (pages_of s ++ all_held ls))
+stand_in site w nodes s k ls reply at activity.Taking = During w (mapped Took (take_from (slice_get ls at)))
+stand_in site w nodes s k ls reply at activity.Walking = During w (mapped Listed (walk_from site k))
+stand_in site w nodes s k ls reply at (activity.Freeing cookie) = During w (freeing_plan cookie s)
+stand_in site w nodes s k ls reply at activity.Answering = During w (mapped Answered (answer_from reply (slice_get ls at)))
+stand_in site w nodes s k ls reply at (activity.Sleeping part) = During w (mapped Slept (sleeping part ls))
 
 unfoldable pub stand_of : Site → Display → Stand Work End
-stand_of site d = stand_in site (work_of d) d.read d.links.items d.reply d.at d.activity
+stand_of site d = stand_in site (work_of d) d.read (stock_of d.store) d.walk d.links.items d.reply d.at d.activity

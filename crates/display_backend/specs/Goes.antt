@@ -1,12 +1,13 @@
 -- What a step of an activity, and one that begins it, leads to.
-use Rattle.std.specs.Prelude.{◌≡◌, Option, Some, None, Result, Ok, Err}
+use Rattle.std.specs.Prelude.{◌≡◌, ◌⊎◌, true, false, Option, Some, None, Result, Ok, Err}
 use Rattle.pv_words.specs.declared.access.Access.{Access}
 use Rattle.pv_words.specs.declared.device.Said.{Said}
 use Rattle.pv_words.specs.declared.device.Said.TheVariants as said
 use Rattle.pv_words.specs.declared.device.Reason.{Reason}
 use Rattle.pv_words.specs.declared.device.Reason.TheVariants as reason
+use Rattle.pv_words.specs.Memory.{place_of}
 use Rattle.pv_words.specs.Plan.{Plan, Finished}
-use Rattle.link_core.specs.Order.{Order, Act, Rest, Stand, Between, GoesOn}
+use Rattle.link_core.specs.Order.{Order, Act, Either, Rest, Stand, Between, GoesOn, is_in_page}
 use Rattle.display_backend.specs.Machine.{Site, Problem}
 use Rattle.display_backend.specs.Work.{Work, End, Denied, Shut, display, shut, said_at, settled}
 
@@ -43,9 +44,16 @@ abbrev pub Comes : Site → Work → Plan End → Option Access → Option Said 
 Comes site w p None event new = Told site w p event new
 Comes site w p (Some a) event new = GoesOn (display site) w p (Some a) event new
 
+-- which of two activities begins, as the access tells
+abbrev pub ComesAs : Site → Work → Plan End → Work → Plan End → Option Access → Option Said → Stand Work End → Type 0
+ComesAs site v p u q None event new = Comes site u q None event new
+ComesAs site v p u q (Some a) event new =
+    ((is_in_page (place_of a) ≡ true) × Comes site v p (Some a) event new) ⊎ ((is_in_page (place_of a) ≡ false) × Comes site u q (Some a) event new)
+
 -- a step that begins what comes next
 abbrev pub Begins : Site → Order Work End → Option Access → Option Said → Stand Work End → Type 0
 Begins site (Act w p) access event new = Comes site w p access event new
+Begins site (Either v p u q) access event new = ComesAs site v p u q access event new
 Begins site (Rest w) access event new = (access ≡ None) × (event ≡ None) × (new ≡ Between w)
 
 -- why nodes are refused

@@ -1,7 +1,12 @@
 pub mod Activity
 pub mod Display
+pub mod Facts
 pub mod Goes
+pub mod Laws
+pub mod Left
 pub mod Machine
 pub mod Reply
+pub mod Stock
+pub mod Store
 pub mod Whole
 pub mod Work

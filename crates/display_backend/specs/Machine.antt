@@ -1,6 +1,6 @@
--- The display as a machine of rows: its connection, requests and replies (the operations of displif.h, the states of
--- xenbus.h). It knows no ring, page or access.
-use Rattle.std.specs.Prelude.{◌≡◌, ℕ, zero, suc, ◌<◌, ◌+◌, ◌==◌, ◌||◌, ℤ, pos, negsuc, Bool, true, false, List, [], ◌∷◌, Option, Some, None, Result, Ok, Err, if◌then◌else◌}
+-- The display as a machine of rows: its connection, requests and replies, and its buffers (the operations of displif.h, the
+-- states of xenbus.h). It knows no ring, page or access.
+use Rattle.std.specs.Prelude.{◌≡◌, ◌⊎◌, ℕ, zero, suc, ◌<◌, ◌+◌, ◌==◌, ◌||◌, ◌&&◌, ℤ, pos, negsuc, Bool, true, false, List, [], ◌∷◌, Option, Some, None, is_some, Result, Ok, Err, if◌then◌else◌}
 use Rattle.pv_words.specs.declared.device.NodeFault.{NodeFault}
 use Rattle.pv_words.specs.declared.device.NodeValue.{NodeValue}
 use Rattle.pv_words.specs.declared.device.Said.{Said}
@@ -9,24 +9,53 @@ use Rattle.pv_words.specs.declared.device.Reason.{Reason}
 use Rattle.pv_words.specs.declared.device.Reason.TheVariants as reason
 use Rattle.pv_words.specs.declared.device.State.{State}
 use Rattle.pv_words.specs.declared.device.State.TheVariants as state
+use Rattle.pv_words.specs.declared.grant.GrantRefusal.{GrantRefusal}
 use Rattle.pv_words.specs.declared.grant.Mode.TheVariants.{Write}
 use Rattle.displ_wire.specs.declared.Asked.{Asked}
 use Rattle.displ_wire.specs.declared.Asked.TheVariants as asked
+use Rattle.displ_wire.specs.declared.Create.{Create}
 use Rattle.displ_wire.specs.declared.Request.{Request}
+use Rattle.displ_wire.specs.declared.buffer.Refused.{Refused}
+use Rattle.displ_wire.specs.declared.buffer.Refused.TheVariants.{NotSupported, Unknown}
+use Rattle.displ_wire.specs.Refused.{status_of}
 use Rattle.displ_wire.specs.Wire.{all_zero, request_of}
+use Rattle.display_buffers.specs.declared.live.Live.{Live}
+use Rattle.display_buffers.specs.Buffers.{buffer_of, check_of, with_buffer, without_buffer}
 use Rattle.grant_table.specs.Laws.{IsCause}
+use Rattle.page_directory.specs.Laws as walk
 use Rattle.ring_words.specs.Ring.{since}
 use Rattle.xenbus_states.specs.declared.back.Action.TheVariants as action
 use Rattle.xenbus_states.specs.Connection.{Connection, first_connection, heard, action_of, begun, moved_to}
 use Rattle.xenbus_states.specs.Nodes.{node_at, needed, no_nodes}
 
--- the status of a reply: SET_CONFIG of zeros takes the configuration away (0); with another field it names a
--- framebuffer, of which none is live (ENOENT); no other operation is known (EOPNOTSUPP)
-abbrev pub verdict : Asked → ℤ
-verdict (asked.Config c) = if all_zero c then pos 0 else negsuc 1
-verdict (asked.Create c) = negsuc 94
-verdict (asked.Destroy cookie) = negsuc 94
-verdict asked.Other = negsuc 94
+-- the status of a CREATE, as its checks come out
+abbrev pub checked : Result (Unit {0}) Refused → ℤ
+checked (Ok fine) = pos 0
+checked (Err why) = status_of why
+
+-- The verdict on a request: CREATE by its checks; DESTROY of a live buffer (0), of another (ENOENT); SET_CONFIG of zeros takes
+-- the configuration away (0), with another field it names a framebuffer, of which none is live (ENOENT); no other operation
+-- is known (EOPNOTSUPP).
+abbrev pub verdict : {P : Type 0} → List (Live P) → Asked → ℤ
+verdict bs (asked.Create c) = checked (check_of bs c)
+verdict bs (asked.Destroy cookie) = if is_some (buffer_of cookie bs) then pos 0 else status_of Unknown
+verdict bs (asked.Config c) = if all_zero c then pos 0 else status_of Unknown
+verdict bs asked.Other = status_of NotSupported
+
+-- want of memory (ENOMEM), and a page that is denied (EACCES)
+abbrev pub no_memory : ℤ
+no_memory = negsuc 11
+
+abbrev pub no_access : ℤ
+no_access = negsuc 12
+
+abbrev pub is_accepted : ℤ → Bool
+is_accepted (pos zero) = true
+is_accepted other = false
+
+abbrev pub is_creation : Asked → Bool
+is_creation (asked.Create c) = true
+is_creation asks = false
 
 -- a node that is missing, or holds no number: its part, its key, and what is wrong with it
 pub record Problem : Type 0 where
@@ -86,8 +115,9 @@ pub record Hand : Type 0 where
   pub request : Request
 
 -- The machine's state: the connection, the nodes as they stood when the frontend last set its state, those that the last
--- Connect read, whether a Connect is under way, whether the connection is closed and the state is due, and the request
--- in hand.
+-- Connect read, whether a Connect is under way, whether the connection is closed and the state is due, the request in
+-- hand, and whether a page was denied to it; the live buffers in order of creation, each with the number of its name; and
+-- how many requests were answered.
 pub record Rows : Type 0 where
   pub connection : Connection
   pub seen : List NodeValue
@@ -95,6 +125,9 @@ pub record Rows : Type 0 where
   pub connecting : Bool
   pub closing : Bool
   pub hand : Option Hand
+  pub denied : Bool
+  pub buffers : List (Live ℕ)
+  pub replies : ℕ
 
 -- what happens to the machine: what the device says, and the words that it had taken, if they are a request's; a state of
 -- the frontend, while the nodes stand so; and a Connect that begins
@@ -123,10 +156,12 @@ IsReason site old other = ⊥
 abbrev pub Closes : Site → Rows → Reason → Rows → Type 0
 Closes site old reason new =
     IsReason site old reason × (old.closing ≡ false)
-    × (new ≡ record { connection = old.connection; seen = old.seen; read = old.read; connecting = false; closing = true; hand = None })
+    × (new ≡ record old { connecting = false; closing = true; hand = None; denied = false })
 
+-- a state in which the backend has no buffer yet, or no longer
 abbrev pub with_state : Rows → State → Rows
-with_state old s = record { connection = moved_to old.connection s; seen = old.seen; read = old.read; connecting = false; closing = false; hand = None }
+with_state old s =
+    record old { connection = moved_to old.connection s; connecting = false; closing = false; hand = None; denied = false; buffers = [] }
 
 -- A backend is Connected at the end of a Connect that found all nodes, Closed once the connection is closed, and waits
 -- again where the frontend of a closed one started anew.
@@ -146,20 +181,49 @@ pub record Requests (site : Site) (old : Rows) (part id op : ℕ) (request : Req
   pub id_is : id ≡ request.id
   pub op_is : op ≡ request.op
   pub empty : old.hand ≡ None
-  pub taken : new ≡ record { connection = old.connection; seen = old.seen; read = old.read; connecting = old.connecting; closing = old.closing; hand = Some (record { part = part; request = request }) }
+  pub taken : new ≡ record old { hand = Some (record { part = part; request = request }); denied = false }
 
--- the request in hand is answered with its verdict
+-- A page is denied to an accepted CREATE, once: the map of some reference was refused, or the directory has no further page
+-- where one is needed.
+pub record Denies (site : Site) (old : Rows) (why : GrantRefusal) (new : Rows) : Type 0 where
+  pub hand : Hand
+  pub create : Create
+  pub connected : old.connection.back ≡ state.Connected
+  pub not_closing : old.closing ≡ false
+  pub in_hand : old.hand ≡ Some hand
+  pub asks : hand.request.asked ≡ asked.Create create
+  pub accepted : verdict old.buffers hand.request.asked ≡ pos 0
+  pub first : old.denied ≡ false
+  pub cause : walk.IsReason site.frames site.grants why
+  pub done : new ≡ record old { denied = true }
+
+-- The status that answers a request: where a page was denied to it, just that; else its verdict, or, of an accepted CREATE,
+-- want of memory.
+abbrev pub IsStatus : {P : Type 0} → (denied : Bool) → List (Live P) → Asked → ℤ → Type 0
+IsStatus true bs asked status = status ≡ no_access
+IsStatus false bs asked status =
+    (status ≡ verdict bs asked) ⊎ ((is_creation asked ≡ true) × (verdict bs asked ≡ pos 0) × (status ≡ no_memory))
+
+-- the buffers after a reply: an accepted CREATE makes one, whose name is the number of the reply, and an accepted DESTROY
+-- takes one away
+abbrev pub replied_to : List (Live ℕ) → ℕ → Asked → Bool → List (Live ℕ)
+replied_to bs number (asked.Create c) true = with_buffer bs c number
+replied_to bs number (asked.Destroy cookie) true = without_buffer cookie bs
+replied_to bs number asked accepted = bs
+
+-- the request in hand is answered
 pub record Replies (old : Rows) (part id : ℕ) (status : ℤ) (new : Rows) : Type 0 where
   pub request : Request
   pub connected : old.connection.back ≡ state.Connected
   pub not_closing : old.closing ≡ false
   pub in_hand : old.hand ≡ Some (record { part = part; request = request })
   pub id_is : id ≡ request.id
-  pub status_is : status ≡ verdict request.asked
-  pub done : new ≡ record { connection = old.connection; seen = old.seen; read = old.read; connecting = old.connecting; closing = old.closing; hand = None }
+  pub status_is : IsStatus old.denied old.buffers request.asked status
+  pub done : new ≡ record old { hand = None; denied = false; buffers = replied_to old.buffers old.replies request.asked (is_accepted status); replies = suc old.replies }
 
 abbrev pub Tells : Site → Rows → Said → List ℕ → Rows → Type 0
 Tells site old (said.Request part id op) taken new = Requests site old part id op (request_of taken) new
+Tells site old (said.Denied why) taken new = Denies site old why new
 Tells site old (said.Replied part id status notified) taken new = Replies old part id status new
 Tells site old (said.Closed reason) taken new = Closes site old reason new
 Tells site old (said.State s) taken new = Enters site old s new
@@ -167,12 +231,21 @@ Tells site old other taken new = ⊥
 
 abbrev pub Moves : Site → Rows → Event → Rows → Type 0
 Moves site old (Says s taken) new = Tells site old s taken new
-Moves site old (Hears front nodes) new =
-    new ≡ record { connection = heard old.connection front; seen = nodes; read = old.read; connecting = old.connecting; closing = old.closing; hand = old.hand }
+Moves site old (Hears front nodes) new = new ≡ record old { connection = heard old.connection front; seen = nodes }
 Moves site old Begins new =
     (old.closing ≡ false) × (action_of old.connection ≡ action.Connect)
-    × (new ≡ record { connection = begun old.connection; seen = old.seen; read = old.seen; connecting = true; closing = false; hand = old.hand })
+    × (new ≡ record old { connection = begun old.connection; read = old.seen; connecting = true })
 
--- the machine at the beginning: nothing is set, and it waits for its frontend
+-- the name that something makes: an accepted CREATE makes one at its reply, whose number is the reply's
+abbrev pub made_at : Option Hand → ℤ → ℕ → Option ℕ
+made_at None status number = None
+made_at (Some h) status number = if is_creation h.request.asked && is_accepted status then Some number else None
+
+abbrev pub makes : Rows → Event → Option ℕ
+makes old (Says (said.Replied part id status notified) taken) = made_at old.hand status old.replies
+makes old other = None
+
+-- the machine at the beginning: nothing is set, it waits for its frontend, and has no buffer
 abbrev pub first_rows : Rows
-first_rows = record { connection = first_connection; seen = no_nodes; read = no_nodes; connecting = false; closing = false; hand = None }
+first_rows =
+    record { connection = first_connection; seen = no_nodes; read = no_nodes; connecting = false; closing = false; hand = None; denied = false; buffers = []; replies = 0 }

@@ -1,5 +1,5 @@
 -- The display's order of work.
-use Rattle.std.specs.Prelude.{ℕ, zero, suc, ◌+◌, ◌-◌, nat_lt, Bool, true, false, List, [], ◌∷◌, ◌++◌, Option, Some, None, Result, Ok, Err, slice_get, slice_set, if◌then◌else◌}
+use Rattle.std.specs.Prelude.{ℕ, zero, suc, ◌+◌, ◌-◌, ◌&&◌, nat_lt, ℤ, Bool, true, false, List, [], ◌∷◌, ◌++◌, map, Option, Some, None, Result, Ok, Err, slice_get, slice_set, if◌then◌else◌}
 use Rattle.pv_words.specs.declared.device.NodeValue.{NodeValue}
 use Rattle.pv_words.specs.declared.device.Said.{Said}
 use Rattle.pv_words.specs.declared.device.Said.TheVariants as said
@@ -9,8 +9,20 @@ use Rattle.pv_words.specs.declared.device.State.{State}
 use Rattle.pv_words.specs.declared.device.State.TheVariants as state
 use Rattle.pv_words.specs.declared.grant.GrantRefusal.{GrantRefusal}
 use Rattle.pv_words.specs.declared.grant.Hold.{Hold}
+use Rattle.pv_words.specs.declared.grant.Mode.TheVariants.{Read}
+use Rattle.pv_words.specs.declared.place.Place.{Place}
 use Rattle.pv_words.specs.Plan.{Plan, Finished, mapped, joined}
+use Rattle.displ_wire.specs.declared.Asked.{Asked}
+use Rattle.displ_wire.specs.declared.Asked.TheVariants as asked
+use Rattle.displ_wire.specs.declared.Create.{Create}
 use Rattle.displ_wire.specs.Wire.{request_of}
+use Rattle.display_buffers.specs.declared.live.Live.{Live}
+use Rattle.display_buffers.specs.Buffers.{has_cookie}
+use Rattle.display_backend.specs.Stock.{Stock, Held, no_stock, pages_of, pages_under, bared, stripped, created, destroyed}
+use Rattle.page_directory.specs.declared.walk.Walked.{Walked}
+use Rattle.page_directory.specs.declared.walk.Walked.TheVariants as walked
+use Rattle.page_directory.specs.Walking.{walk_plan}
+use Rattle.page_directory.specs.Walking as walking
 use Rattle.ring_words.specs.declared.Looked.{Looked}
 use Rattle.ring_words.specs.declared.Looked.TheVariants as looked
 use Rattle.ring_words.specs.Ring.{next_index}
@@ -18,13 +30,17 @@ use Rattle.xenbus_states.specs.declared.back.Action.{Action}
 use Rattle.xenbus_states.specs.declared.back.Action.TheVariants as action
 use Rattle.xenbus_states.specs.Connection.{Connection, first_connection, heard, action_of, begun, moved_to}
 use Rattle.xenbus_states.specs.Nodes.{no_nodes}
-use Rattle.link_core.specs.Activities.{Page, Joined, Connected, Joins, Refuses, page_at, pages_of, look_plan, take_plan, answer_plan, sleep_plan, connect_plan, unmaps}
-use Rattle.link_core.specs.Order.{Order, Act, Rest, Rules}
-use Rattle.link_core.specs.Machine.{Reading}
+use Rattle.link_core.specs.Activities.{Page, Joined, Connected, Joins, Refuses, page_at, look_plan, take_plan, answer_plan, sleep_plan, connect_plan, unmaps}
+use Rattle.link_core.specs.Activities as link
+use Rattle.link_core.specs.Machine.{Reading, Happening, Row, Gone}
+use Rattle.link_core.specs.Names.{Name, cells_of}
+use Rattle.link_core.specs.Order.{Order, Act, Either, Rest, Rules}
+use Rattle.display_backend.specs.declared.display.Progress.{Progress}
+use Rattle.display_backend.specs.declared.display.Progress.TheVariants as progress
 use Rattle.display_backend.specs.declared.display.Round.{Round}
 use Rattle.display_backend.specs.declared.display.Round.TheVariants as round
-use Rattle.display_backend.specs.Machine.{Site, Rows, Hand, Refs, Problem, Event, Says, Hears, Begins, Moves, all_refs}
-use Rattle.display_backend.specs.Reply.{reply_to, replied}
+use Rattle.display_backend.specs.Machine.{Site, Rows, Hand, Refs, Problem, Event, Says, Hears, Begins, Moves, all_refs, verdict, is_accepted, is_creation, makes}
+use Rattle.display_backend.specs.Reply.{reply_to, replied, status_in}
 
 -- what the display knows between two activities, and what of it stays known in one
 pub record Work : Type 0 where
@@ -39,17 +55,24 @@ pub record Work : Type 0 where
   pub parts : List Joined
   -- why the connection is to be closed
   pub kept : Option Reason
-  -- the request in hand
+  -- the request in hand, and how far it has come
   pub hand : Option Hand
+  pub progress : Progress
   -- the part of the last Look, and the requests left of it
   pub at : ℕ
   pub left : ℕ
   pub round : Round
+  -- the live buffers with their pages, and the pages that were mapped for the CREATE in hand
+  pub stock : Stock
 
 -- how an activity ends
 pub data End : Type 0 where
   Saw : Looked → End
   Took : List ℕ → End
+  -- what the walk of a CREATE came to
+  Listed : Walked → End
+  -- the pages of a buffer are unmapped
+  Freed : End
   -- whether the frontend is notified
   Answered : Bool → End
   -- whether no request came
@@ -73,7 +96,7 @@ ring_page j = page_at (ring_hold j.event j.ring)
 -- the pages of these parts, in order
 abbrev pub all_pages : List Joined → List Hold
 all_pages [] = []
-all_pages (j ∷ js) = pages_of j ++ all_pages js
+all_pages (j ∷ js) = link.pages_of j ++ all_pages js
 
 -- Sleep: part by part, until one has a request
 abbrev pub sleeps_on : Plan Bool → Bool → Plan Bool
@@ -102,12 +125,12 @@ connect_all site (Ok refs) = connect_parts site refs []
 abbrev pub beginning : Work → Work
 beginning w = record w { connection = begun w.connection; read = w.seen; connecting = true }
 
--- a Close begins: it unmaps the pages of each part, in order
+-- a Close begins: it unmaps the pages that are held for buffers, then those of each part, in order
 abbrev pub leaving : Work → Work
-leaving w = record w { parts = [] }
+leaving w = record w { parts = []; stock = stripped w.stock }
 
 abbrev pub close : Work → Reason → Order Work End
-close w why = Act (leaving w) (unmaps (all_pages w.parts) (Finished (Shut why)))
+close w why = Act (leaving w) (unmaps (pages_of w.stock ++ all_pages w.parts) (Finished (Shut why)))
 
 -- A round looks at the rings of the parts, in order; where it served no request, the display sleeps, and where no request
 -- came then, it rests. The next round begins after that.
@@ -128,24 +151,64 @@ abbrev pub with_left : Work → ℕ → Order Work End
 with_left w (suc n) = takes_from w (slice_get w.parts w.at)
 with_left w zero = in_round w w.round
 
+-- the status of the request in hand
+abbrev pub status_of : Work → Asked → ℤ
+status_of w asks = status_in w.progress (verdict w.stock.buffers asks)
+
+-- Answer
+abbrev pub answer_of : Work → Hand → Joined → Plan End
+answer_of w h j = mapped Answered (answer_plan (ring_page j) j.rsp (reply_to h.request (status_of w h.request.asked)))
+
 abbrev pub answers : Work → Hand → Option Joined → Order Work End
 answers w h None = Rest w
-answers w h (Some j) = Act w (mapped Answered (answer_plan (ring_page j) j.rsp (reply_to h.request)))
+answers w h (Some j) = Act w (answer_of w h j)
 
-abbrev pub with_hand : Work → Option Hand → Order Work End
-with_hand w (Some h) = answers w h (slice_get w.parts h.part)
-with_hand w None = with_left w w.left
+-- memory is wanting for the list of a buffer's pages
+abbrev pub starved : Work → Work
+starved w = record w { progress = progress.NoMemory }
+
+-- Walk: an accepted CREATE maps the pages that its directory lists, for reading; where memory is wanting, it is answered so
+abbrev pub maps : Site → Work → Hand → Create → Option Joined → Order Work End
+maps site w h c None = Rest w
+maps site w h c (Some j) =
+    Either (starved w) (answer_of (starved w) h j)
+    w (mapped Listed (walk_plan site.frames site.grants site.dom c.gref_directory Read (walking.pages_of c.buffer_sz)))
+
+-- Release: an accepted DESTROY unmaps the pages of its buffer, whose name is gone
+abbrev pub freeing : Work → ℕ → Work
+freeing w cookie = record w { stock = record { mapped = w.stock.mapped; buffers = bared cookie w.stock.buffers } }
+
+abbrev pub frees : Work → ℕ → Option Joined → Order Work End
+frees w cookie None = Rest w
+frees w cookie (Some j) = Act (freeing w cookie) (unmaps (pages_under cookie w.stock.buffers) (Finished Freed))
+
+-- the part whose ring a request came by
+abbrev pub part_of : Work → Hand → Option Joined
+part_of w h = slice_get w.parts h.part
+
+abbrev pub decides : Site → Work → Hand → Asked → Bool → Order Work End
+decides site w h (asked.Create c) true = maps site w h c (part_of w h)
+decides site w h (asked.Destroy cookie) true = frees w cookie (part_of w h)
+decides site w h asks accepted = answers w h (part_of w h)
+
+abbrev pub goes_on : Site → Work → Hand → Progress → Order Work End
+goes_on site w h progress.Decided = decides site w h h.request.asked (is_accepted (verdict w.stock.buffers h.request.asked))
+goes_on site w h other = answers w h (part_of w h)
+
+abbrev pub with_hand : Site → Work → Option Hand → Order Work End
+with_hand site w (Some h) = goes_on site w h w.progress
+with_hand site w None = with_left w w.left
 
 -- a backend in another state than Connected rests
-abbrev pub with_state : Work → State → Order Work End
-with_state w state.Connected = with_hand w w.hand
-with_state w other = Rest w
+abbrev pub with_state : Site → Work → State → Order Work End
+with_state site w state.Connected = with_hand site w w.hand
+with_state site w other = Rest w
 
 abbrev pub with_action : Site → Work → Action → Order Work End
 with_action site w action.Connect = Act (beginning w) (connect_all site (all_refs w.seen 0 site.parts))
 with_action site w (action.Close s) = close w (reason.Asked s)
 with_action site w action.Renew = Act w (Finished Renewed)
-with_action site w action.Stay = with_state w w.connection.back
+with_action site w action.Stay = with_state site w w.connection.back
 
 abbrev pub with_kept : Site → Work → Option Reason → Order Work End
 with_kept site w (Some why) = close w why
@@ -153,8 +216,8 @@ with_kept site w None = with_action site w (action_of w.connection)
 
 -- The first that applies: the state of a closed connection is said; a kept reason closes the connection, or the frontend's
 -- ending state does; a closed backend whose frontend started anew waits again; one that waits for a ready frontend
--- connects; one that isn't connected rests; a request in hand is answered; one that is left of the last Look is taken;
--- then the round goes on.
+-- connects; one that isn't connected rests; a request in hand has its pages mapped or unmapped, where it was accepted and
+-- asks for that, and then is answered; one that is left of the last Look is taken; then the round goes on.
 abbrev pub with_closing : Site → Work → Bool → Order Work End
 with_closing site w true = Act w (Finished Left)
 with_closing site w false = with_kept site w w.kept
@@ -192,21 +255,35 @@ abbrev pub counted : List Joined → ℕ → Option Joined → List Joined
 counted parts part None = parts
 counted parts part (Some j) = slice_set parts part (record j { rsp = next_index j.rsp })
 
+-- an accepted CREATE makes a buffer of the pages that were mapped for it, an accepted DESTROY takes one away
+abbrev pub stock_after : Stock → Asked → Bool → Stock
+stock_after s (asked.Create c) true = created s c
+stock_after s (asked.Destroy cookie) true = destroyed s cookie
+stock_after s asks accepted = s
+
 abbrev pub after_answer : Work → Option Hand → Work
 after_answer w None = w
-after_answer w (Some h) = record w { hand = None; parts = counted w.parts h.part (slice_get w.parts h.part) }
+after_answer w (Some h) =
+    record w { hand = None; progress = progress.Decided; parts = counted w.parts h.part (part_of w h); stock = stock_after w.stock h.request.asked (is_accepted (status_of w h.request.asked)) }
 
--- the connection is closed, and nothing of it is left but the state that is due
+-- what the walk of a CREATE came to
+abbrev pub after_walk : Work → Walked → Work
+after_walk w (walked.Pages pages) = record w { progress = progress.Mapped; stock = record { mapped = pages; buffers = w.stock.buffers } }
+after_walk w (walked.Refused why) = record w { progress = progress.Denied }
+
+-- the connection is closed, and nothing of it is left but the state that is due, and the rows of its buffers until then
 abbrev pub shut : Work → Work
-shut w = record w { connecting = false; closing = true; parts = []; kept = None; hand = None }
+shut w = record w { connecting = false; closing = true; parts = []; kept = None; hand = None; progress = progress.Decided }
 
--- the backend's state is this
+-- the backend's state is this, in which it has no buffer yet, or no longer
 abbrev pub entered : Work → State → Work
-entered w s = record w { connection = moved_to w.connection s; connecting = false; closing = false; hand = None }
+entered w s = record w { connection = moved_to w.connection s; connecting = false; closing = false; hand = None; progress = progress.Decided; stock = no_stock }
 
 unfoldable pub settled : Site → Work → End → Work
 settled site w (Saw l) = after_look site w l
-settled site w (Took words) = record w { hand = Some (record { part = w.at; request = request_of words }); left = w.left - 1 }
+settled site w (Took words) = record w { hand = Some (record { part = w.at; request = request_of words }); progress = progress.Decided; left = w.left - 1 }
+settled site w (Listed came) = after_walk w came
+settled site w Freed = record w { progress = progress.Released }
 settled site w (Answered notified) = after_answer w w.hand
 settled site w (Slept quiet) = after_sleep w quiet
 settled site w (Met parts) = record (entered w state.Connected) { parts = parts; kept = None; left = 0; round = round.Looks 0 false }
@@ -216,11 +293,22 @@ settled site w (Shut why) = shut w
 settled site w Left = entered w state.Closed
 settled site w Renewed = entered w state.InitWait
 
+-- the page that was denied, where a walk was refused
+abbrev pub denied_by : Walked → Option Said
+denied_by (walked.Pages pages) = None
+denied_by (walked.Refused why) = Some (said.Denied why)
+
+abbrev pub replied_in : Work → Option Hand → Bool → Option Said
+replied_in w None notified = None
+replied_in w (Some h) notified = replied (Some h) (status_of w h.request.asked) notified
+
 -- what is said at an activity's end
 unfoldable pub said_at : Work → End → Option Said
 said_at w (Saw l) = None
 said_at w (Took words) = Some (said.Request w.at (request_of words).id (request_of words).op)
-said_at w (Answered notified) = replied w.hand notified
+said_at w (Listed came) = denied_by came
+said_at w Freed = None
+said_at w (Answered notified) = replied_in w w.hand notified
 said_at w (Slept quiet) = None
 said_at w (Met parts) = Some (said.State state.Connected)
 said_at w (Denied why) = Some (said.Closed (reason.Refused why))
@@ -239,38 +327,146 @@ display site = record { choice = choice site; said_at = said_at; settled = settl
 -- the display when it is declared: it waits for its frontend
 abbrev pub first_work : Work
 first_work =
-    record { connection = first_connection; seen = no_nodes; read = no_nodes; connecting = false; closing = false; parts = []; kept = None; hand = None; at = 0; left = 0; round = round.Looks 0 false }
+    record { connection = first_connection; seen = no_nodes; read = no_nodes; connecting = false; closing = false; parts = []; kept = None; hand = None; progress = progress.Decided; at = 0; left = 0; round = round.Looks 0 false; stock = no_stock }
+
+-- The numbers of the live buffers' names, in order of creation, and how many requests were answered. They are no part of the
+-- work: they say only which making of a buffer is which.
+pub record Naming : Type 0 where
+  pub ids : List ℕ
+  pub replies : ℕ
+
+abbrev pub first_naming : Naming
+first_naming = record { ids = []; replies = 0 }
+
+-- the buffers, each with its number in place of its pages
+abbrev pub numbered : List Held → List ℕ → List (Live ℕ)
+numbered [] ns = []
+numbered (b ∷ bs) [] = record { buffer = b.buffer; pages = 0 } ∷ numbered bs []
+numbered (b ∷ bs) (n ∷ ns) = record { buffer = b.buffer; pages = n } ∷ numbered bs ns
+
+-- the names of the buffers that have pages
+abbrev pub named_if : List Hold → ℕ → List Name → List Name
+named_if [] n others = others
+named_if (h ∷ hs) n others = record { number = n; cells = cells_of (h ∷ hs) } ∷ others
+
+abbrev pub live_names : List Held → List ℕ → List Name
+live_names [] ns = []
+live_names (b ∷ bs) [] = []
+live_names (b ∷ bs) (n ∷ ns) = named_if b.pages n (live_names bs ns)
+
+abbrev pub numbers : List Name → List ℕ
+numbers names = map (λ (n : Name). n.number) names
+
+-- the numbers without that of the buffer of a cookie
+abbrev pub ids_without : ℕ → List Held → List ℕ → List ℕ
+ids_without cookie [] ns = []
+ids_without cookie (b ∷ bs) [] = []
+ids_without cookie (b ∷ bs) (n ∷ ns) = if has_cookie cookie b then ids_without cookie bs ns else n ∷ ids_without cookie bs ns
+
+abbrev pub ids_after : List Held → Naming → Asked → Bool → List ℕ
+ids_after bs m (asked.Create c) true = m.ids ++ m.replies ∷ []
+ids_after bs m (asked.Destroy cookie) true = ids_without cookie bs m.ids
+ids_after bs m asks accepted = m.ids
+
+abbrev pub named_by : Work → Option Hand → Naming → Naming
+named_by w None m = m
+named_by w (Some h) m =
+    record { ids = ids_after w.stock.buffers m h.request.asked (is_accepted (status_of w h.request.asked)); replies = suc m.replies }
+
+abbrev pub unnamed : Naming → Naming
+unnamed m = record { ids = []; replies = m.replies }
+
+-- the numbers after an activity's end that is told
+abbrev pub named_after : Work → End → Naming → Naming
+named_after w (Answered notified) m = named_by w w.hand m
+named_after w (Met parts) m = unnamed m
+named_after w Left m = unnamed m
+named_after w Renewed m = unnamed m
+named_after w other m = m
+
+-- the words of the name that a reply makes
+abbrev pub made_by : Work → Option Hand → List Place
+made_by w None = []
+made_by w (Some h) = if is_creation h.request.asked && is_accepted (status_of w h.request.asked) then cells_of w.stock.mapped else []
+
+abbrev pub made_at : Work → End → List Place
+made_at w (Answered notified) = made_by w w.hand
+made_at w other = []
+
+abbrev pub is_denied : Progress → Bool
+is_denied progress.Decided = false
+is_denied progress.NoMemory = false
+is_denied progress.Denied = true
+is_denied progress.Mapped = false
+is_denied progress.Released = false
 
 -- what of the work is the machine's
-abbrev pub rows_of : Work → Rows
-rows_of w = record { connection = w.connection; seen = w.seen; read = w.read; connecting = w.connecting; closing = w.closing; hand = w.hand }
+abbrev pub rows_of : Work → Naming → Rows
+rows_of w m =
+    record { connection = w.connection; seen = w.seen; read = w.read; connecting = w.connecting; closing = w.closing; hand = w.hand; denied = is_denied w.progress; buffers = numbered w.stock.buffers m.ids; replies = m.replies }
+
+abbrev pub names_of : Work → Naming → List Name
+names_of w m = live_names w.stock.buffers m.ids
 
 abbrev pub taken_at : End → List ℕ
 taken_at (Took words) = words
 taken_at other = []
 
--- a Connect that begins is something that happens to the machine
-abbrev pub begins_by : Action → List Event
-begins_by action.Connect = Begins ∷ []
-begins_by action.Stay = []
-begins_by (action.Close s) = []
-begins_by action.Renew = []
+-- the names of these numbers are gone
+abbrev pub all_gone : List ℕ → List (Happening Event)
+all_gone ns = map Gone ns
 
-abbrev pub begins_with : Work → Option Reason → List Event
-begins_with w (Some why) = []
-begins_with w None = begins_by (action_of w.connection)
+-- the name of the buffer of a cookie, if it has pages
+abbrev pub names_under : ℕ → List Held → List ℕ → List Name
+names_under cookie [] ns = []
+names_under cookie (b ∷ bs) [] = []
+names_under cookie (b ∷ bs) (n ∷ ns) = if has_cookie cookie b then named_if b.pages n [] else names_under cookie bs ns
 
-abbrev pub begins_of : Work → Bool → List Event
-begins_of w true = []
-begins_of w false = begins_with w w.kept
+-- What a beginning is to the machine: a Connect that begins is something that happens to its rows; where a Close begins, all
+-- names are gone, and where a Release does, its buffer's.
+abbrev pub begins_decided : Work → Naming → Asked → Bool → List (Happening Event)
+begins_decided w m (asked.Destroy cookie) true = all_gone (numbers (names_under cookie w.stock.buffers m.ids))
+begins_decided w m asks accepted = []
 
--- the display's work read as a machine of rows
-abbrev pub reading : Site → Reading Work End Rows Event
+abbrev pub begins_progress : Work → Naming → Hand → Progress → List (Happening Event)
+begins_progress w m h progress.Decided = begins_decided w m h.request.asked (is_accepted (verdict w.stock.buffers h.request.asked))
+begins_progress w m h other = []
+
+abbrev pub begins_hand : Work → Naming → Option Hand → List (Happening Event)
+begins_hand w m (Some h) = begins_progress w m h w.progress
+begins_hand w m None = []
+
+abbrev pub begins_state : Work → Naming → State → List (Happening Event)
+begins_state w m state.Connected = begins_hand w m w.hand
+begins_state w m other = []
+
+abbrev pub begins_close : Work → Naming → List (Happening Event)
+begins_close w m = all_gone (numbers (names_of w m))
+
+abbrev pub begins_by : Work → Naming → Action → List (Happening Event)
+begins_by w m action.Connect = Row Begins [] ∷ []
+begins_by w m action.Stay = begins_state w m w.connection.back
+begins_by w m (action.Close s) = begins_close w m
+begins_by w m action.Renew = []
+
+abbrev pub begins_with : Work → Naming → Option Reason → List (Happening Event)
+begins_with w m (Some why) = begins_close w m
+begins_with w m None = begins_by w m (action_of w.connection)
+
+abbrev pub begins_of : Work → Naming → Bool → List (Happening Event)
+begins_of w m true = []
+begins_of w m false = begins_with w m w.kept
+
+-- the display's work read as a machine of rows and names
+abbrev pub reading : Site → Reading Work End Naming Rows Event
 reading site =
     record {
-      moves = Moves site;
+      table = record { moves = Moves site; makes = makes };
       rows = rows_of;
+      names = names_of;
       event = λ w o s. Says s (taken_at o);
+      made = made_at;
+      named = named_after;
       heard = Hears;
-      began = λ w. begins_of w w.closing;
+      began = λ w m. begins_of w m w.closing;
     }

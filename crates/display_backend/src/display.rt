@@ -1,17 +1,23 @@
 //! The display device.
 
-ghost use Rattle.std.specs.Prelude.{◌≡◌, ◌<◌, ◌≤◌, ◌-◌, ◌+◌, [], IfOk, None, not, true, false, length, slice_get, Some, List, is_some};
+ghost use Rattle.std.specs.Prelude.{◌≡◌, ◌<◌, ◌≤◌, ◌-◌, ◌+◌, [], IfOk, None, Ok, not, true, false, length, slice_get, Some, List, is_some, pos};
 ghost use Rattle.display_backend.specs.Activity.{is_open, is_connected, MayServe};
 ghost use Rattle.display_backend.specs.Goes.{fault_in};
-ghost use Rattle.display_backend.specs.Machine.{verdict, part_refs, all_refs};
+ghost use Rattle.display_backend.specs.Machine.{verdict, is_accepted, part_refs, all_refs};
+ghost use Rattle.display_backend.specs.Store.{stock_of, is_whole};
 ghost use Rattle.display_backend.specs.Reply.{reply_to, replied};
-ghost use Rattle.display_backend.specs.Whole.{Whole};
+ghost use Rattle.display_backend.specs.Whole.{Whole, Stored, IsReady, IsDue, Creates};
+ghost use Rattle.display_backend.specs.Work.{stock_after};
 ghost use Rattle.xenbus_states.specs.Nodes.{node_at, needed};
+ghost use Rattle.std.proofs.Props.{props};
+ghost use Rattle.display_backend.specs.Facts.{stands_prop};
 
-use displ_wire::{Asked, Request, decode, encode_reply, is_zero};
+use crate::store::Store;
+use displ_wire::{Asked, Create, Refused, Request, decode, encode_reply, is_zero};
 use link_core::Link;
+use page_directory::{Walk, Walked};
 use pv_words::{
-    Access, DomId, GrantRef, GrantRefusal, Hold, NodeFault, Reason, Said, State, Words,
+    Access, DomId, GrantRef, GrantRefusal, Hold, Mode, NodeFault, Reason, Said, State, Words,
 };
 use ring_words::Looked;
 use std::alloc::{AllocError, Global};
@@ -35,6 +41,21 @@ enum Ending {
     Shut(Reason),
 }
 
+/// How far the request in hand has come.
+#[derive(Clone, Copy, Debug, PartialEq, Eq)]
+pub enum Progress {
+    /// Its verdict stands, and nothing else is done yet.
+    Decided,
+    /// Memory was wanting for the list of its pages.
+    NoMemory,
+    /// A page was denied to it.
+    Denied,
+    /// The pages of its buffer are mapped.
+    Mapped,
+    /// The pages of its buffer are unmapped.
+    Released,
+}
+
 #[derive(Clone, Copy, Debug, PartialEq, Eq)]
 enum Activity {
     Between,
@@ -43,6 +64,10 @@ enum Activity {
     // All pages are given up, one after another.
     Leaving(Ending),
     Taking,
+    // The pages of a CREATE are mapped.
+    Walking,
+    // The pages of the buffer of this cookie are unmapped.
+    Freeing(u64),
     Answering,
     // A Sleep has come to this part.
     Sleeping(u8),
@@ -70,31 +95,28 @@ pub struct Display {
     closing: bool,
     // The reason for which it is to be closed.
     kept: Option<Reason>,
-    // The request in hand, which came by the part `at`, and the reply to it.
+    // The request in hand, which came by the part `at`; the status and the reply that answer it; how far it has come.
     hand: Option<Request>,
+    status: i32,
     reply: [u32; 16],
+    progress: Progress,
+    // The walk that is under way, if one is.
+    walk: Option<Walk>,
+    // The live buffers, and the pages that are held for buffers.
+    store: Store,
     // The part of the last Look that found requests, and how many are left of them.
     at: u8,
     left: u32,
     round: Round,
     activity: Activity,
-    ghost whole: { Whole dom.0 (is_open activity closing connection.back) hand reply at round activity links.items },
+    ghost whole: { Whole dom.0 (is_open activity closing connection.back) at round activity links.items },
+    ghost stored: { Stored dom.0 (is_open activity closing connection.back) activity hand status reply progress walk (stock_of store) (is_whole store) } by { Prim.hlevel (props, stands_prop) },
 }
 
-// The status for a framebuffer that isn't live, and for an operation that isn't known.
-const ENOENT: i32 = -2;
+// The status where memory was wanting, and where a page was denied.
+const ENOMEM: i32 = -12;
 
-const EOPNOTSUPP: i32 = -95;
-
-// The status of the reply to a request.
-fn verdict_on(asked: &Asked) -> i32
-    ensures { result ≡ verdict asked.now }
-{
-    match asked {
-        Asked::Config(config) => { if is_zero(config) { 0 } else { ENOENT } }
-        Asked::Create(_) | Asked::Destroy(_) | Asked::Other => EOPNOTSUPP,
-    }
-}
+const EACCES: i32 = -13;
 
 // What is wrong with a node of this part, the first of them.
 fn fault_of(nodes: &Nodes, part: u8) -> Option<Reason>
@@ -129,38 +151,71 @@ fn fault_among(nodes: &Nodes, parts: u8) -> Option<Reason>
     None
 }
 
+// The verdict on a request.
+fn verdict_on(store: &Store, asked: &Asked) -> i32
+    ensures { result ≡ verdict (stock_of store.now).buffers asked.now }
+{
+    match asked {
+        Asked::Create(create) => match store.check(create) {
+            Ok(()) => 0,
+            Err(why) => why.status(),
+        },
+        Asked::Destroy(cookie) => {
+            if store.is_live(*cookie) {
+                0
+            } else {
+                Refused::Unknown.status()
+            }
+        }
+        Asked::Config(config) => {
+            if is_zero(config) {
+                0
+            } else {
+                Refused::Unknown.status()
+            }
+        }
+        Asked::Other => Refused::NotSupported.status(),
+    }
+}
+
+// What the reply to a request makes of the buffers.
+fn answered(store: &mut Store, asked: &Asked, status: i32)
+    requires { status ≡ pos 0 → IsReady asked.now (stock_of store.old) (is_whole store.old) }
+    ensures { stock_of store.new ≡ stock_after (stock_of store.old) asked.now (is_accepted status) }
+{
+    if status != 0 {
+        return;
+    }
+    match asked {
+        Asked::Create(create) => store.create(create),
+        Asked::Destroy(cookie) => store.destroy(*cookie),
+        Asked::Config(_) | Asked::Other => {}
+    }
+}
+
 impl Display {
     ghost use Rattle.std.specs.Prelude.{ℕ};
+    ghost use Rattle.pv_words.specs.declared.grant.Hold.{Hold};
     ghost use Rattle.pv_words.specs.Plan.{MayGo, Makes, mapped};
     ghost use Rattle.pv_words.specs.declared.device.Said.TheVariants as said;
+    ghost use Rattle.displ_wire.specs.declared.Asked.TheVariants as asked;
+    ghost use Rattle.display_buffers.specs.Buffers.{check_of};
+    ghost use Rattle.page_directory.specs.WalkLeft.{walk_left, held_by, count_of};
+    ghost use Rattle.page_directory.specs.WalkLeft.{dom_of as walked_dom, is_over as is_walked};
     ghost use Rattle.link_core.specs.declared.link.Link.{Link};
     ghost use Rattle.link_core.specs.Link.{idle};
     ghost use Rattle.link_core.specs.Link.{held_of as held};
     ghost use Rattle.link_core.specs.Stays.{AccessIn};
+    ghost use Rattle.display_backend.specs.declared.display.Progress.TheVariants as progress;
     ghost use Rattle.display_backend.specs.declared.display.Round.TheVariants as round;
     ghost use Rattle.link_core.specs.Order.{Between, GoesOn, MayChoose, MayStep, Steps, Went, Heard, next, at_rest, rests_next};
     ghost use Rattle.display_backend.specs.declared.display.Activity.TheVariants as activity;
-    ghost use Rattle.display_backend.specs.Display.{dom_of, parts_of, Same, held_of, site_of, work_of, stand_of, number_at, hand_of, connecting, leaving_plan, reason_of, look_from, take_from, answer_from, sleeping, later, met_links};
-    ghost use Rattle.display_backend.specs.Goes.{GoesOut, Begins};
+    ghost use Rattle.display_backend.specs.Display.{dom_of, parts_of, Same, held_of, given_up, all_held, walk_pages, site_of, work_of, stand_of, number_at, hand_of, connecting, leaving_plan, reason_of, look_from, take_from, walk_from, freeing_plan, answer_from, sleeping, later, met_links};
+    ghost use Rattle.display_backend.specs.Goes.{GoesOut, Comes, Begins};
     ghost use Rattle.display_backend.specs.Machine.{Site};
-    ghost use Rattle.display_backend.specs.Work.{display, first_work, shut, Saw, Took, Answered, Slept, choice, close, with_action, with_hand, entered, next_look, part_in};
+    ghost use Rattle.display_backend.specs.Work.{display, first_work, shut, Saw, Took, Listed, Answered, Slept, choice, close, with_action, with_hand, maps, decides, entered, next_look, part_in};
     ghost use Rattle.xenbus_states.specs.Connection.{action_of};
     ghost use Rattle.xenbus_states.specs.declared.back.Action.TheVariants as action;
-
-    // What is said of the reply to the request in hand.
-    fn said_of(hand: &Option<Request>, part: u8, notified: bool) -> Option<Said>
-        ensures { result ≡ replied (hand_of hand.now part) notified }
-    {
-        match hand {
-            None => None,
-            Some(request) => Some(Said::Replied(
-                part,
-                request.id,
-                verdict_on(&request.asked),
-                notified,
-            )),
-        }
-    }
 
     // The number in a node of this part, once it is known to be there.
     fn number_at(nodes: &Nodes, part: u8, key: u8) -> u32
@@ -187,6 +242,7 @@ impl Display {
         for part in 0..connectors {
             links.push(Link::new(dom, part))?;
         }
+        let store = Store::new(alloc)?;
         Ok(Display {
             dom,
             connection: Back::new(),
@@ -196,12 +252,23 @@ impl Display {
             closing: false,
             kept: None,
             hand: None,
+            status: 0,
             reply: [0; 16],
+            progress: Progress::Decided,
+            walk: None,
+            store,
             at: 0,
             left: 0,
             round: Round::Looks(0, false),
             activity: Activity::Between,
         })
+    }
+
+    /// How many parts it has.
+    pub fn parts(&self) -> u8
+        ensures { result ≡ parts_of self.now }
+    {
+        self.links.len() as u8
     }
 
     /// Hears that the frontend set its state, while its nodes stand so.
@@ -215,9 +282,10 @@ impl Display {
         self.seen = *nodes;
     }
 
-    /// How many pages the display holds.
-    pub fn held(&self) -> u32
-        ensures { result ≡ length (held_of self.now) }
+    // How many pages the links hold.
+    fn linked(&self) -> u32
+        ensures count { result ≡ length (all_held self.now.links.items) }
+        ensures few { result ≤ 8 }
     {
         let mut count = 0;
         for part in 0..self.links.len() {
@@ -226,10 +294,28 @@ impl Display {
         count
     }
 
-    /// The page at this place of those that it holds, in order of the parts, the ring's page before the event page.
-    pub fn hold_at(&self, i: u32) -> Hold
-        requires { i < length (held_of self.now) }
-        ensures { slice_get (held_of self.now) i ≡ Some result }
+    // How many pages a walk holds that is under way.
+    fn walked(&self) -> u32
+        ensures count { result ≡ length (walk_pages self.now.walk) }
+        ensures few { result ≤ 8193 }
+    {
+        match &self.walk {
+            None => 0,
+            Some(walk) => walk.held(),
+        }
+    }
+
+    /// How many pages the display holds.
+    pub fn held(&self) -> u32
+        ensures { result ≡ length (held_of self.now) }
+    {
+        self.walked() + self.store.held() + self.linked()
+    }
+
+    // The page at this place of those that the links hold.
+    fn linked_at(&self, i: u32) -> Hold
+        requires { i < length (all_held self.now.links.items) }
+        ensures { slice_get (all_held self.now.links.items) i ≡ Some result }
     {
         let mut place = i;
         for part in 0..self.links.len() {
@@ -240,6 +326,35 @@ impl Display {
             place -= here;
         }
         unreachable!()
+    }
+
+    // The page at this place of those that a walk holds.
+    fn walked_at(&self, i: u32) -> Hold
+        requires { i < length (walk_pages self.now.walk) }
+        ensures { slice_get (walk_pages self.now.walk) i ≡ Some result }
+    {
+        match &self.walk {
+            None => unreachable!(),
+            Some(walk) => walk.hold_at(i),
+        }
+    }
+
+    /// The page at this place of those that it holds: those of a walk that is under way, those of buffers, and those of the
+    /// parts, in order, the ring's page before the event page.
+    pub fn hold_at(&self, i: u32) -> Hold
+        requires { i < length (held_of self.now) }
+        ensures { slice_get (held_of self.now) i ≡ Some result }
+    {
+        let walked = self.walked();
+        if i < walked {
+            return self.walked_at(i);
+        }
+        let place = i - walked;
+        let stored = self.store.held();
+        if place < stored {
+            return self.store.hold_at(place);
+        }
+        self.linked_at(place - stored)
     }
 
     // The first part that holds a page.
@@ -259,7 +374,7 @@ impl Display {
     // The connection is closed, once no page is held.
     fn shut(&mut self, end: Ending) -> Said
         requires leaving { self.old.activity ≡ activity.Leaving end }
-        requires bare { held_of self.old ≡ [] }
+        requires bare { given_up self.old ≡ [] }
         ensures said { result ≡ said.Closed (reason_of end) }
         ensures stand { (site : Site) → stand_of site self.new ≡ Between (shut (work_of self.old)) }
         ensures same { Same self.old self.new }
@@ -271,6 +386,7 @@ impl Display {
         self.closing = true;
         self.kept = None;
         self.hand = None;
+        self.progress = Progress::Decided;
         self.activity = Activity::Between;
         Said::Closed(why)
     }
@@ -278,10 +394,13 @@ impl Display {
     // What is said after an access in an activity that gives up all pages.
     fn leaves(&mut self, end: Ending) -> Option<Said>
         requires { self.old.activity ≡ activity.Leaving end }
-        ensures went { (site : Site) → Went (display site) (work_of self.old) (leaving_plan end (held_of self.old)) result (stand_of site self.new) }
+        ensures went { (site : Site) → Went (display site) (work_of self.old) (leaving_plan end (given_up self.old)) result (stand_of site self.new) }
         ensures same { Same self.old self.new }
     {
-        if self.held() > 0 {
+        if !self.store.is_bare() {
+            return None;
+        }
+        if self.first_held() < self.links.len() {
             return None;
         }
         Some(self.shut(end))
@@ -290,12 +409,17 @@ impl Display {
     // The next access of an activity that gives up all pages.
     fn leave<W: Words>(&mut self, words: &mut W, end: Ending) -> Step
         requires leaving { self.old.activity ≡ activity.Leaving end }
-        requires may { MayGo (W.may words.old) (leaving_plan end (held_of self.old)) }
-        ensures goes { (site : Site) → GoesOut site (work_of self.old) (leaving_plan end (held_of self.old)) result.access result.said (stand_of site self.new) }
+        requires may { MayGo (W.may words.old) (leaving_plan end (given_up self.old)) }
+        ensures goes { (site : Site) → GoesOut site (work_of self.old) (leaving_plan end (given_up self.old)) result.access result.said (stand_of site self.new) }
         ensures made { Makes W.makes words.old result.access words.new }
         ensures stays { (pages : List Hold) → AccessIn pages result.access }
         ensures same { Same self.old self.new }
     {
+        if !self.store.is_bare() {
+            let access = Some(self.store.unmap_first(words));
+            let said = self.leaves(end);
+            return Step { access, said };
+        }
         let part = self.first_held();
         if part == self.links.len() {
             let said = self.shut(end);
@@ -326,6 +450,8 @@ impl Display {
         self.closing = false;
         self.kept = None;
         self.hand = None;
+        self.progress = Progress::Decided;
+        self.store.clear();
         self.left = 0;
         self.round = Round::Looks(0, false);
         self.activity = Activity::Between;
@@ -373,6 +499,7 @@ impl Display {
     fn take<W: Words>(&mut self, words: &mut W) -> Step
         requires serving { MayServe self.old.activity activity.Taking }
         requires opened { is_open self.old.activity self.old.closing self.old.connection.back ≡ true }
+        requires hand { self.old.hand ≡ None }
         requires may { MayGo (W.may words.old) (take_from (slice_get self.old.links.items self.old.at)) }
         ensures goes { (site : Site) → GoesOn (display site) (work_of self.old) (mapped Took (take_from (slice_get self.old.links.items self.old.at))) result.access result.said (stand_of site self.new) }
         ensures made { Makes W.makes words.old result.access words.new }
@@ -386,8 +513,10 @@ impl Display {
             return Step { access, said: None };
         };
         let request = decode(&taken);
-        self.reply = encode_reply(request.id, request.op, verdict_on(&request.asked));
+        self.status = verdict_on(&self.store, &request.asked);
+        self.reply = encode_reply(request.id, request.op, self.status);
         self.hand = Some(request);
+        self.progress = Progress::Decided;
         self.left = self.left.saturating_sub(1);
         self.activity = Activity::Between;
         Step {
@@ -396,9 +525,138 @@ impl Display {
         }
     }
 
+    // The first access of the walk of a CREATE; where memory is wanting for the list of its pages, of its answer.
+    fn map<W: Words>(&mut self, words: &mut W, request: Request, create: &Create) -> Step
+        requires between { self.old.activity ≡ activity.Between }
+        requires opened { is_open self.old.activity self.old.closing self.old.connection.back ≡ true }
+        requires hand { self.old.hand ≡ Some request }
+        requires asks { request.asked ≡ asked.Create create.now }
+        requires decided { self.old.progress ≡ progress.Decided }
+        requires checked { check_of (stock_of self.old.store).buffers create.now ≡ Ok tt }
+        requires may { MayChoose (W.may words.old) (maps (site_of (W.frames_of words.old) (W.grants_of words.old) self.old) (work_of self.old) (record { part = self.old.at; request = request }) create.now (slice_get (work_of self.old).parts self.old.at)) }
+        ensures begins { Begins (site_of (W.frames_of words.old) (W.grants_of words.old) self.old) (maps (site_of (W.frames_of words.old) (W.grants_of words.old) self.old) (work_of self.old) (record { part = self.old.at; request = request }) create.now (slice_get (work_of self.old).parts self.old.at)) result.access result.said (stand_of (site_of (W.frames_of words.old) (W.grants_of words.old) self.old) self.new) }
+        ensures made { Makes W.makes words.old result.access words.new }
+        ensures stays { AccessIn (held_of self.old) result.access }
+        ensures same { Same self.old self.new }
+    {
+        let alloc = *self.links.allocator();
+        let directory = GrantRef(create.gref_directory);
+        match Walk::new(alloc, self.dom, create.buffer_sz, directory, Mode::Read) {
+            Ok(walk) => self.walk(words, request, walk),
+            Err(_) => {
+                self.progress = Progress::NoMemory;
+                self.status = ENOMEM;
+                self.reply = encode_reply(request.id, request.op, ENOMEM);
+                self.answer(words)
+            }
+        }
+    }
+
+    // The next access of this walk of a CREATE.
+    fn walk<W: Words>(&mut self, words: &mut W, request: Request, walk: Walk) -> Step
+        requires between { self.old.activity ≡ activity.Between }
+        requires opened { is_open self.old.activity self.old.closing self.old.connection.back ≡ true }
+        requires hand { self.old.hand ≡ Some request }
+        requires creates { Creates request.asked self.old.progress (stock_of self.old.store) (count_of walk) }
+        requires dom { walked_dom walk ≡ dom_of self.old }
+        requires going { is_walked walk ≡ false }
+        requires may { MayGo (W.may words.old) (walk_left (W.frames_of words.old (dom_of self.old)) (W.grants_of words.old (dom_of self.old)) walk) }
+        ensures comes { Comes (site_of (W.frames_of words.old) (W.grants_of words.old) self.old) (work_of self.old) (mapped Listed (walk_left (W.frames_of words.old (dom_of self.old)) (W.grants_of words.old (dom_of self.old)) walk)) result.access result.said (stand_of (site_of (W.frames_of words.old) (W.grants_of words.old) self.old) self.new) }
+        ensures made { Makes W.makes words.old result.access words.new }
+        ensures stays { AccessIn (held_by walk) result.access }
+        ensures same { Same self.old self.new }
+    {
+        let mut walk = walk;
+        let turn = walk.step(words);
+        let access = turn.access;
+        let Some(end) = turn.done else {
+            self.walk = Some(walk);
+            self.activity = Activity::Walking;
+            return Step { access, said: None };
+        };
+        match end {
+            Walked::Pages(pages) => {
+                self.store.keep(pages);
+                self.progress = Progress::Mapped;
+                Step { access, said: None }
+            }
+            Walked::Refused(why) => {
+                self.progress = Progress::Denied;
+                self.status = EACCES;
+                self.reply = encode_reply(request.id, request.op, EACCES);
+                Step {
+                    access,
+                    said: Some(Said::Denied(why)),
+                }
+            }
+        }
+    }
+
+    // The next access of the walk under way.
+    fn walk_on<W: Words>(&mut self, words: &mut W) -> Step
+        requires walking { self.old.activity ≡ activity.Walking }
+        requires may { MayGo (W.may words.old) (walk_from (site_of (W.frames_of words.old) (W.grants_of words.old) self.old) self.old.walk) }
+        ensures goes { GoesOn (display (site_of (W.frames_of words.old) (W.grants_of words.old) self.old)) (work_of self.old) (mapped Listed (walk_from (site_of (W.frames_of words.old) (W.grants_of words.old) self.old) self.old.walk)) result.access result.said (stand_of (site_of (W.frames_of words.old) (W.grants_of words.old) self.old) self.new) }
+        ensures made { Makes W.makes words.old result.access words.new }
+        ensures stays { AccessIn (held_of self.old) result.access }
+        ensures same { Same self.old self.new }
+    {
+        let Some(walk) = self.walk.take() else {
+            unreachable!();
+        };
+        let Some(request) = self.hand else {
+            unreachable!();
+        };
+        self.activity = Activity::Between;
+        self.walk(words, request, walk)
+    }
+
+    // The next access of the Release of a DESTROY.
+    fn free<W: Words>(&mut self, words: &mut W, cookie: u64) -> Step
+        requires freeing { self.old.activity ≡ activity.Freeing cookie }
+        requires may { MayGo (W.may words.old) (freeing_plan cookie (stock_of self.old.store)) }
+        ensures goes { (site : Site) → GoesOn (display site) (work_of self.old) (freeing_plan cookie (stock_of self.old.store)) result.access result.said (stand_of site self.new) }
+        ensures made { Makes W.makes words.old result.access words.new }
+        ensures stays { (pages : List Hold) → AccessIn pages result.access }
+        ensures same { Same self.old self.new }
+    {
+        let access = Some(self.store.unmap_of(cookie, words));
+        if self.store.held_of(cookie) > 0 {
+            return Step { access, said: None };
+        }
+        self.progress = Progress::Released;
+        self.activity = Activity::Between;
+        Step { access, said: None }
+    }
+
+    // The first access of what the request in hand leads to.
+    fn decide<W: Words>(&mut self, words: &mut W, request: Request) -> Step
+        requires between { self.old.activity ≡ activity.Between }
+        requires opened { is_open self.old.activity self.old.closing self.old.connection.back ≡ true }
+        requires hand { self.old.hand ≡ Some request }
+        requires decided { self.old.progress ≡ progress.Decided }
+        requires may { MayChoose (W.may words.old) (decides (site_of (W.frames_of words.old) (W.grants_of words.old) self.old) (work_of self.old) (record { part = self.old.at; request = request }) request.asked (is_accepted self.old.status)) }
+        ensures begins { Begins (site_of (W.frames_of words.old) (W.grants_of words.old) self.old) (decides (site_of (W.frames_of words.old) (W.grants_of words.old) self.old) (work_of self.old) (record { part = self.old.at; request = request }) request.asked (is_accepted self.old.status)) result.access result.said (stand_of (site_of (W.frames_of words.old) (W.grants_of words.old) self.old) self.new) }
+        ensures made { Makes W.makes words.old result.access words.new }
+        ensures stays { AccessIn (held_of self.old) result.access }
+        ensures same { Same self.old self.new }
+    {
+        if self.status != 0 {
+            return self.answer(words);
+        }
+        match request.asked {
+            Asked::Create(create) => self.map(words, request, &create),
+            Asked::Destroy(cookie) => {
+                self.activity = Activity::Freeing(cookie);
+                self.free(words, cookie)
+            }
+            Asked::Config(_) | Asked::Other => self.answer(words),
+        }
+    }
+
     // The next access of an Answer.
     fn answer<W: Words>(&mut self, words: &mut W) -> Step
-        requires hand { is_some self.old.hand ≡ true }
+        requires due { IsDue self.old.hand self.old.progress self.old.status }
         requires may { MayGo (W.may words.old) (answer_from self.old.reply (slice_get self.old.links.items self.old.at)) }
         requires serving { MayServe self.old.activity activity.Answering }
         requires opened { is_open self.old.activity self.old.closing self.old.connection.back ≡ true }
@@ -414,8 +672,13 @@ impl Display {
             self.activity = Activity::Answering;
             return Step { access, said: None };
         };
-        let said = Display::said_of(&self.hand, self.at, notified);
+        let Some(request) = self.hand else {
+            unreachable!();
+        };
+        let said = Some(Said::Replied(self.at, request.id, self.status, notified));
+        answered(&mut self.store, &request.asked, self.status);
         self.hand = None;
+        self.progress = Progress::Decided;
         self.activity = Activity::Between;
         Step { access, said }
     }
@@ -513,6 +776,8 @@ impl Display {
             Activity::Connecting(part) => self.connect(words, part),
             Activity::Leaving(end) => self.leave(words, end),
             Activity::Taking => self.take(words),
+            Activity::Walking => self.walk_on(words),
+            Activity::Freeing(cookie) => self.free(words, cookie),
             Activity::Answering => self.answer(words),
             Activity::Sleeping(part) => self.sleep(words, part),
         }
@@ -560,6 +825,8 @@ impl Display {
         self.connection.moved(s);
         self.closing = false;
         self.hand = None;
+        self.progress = Progress::Decided;
+        self.store.clear();
         Step {
             access: None,
             said: Some(Said::State(s)),
@@ -610,14 +877,17 @@ impl Display {
     fn serve<W: Words>(&mut self, words: &mut W) -> Step
         requires between { self.old.activity ≡ activity.Between }
         requires opened { is_open self.old.activity self.old.closing self.old.connection.back ≡ true }
-        requires may { MayChoose (W.may words.old) (with_hand (work_of self.old) (hand_of self.old.hand self.old.at)) }
-        ensures begins { Begins (site_of (W.frames_of words.old) (W.grants_of words.old) self.old) (with_hand (work_of self.old) (hand_of self.old.hand self.old.at)) result.access result.said (stand_of (site_of (W.frames_of words.old) (W.grants_of words.old) self.old) self.new) }
+        requires may { MayChoose (W.may words.old) (with_hand (site_of (W.frames_of words.old) (W.grants_of words.old) self.old) (work_of self.old) (hand_of self.old.hand self.old.at)) }
+        ensures begins { Begins (site_of (W.frames_of words.old) (W.grants_of words.old) self.old) (with_hand (site_of (W.frames_of words.old) (W.grants_of words.old) self.old) (work_of self.old) (hand_of self.old.hand self.old.at)) result.access result.said (stand_of (site_of (W.frames_of words.old) (W.grants_of words.old) self.old) self.new) }
         ensures made { Makes W.makes words.old result.access words.new }
         ensures stays { AccessIn (held_of self.old) result.access }
         ensures same { Same self.old self.new }
     {
-        if self.hand.is_some() {
-            return self.answer(words);
+        if let Some(request) = self.hand {
+            return match self.progress {
+                Progress::Decided => self.decide(words, request),
+                _ => self.answer(words),
+            };
         }
         if self.left > 0 {
             return self.take(words);
@@ -639,7 +909,7 @@ impl Display {
     fn is_busy(&self) -> bool
         requires between { self.now.activity ≡ activity.Between }
         requires opened { is_open self.now.activity self.now.closing self.now.connection.back ≡ true }
-        ensures { result ≡ not (rests_next (with_hand (work_of self.now) (hand_of self.now.hand self.now.at))) }
+        ensures { (site : Site) → result ≡ not (rests_next (with_hand site (work_of self.now) (hand_of self.now.hand self.now.at))) }
     {
         if self.hand.is_some() {
             return true;

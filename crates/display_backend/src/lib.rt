@@ -1,6 +1,13 @@
 //! A display's backend, one step at a time.
 #![tactic(auto)]
 
-pub mod display;
+mod display;
+mod laws;
+mod left;
+mod store;
 
 pub use display::{Display, Step};
+pub use laws::{frees_in_order, gives_up_in_order, keeps_pages};
+
+#[cfg(test)]
+mod tests;

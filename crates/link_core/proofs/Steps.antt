@@ -1,14 +1,23 @@
 -- What a step of an activity makes of a stand.
-use Rattle.std.proofs.Common.{◌≡◌, List, [], ◌∷◌, Option, Some, None, refl, sym, subst, ◌∙◌, ap}
+use Rattle.std.proofs.Common.{◌≡◌, Bool, true, false, List, [], ◌∷◌, Option, Some, None, if◌then◌else◌, refl, sym, subst, ◌∙◌, ap}
 use Rattle.pv_words.specs.declared.access.Access.{Access}
+use Rattle.pv_words.specs.declared.access.Access.TheVariants as access
 use Rattle.pv_words.specs.declared.device.Said.{Said}
 use Rattle.pv_words.specs.Along.{after, Along}
-use Rattle.pv_words.specs.Plan.{Plan, Finished, Make, Goes, Turns, IsUnfinished, mapped}
-use Rattle.link_core.specs.Order.{Own, Did, Spoke, Rested, Order, Act, Rest, Rules, Stand, Between, During, ended, going, begun, next, May, MayBegin, Steps, Went, GoesOn}
+use Rattle.pv_words.specs.Memory.{place_of}
+use Rattle.pv_words.specs.Plan.{Plan, Finished, Make, Want, aim_of, wanted, Goes, Turns, IsUnfinished, mapped}
+use Rattle.link_core.specs.Order.{Own, Did, Spoke, Rested, Others, Order, Act, Either, Rest, Rules, Stand, Between, During, is_in_page, picked, ended, going, begun, next, May, MayBegin, Steps, Went, GoesOn}
 
 goes_mapped : {A B : Type 0} (f : A → B) (p : Plan A) (a : Access) (q : Plan A) → Goes p a q → Goes (mapped f p) a (mapped f q)
 goes_mapped f (Finished x) a q g = absurd g
 goes_mapped f (Make want note more) a q g = (g.0, ap (mapped f) g.1)
+
+-- an access is made where it was wanted
+pub place_wanted : (want : Want) (a : Access) → wanted a ≡ want → place_of a ≡ aim_of want
+place_wanted want (access.Load at v) e = ap aim_of e
+place_wanted want (access.Store at v) e = ap aim_of e
+place_wanted want (access.Cas at old new seen) e = ap aim_of e
+place_wanted want (access.Clear at mask seen) e = ap aim_of e
 
 module _ {W O : Type 0} (r : Rules W O) where
   rest_of : Option Said → List Own
@@ -43,32 +52,64 @@ module _ {W O : Type 0} (r : Rules W O) where
   steps_during w (Make want note more) (Some a) said new g =
       steps_from (During w (Make want note more)) a said new (going r w g.0) g.1.0 (ap (going r w) (sym g.1.1)) (went_leads w g.0 said new g.2)
 
-  -- a step that begins an activity
-  began : (w v : W) (p : Plan O) (a : Access) → r.choice w ≡ Act v p → (q : Plan O) → Goes p a q → MayBegin r w (r.choice w) (Did a) × (begun r w (r.choice w) (Did a) ≡ going r v q)
-  began w v (Finished o) a e q g = absurd g
-  began w v (Make want note more) a e q g =
-      subst (λ (c : Order W O). MayBegin r w c (Did a) × (begun r w c (Did a) ≡ going r v q)) (sym e) (g.0, ap (going r v) (sym g.1))
+  -- a step that begins the activity that it picks
+  began : (w v : W) (c : Order W O) (p : Plan O) (a : Access) → c ≡ Act v p → (q : Plan O) → Goes p a q → MayBegin r w c (Did a) × (begun r w c (Did a) ≡ going r v q)
+  began w v c (Finished o) a e q g = absurd g
+  began w v c (Make want note more) a e q g =
+      subst (λ (k : Order W O). MayBegin r w k (Did a) × (begun r w k (Did a) ≡ going r v q)) (sym e) (g.0, ap (going r v) (sym g.1))
+
+  steps_picked : (w v : W) (p : Plan O) (a : Access) (said : Option Said) (new : Stand W O) → picked (r.choice w) (Did a) ≡ Act v p → GoesOn r v p (Some a) said new → Steps r (Between w) (Some a) said new
+  steps_picked w v p a said new e g =
+      let b = began w v (picked (r.choice w) (Did a)) p a e g.0 g.1 in
+      steps_from (Between w) a said new (going r v g.0) b.0 b.1 (went_leads v g.0 said new g.2)
 
   pub steps_between : (w v : W) (p : Plan O) (access : Option Access) (said : Option Said) (new : Stand W O) → r.choice w ≡ Act v p → GoesOn r v p access said new → Steps r (Between w) access said new
   steps_between w v p None said new e g = absurd g
-  steps_between w v p (Some a) said new e g =
-      let b = began w v p a e g.0 g.1 in
-      steps_from (Between w) a said new (going r v g.0) b.0 b.1 (went_leads v g.0 said new g.2)
+  steps_between w v p (Some a) said new e g = steps_picked w v p a said new (ap (λ (c : Order W O). picked c (Did a)) e) g
+
+  -- of two activities an access to a page begins the first, and one to a grant entry the second
+  pub steps_first : (w v u : W) (p q : Plan O) (a : Access) (said : Option Said) (new : Stand W O) → r.choice w ≡ Either v p u q → is_in_page (place_of a) ≡ true → GoesOn r v p (Some a) said new → Steps r (Between w) (Some a) said new
+  steps_first w v u p q a said new e i g =
+      steps_picked w v p a said new (ap (λ (c : Order W O). picked c (Did a)) e ∙ ap (λ (b : Bool). if b then Act v p else Act u q) i) g
+
+  pub steps_second : (w v u : W) (p q : Plan O) (a : Access) (said : Option Said) (new : Stand W O) → r.choice w ≡ Either v p u q → is_in_page (place_of a) ≡ false → GoesOn r u q (Some a) said new → Steps r (Between w) (Some a) said new
+  steps_second w v u p q a said new e i g =
+      steps_picked w u q a said new (ap (λ (c : Order W O). picked c (Did a)) e ∙ ap (λ (b : Bool). if b then Act v p else Act u q) i) g
 
   -- a step that says an event alone, and one that rests
-  pub steps_said : (w v : W) (o : O) (t : Said) (new : Stand W O) → r.choice w ≡ Act v (Finished o) → r.said_at v o ≡ Some t → new ≡ Between (r.settled v o) → Steps r (Between w) None (Some t) new
-  steps_said w v o t new e s n =
+  tells_alone : (w v : W) (o : O) (t : Said) (new : Stand W O) → picked (r.choice w) (Spoke t) ≡ Act v (Finished o) → r.said_at v o ≡ Some t → new ≡ Between (r.settled v o) → Steps r (Between w) None (Some t) new
+  tells_alone w v o t new e s n =
       record {
         explained = (subst (λ (c : Order W O). MayBegin r w c (Spoke t)) (sym e) s, tt);
         left = n ∙ ap (λ (c : Order W O). begun r w c (Spoke t)) (sym e);
       }
 
+  pub steps_said : (w v : W) (o : O) (t : Said) (new : Stand W O) → r.choice w ≡ Act v (Finished o) → r.said_at v o ≡ Some t → new ≡ Between (r.settled v o) → Steps r (Between w) None (Some t) new
+  steps_said w v o t new e s n = tells_alone w v o t new (ap (λ (c : Order W O). picked c (Spoke t)) e) s n
+
+  -- the second of two activities, where it is over at once
+  pub steps_second_said : (w v u : W) (p : Plan O) (o : O) (t : Said) (new : Stand W O) → r.choice w ≡ Either v p u (Finished o) → r.said_at u o ≡ Some t → new ≡ Between (r.settled u o) → Steps r (Between w) None (Some t) new
+  steps_second_said w v u p o t new e s n = tells_alone w u o t new (ap (λ (c : Order W O). picked c (Spoke t)) e) s n
+
   pub steps_rest : (w v : W) (new : Stand W O) → r.choice w ≡ Rest v → new ≡ Between v → Steps r (Between w) None None new
   steps_rest w v new e n =
       record {
-        explained = (subst (λ (c : Order W O). MayBegin r w c Rested) (sym e) tt, tt);
-        left = n ∙ ap (λ (c : Order W O). begun r w c Rested) (sym e);
+        explained = (subst (λ (c : Order W O). MayBegin r w (picked c Rested) Rested) (sym e) tt, tt);
+        left = n ∙ ap (λ (c : Order W O). begun r w (picked c Rested) Rested) (sym e);
       }
+
+  -- An access of another domain or device may come, and leaves the stand as it is.
+  pub others_stay_between : (w : W) (a : Access) → next r (Between w) (Others a) ≡ Between w
+  others_stay_between w a = refl
+
+  pub others_stay_during : (w : W) (p : Plan O) (a : Access) → next r (During w p) (Others a) ≡ During w p
+  others_stay_during w p a = refl
+
+  pub others_may_between : (w : W) (a : Access) → May r (Between w) (Others a)
+  others_may_between w a = tt
+
+  pub others_may_during : (w : W) (p : Plan O) (a : Access) → May r (During w p) (Others a)
+  others_may_during w p a = tt
 
   -- the turn of a smaller activity is a step of the device's
   pub turn_ends : {A : Type 0} (f : A → O) (w : W) (p : Plan A) (access : Option Access) (x : A) (q : Plan A) (said : Option Said) (new : Stand W O) → Turns p access (Some x) q → said ≡ r.said_at w (f x) → new ≡ Between (r.settled w (f x)) → GoesOn r w (mapped f p) access said new

@@ -1,80 +1,165 @@
--- A device's work is a run of a machine of rows: one theorem for every device.
-use Rattle.std.specs.Prelude.{◌≡◌, List, [], ◌∷◌, ◌++◌, Some, None}
+-- A device's work is a run of a machine of rows and names: one theorem for every device.
+use Rattle.std.specs.Prelude.{◌≡◌, ℕ, List, [], ◌∷◌, ◌++◌, map, Option, Some, None}
 use Rattle.pv_words.specs.declared.access.Access.{Access}
 use Rattle.pv_words.specs.declared.device.NodeValue.{NodeValue}
 use Rattle.pv_words.specs.declared.device.Said.{Said}
 use Rattle.pv_words.specs.declared.device.State.{State}
+use Rattle.pv_words.specs.declared.place.Place.{Place}
 use Rattle.pv_words.specs.Held.{Holds}
+use Rattle.pv_words.specs.Memory.{Memory, written}
 use Rattle.pv_words.specs.Plan.{Plan, Finished, Make, Want, Note, FitsFrom}
-use Rattle.link_core.specs.Order.{Own, Did, Spoke, Rested, Heard, Order, Act, Rest, Rules, Stand, Between, During, Telling, next}
+use Rattle.link_core.specs.Names.{Name, Drawn, Stroke, Redraws, Loses, words_at, all_drawn, writing_of, strokes_by, with_name}
+use Rattle.link_core.specs.Order.{Own, Did, Spoke, Rested, Heard, Others, Order, Act, Either, Rest, Rules, Stand, Between, During, Telling, Offers, next, picked}
 
--- A machine of rows: its states, what happens to it, and which happening leads from which state to which. It knows no
--- word, page or access. Each state of a device's work shows a state of the machine. What the device says at an
--- activity's end is something that happens to the machine, what it hears from its frontend is, and so may be an
--- activity's beginning.
-pub record Reading (W O M E : Type 0) : Type 1 where
-  pub moves : M → E → M → Type 0
-  pub rows : W → M
-  pub event : W → O → Said → E
-  pub heard : State → List NodeValue → E
-  pub began : W → List E
+-- a table of rows: which happening leads from which rows to which, and the number of the name that it makes, if it does
+pub record Table (R E : Type 0) : Type 1 where
+  pub moves : R → E → R → Type 0
+  pub makes : R → E → Option ℕ
+
+-- the machine's state: its rows, and the live names with their words
+pub record Snapshot (R : Type 0) : Type 0 where
+  pub rows : R
+  pub names : List Drawn
+
+-- What happens to the machine: something happens to the rows, and where that makes a name, it has these words; a name is
+-- gone; a word of a name is written.
+pub data Happening (E : Type 0) : Type 0 where
+  Row : E → List ℕ → Happening E
+  Gone : ℕ → Happening E
+  Draw : Stroke → Happening E
+
+abbrev pub HappensTo : {R E : Type 0} → Table R E → Snapshot R → Happening E → Snapshot R → Type 0
+HappensTo t old (Row e words) new = t.moves old.rows e new.rows × (new.names ≡ with_name old.names (t.makes old.rows e) words)
+HappensTo t old (Gone number) new = (new.rows ≡ old.rows) × Loses number old.names new.names
+HappensTo t old (Draw s) new = (new.rows ≡ old.rows) × Redraws s old.names new.names
 
 -- a run of the machine
 abbrev pub IsRun : {M E : Type 0} → (M → E → M → Type 0) → M → List E → M → Type 0
 IsRun moves m [] n = m ≡ n
 IsRun {M} moves m (e ∷ es) n = (k : M) × moves m e k × IsRun moves k es n
 
--- what happens to the machine where the device does this
-abbrev pub happens_first : {W O M E : Type 0} → Reading W O M E → W → Order W O → Own → List E
-happens_first d w c (Heard front nodes) = d.heard front nodes ∷ []
-happens_first d w (Act v (Finished o)) (Spoke s) = d.began w ++ d.event v o s ∷ []
-happens_first d w (Act v (Finished o)) (Did a) = []
-happens_first d w (Act v (Finished o)) Rested = []
-happens_first d w (Act v (Make want note more)) (Did a) = d.began w
-happens_first d w (Act v (Make want note more)) (Spoke s) = []
-happens_first d w (Act v (Make want note more)) Rested = []
-happens_first d w (Rest v) (Spoke s) = []
-happens_first d w (Rest v) (Did a) = []
-happens_first d w (Rest v) Rested = []
+-- How a device's work is read. Each state of its work, with the numbers of its names, shows rows of the machine, and the
+-- live names. What the device says at an activity's end is something that happens to the rows, and may make a name, which
+-- has these words then; so is what it hears from its frontend; and an activity's beginning may be something that happens
+-- to the machine.
+pub record Reading (W O N R E : Type 0) : Type 1 where
+  pub table : Table R E
+  pub rows : W → N → R
+  pub names : W → N → List Name
+  pub event : W → O → Said → E
+  pub made : W → O → List Place
+  pub named : W → O → N → N
+  pub heard : State → List NodeValue → E
+  pub began : W → N → List (Happening E)
 
-abbrev pub happens_in : {W O M E : Type 0} → Reading W O M E → Own → List E
-happens_in d (Heard front nodes) = d.heard front nodes ∷ []
-happens_in d (Did a) = []
-happens_in d (Spoke s) = []
-happens_in d Rested = []
+module _ {W O N R E : Type 0} (r : Rules W O) (d : Reading W O N R E) where
+  -- the machine's state that a work shows over a memory
+  abbrev pub shown : W → N → Memory → Snapshot R
+  shown w n memory = record { rows = d.rows w n; names = all_drawn memory (d.names w n) }
 
-abbrev pub happens_told : {W O M E : Type 0} → Reading W O M E → W → O → Own → List E
-happens_told d w o (Spoke s) = d.event w o s ∷ []
-happens_told d w o (Did a) = []
-happens_told d w o Rested = []
-happens_told d w o (Heard front nodes) = []
+  -- an activity's end, and what is said of it
+  abbrev pub row_of : W → O → Said → Memory → Happening E
+  row_of w o s memory = Row (d.event w o s) (words_at memory (d.made w o))
 
-abbrev pub happens : {W O M E : Type 0} → Rules W O → Reading W O M E → Stand W O → Own → List E
-happens r d (Between w) e = happens_first d w (r.choice w) e
-happens r d (During w p) e = happens_in d e
-happens r d (Telling s w o) e = happens_told d w o e
+  -- the words that an access writes are drawn
+  abbrev pub draws : List Name → Access → List (Happening E)
+  draws names a = map Draw (strokes_by (writing_of a) names)
 
--- what happens to the machine in all that a device does and hears
-abbrev pub history : {W O M E : Type 0} → Rules W O → Reading W O M E → Stand W O → List Own → List E
-history r d s [] = []
-history r d s (e ∷ es) = happens r d s e ++ history r d (next r s e) es
+  -- what happens to the machine where the device does, or hears, this
+  abbrev pub happens_first : W → N → Memory → Order W O → Own → List (Happening E)
+  happens_first w n memory c (Heard front nodes) = Row (d.heard front nodes) [] ∷ []
+  happens_first w n memory c (Others a) = draws (d.names w n) a
+  happens_first w n memory (Act v (Finished o)) (Spoke s) = d.began w n ++ row_of v o s memory ∷ []
+  happens_first w n memory (Act v (Finished o)) (Did a) = []
+  happens_first w n memory (Act v (Finished o)) Rested = []
+  happens_first w n memory (Act v (Make want note more)) (Did a) = d.began w n ++ draws (d.names v n) a
+  happens_first w n memory (Act v (Make want note more)) (Spoke s) = []
+  happens_first w n memory (Act v (Make want note more)) Rested = []
+  happens_first w n memory (Either v p u q) (Did a) = []
+  happens_first w n memory (Either v p u q) (Spoke s) = []
+  happens_first w n memory (Either v p u q) Rested = []
+  happens_first w n memory (Rest v) (Spoke s) = []
+  happens_first w n memory (Rest v) (Did a) = []
+  happens_first w n memory (Rest v) Rested = []
+
+  abbrev pub happens_in : W → N → Own → List (Happening E)
+  happens_in w n (Heard front nodes) = Row (d.heard front nodes) [] ∷ []
+  happens_in w n (Others a) = draws (d.names w n) a
+  happens_in w n (Did a) = draws (d.names w n) a
+  happens_in w n (Spoke s) = []
+  happens_in w n Rested = []
+
+  abbrev pub happens_told : W → O → Memory → Own → List (Happening E)
+  happens_told w o memory (Spoke s) = row_of w o s memory ∷ []
+  happens_told w o memory (Did a) = []
+  happens_told w o memory Rested = []
+  happens_told w o memory (Heard front nodes) = []
+  happens_told w o memory (Others a) = []
+
+  abbrev pub happens : Stand W O → N → Memory → Own → List (Happening E)
+  happens (Between w) n memory e = happens_first w n memory (picked (r.choice w) e) e
+  happens (During w p) n memory e = happens_in w n e
+  happens (Telling s w o) n memory e = happens_told w o memory e
+
+  -- the numbers of the names, after one more thing: they change where an activity's end is told
+  abbrev pub named_first : N → Order W O → Own → N
+  named_first n c (Heard front nodes) = n
+  named_first n c (Others a) = n
+  named_first n (Act v (Finished o)) (Spoke s) = d.named v o n
+  named_first n c e = n
+
+  abbrev pub named_told : W → O → N → Own → N
+  named_told w o n (Spoke s) = d.named w o n
+  named_told w o n e = n
+
+  abbrev pub named_next : Stand W O → N → Own → N
+  named_next (Between w) n e = named_first n (picked (r.choice w) e) e
+  named_next (During w p) n e = n
+  named_next (Telling s w o) n e = named_told w o n e
+
+  -- the memory after one more thing
+  abbrev pub memory_next : Memory → Own → Memory
+  memory_next memory (Did a) = written memory a
+  memory_next memory (Others a) = written memory a
+  memory_next memory (Spoke s) = memory
+  memory_next memory Rested = memory
+  memory_next memory (Heard front nodes) = memory
+
+  -- what happens to the machine in all that a device does and hears
+  abbrev pub history : Stand W O → N → Memory → List Own → List (Happening E)
+  history s n memory [] = []
+  history s n memory (e ∷ es) = happens s n memory e ++ history (next r s e) (named_next s n e) (memory_next memory e) es
 
 -- an activity fits: each access is as `May` says of what the device holds then, and it ends as it should, with what the
--- work then tells that the device holds
-abbrev pub FitsWell : {W O : Type 0} → Rules W O → (Holds → Want → Note → Type 0) → (Holds → Note → Access → Holds) → (W → Holds) → (W → O → Type 0) → W → Holds → Plan O → Type 0
-FitsWell r May held start EndsWell w h p = FitsFrom May held (λ k o. (k ≡ start (r.settled w o)) × EndsWell w o) h p
+-- work then tells of what the device holds
+abbrev pub FitsWell : {W O : Type 0} → Rules W O → (Holds → Want → Note → Type 0) → (Holds → Note → Access → Holds) → (W → Holds → Type 0) → (W → O → Type 0) → W → Holds → Plan O → Type 0
+FitsWell r May held Tells EndsWell w h p = FitsFrom May held (λ k o. Tells (r.settled w o) k × EndsWell w o) h p
+
+-- no name comes or goes, and the rows stay
+pub record Stays {W O N R E : Type 0} (d : Reading W O N R E) (old new : W) (n : N) : Type 0 where
+  pub rows : d.rows new n ≡ d.rows old n
+  pub names : d.names new n ≡ d.names old n
+
+-- something happens to the rows, and makes the name of these words, if it makes one
+pub record Moves {W O N R E : Type 0} (d : Reading W O N R E) (old : W) (n : N) (e : E) (cells : List Place) (new : W) (m : N) : Type 0 where
+  pub move : d.table.moves (d.rows old n) e (d.rows new m)
+  pub names : (memory : Memory) → all_drawn memory (d.names new m) ≡ with_name (all_drawn memory (d.names old n)) (d.table.makes (d.rows old n) e) (words_at memory cells)
 
 -- What makes a device's work sound, said of one activity at a time. What the work knows stays true, and it tells what the
--- device holds; an activity that is chosen fits; its end is a move of the machine; and so is what is heard from the
+-- device holds; an activity that may be chosen fits; its end is a move of the machine; and so is what is heard from the
 -- frontend, which changes nothing that an activity under way relies on.
-pub record Sound {W O M E : Type 0} (r : Rules W O) (d : Reading W O M E) (May : Holds → Want → Note → Type 0) (held : Holds → Note → Access → Holds) : Type 1 where
+pub record Sound {W O N R E : Type 0} (r : Rules W O) (d : Reading W O N R E) (May : Holds → Want → Note → Type 0) (held : Holds → Note → Access → Holds) : Type 1 where
   pub Sane : W → Type 0
+  -- the numbers of the names are those of this work
+  pub Named : W → N → Type 0
   pub EndsWell : W → O → Type 0
-  pub start : W → Holds
-  pub begins : (w v : W) (p : Plan O) → Sane w → r.choice w ≡ Act v p → Sane v × FitsWell r May held start EndsWell v (start w) p × IsRun d.moves (d.rows w) (d.began w) (d.rows v)
+  -- what the work tells of what is held
+  pub Tells : W → Holds → Type 0
+  pub begins : (w v : W) (p : Plan O) → Sane w → Offers (r.choice w) v p → Sane v × ((h : Holds) → Tells w h → FitsWell r May held Tells EndsWell v h p)
+  pub begins_run : (w v : W) (p : Plan O) (n : N) (memory : Memory) → Sane w → Named w n → Offers (r.choice w) v p → Named v n × IsRun (HappensTo d.table) (shown r d w n memory) (d.began w n) (shown r d v n memory)
   pub settles : (w : W) (o : O) → Sane w → EndsWell w o → Sane (r.settled w o)
-  pub rests : (w v : W) → Sane w → r.choice w ≡ Rest v → Sane v × (start v ≡ start w) × (d.rows v ≡ d.rows w)
-  pub tells : (w : W) (o : O) (s : Said) → Sane w → EndsWell w o → r.said_at w o ≡ Some s → d.moves (d.rows w) (d.event w o s) (d.rows (r.settled w o))
-  pub quiet : (w : W) (o : O) → Sane w → EndsWell w o → r.said_at w o ≡ None → d.rows (r.settled w o) ≡ d.rows w
-  pub hears : (w : W) (front : State) (nodes : List NodeValue) → Sane w → Sane (r.heard w front nodes) × (start (r.heard w front nodes) ≡ start w) × d.moves (d.rows w) (d.heard front nodes) (d.rows (r.heard w front nodes))
-  pub hears_end : (w : W) (o : O) (front : State) (nodes : List NodeValue) → EndsWell w o → EndsWell (r.heard w front nodes) o × (start (r.settled (r.heard w front nodes) o) ≡ start (r.settled w o))
+  pub rests : (w v : W) → Sane w → r.choice w ≡ Rest v → Sane v × ((h : Holds) → Tells w h → Tells v h) × ((n : N) → Named w n → Named v n × Stays d w v n)
+  pub tells : (w : W) (o : O) (s : Said) (n : N) → Sane w → EndsWell w o → Named w n → r.said_at w o ≡ Some s → Named (r.settled w o) (d.named w o n) × Moves d w n (d.event w o s) (d.made w o) (r.settled w o) (d.named w o n)
+  pub quiet : (w : W) (o : O) (n : N) → Sane w → EndsWell w o → Named w n → r.said_at w o ≡ None → Named (r.settled w o) n × Stays d w (r.settled w o) n
+  pub hears : (w : W) (front : State) (nodes : List NodeValue) → Sane w → Sane (r.heard w front nodes) × ((h : Holds) → Tells w h → Tells (r.heard w front nodes) h) × ((n : N) → Named w n → Named (r.heard w front nodes) n × Moves d w n (d.heard front nodes) [] (r.heard w front nodes) n)
+  pub hears_end : (w : W) (o : O) (front : State) (nodes : List NodeValue) → EndsWell w o → EndsWell (r.heard w front nodes) o × ((h : Holds) → Tells (r.settled w o) h → Tells (r.settled (r.heard w front nodes) o) h)

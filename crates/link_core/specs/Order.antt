@@ -1,26 +1,54 @@
 -- The order of a device's work, and where a device stands in it.
-use Rattle.std.specs.Prelude.{◌≡◌, Bool, true, false, List, [], ◌∷◌, Option, Some, None}
+use Rattle.std.specs.Prelude.{◌≡◌, ◌⊎◌, Bool, true, false, List, [], ◌∷◌, Option, Some, None, if◌then◌else◌}
 use Rattle.pv_words.specs.declared.access.Access.{Access}
 use Rattle.pv_words.specs.declared.device.Said.{Said}
 use Rattle.pv_words.specs.declared.device.State.{State}
 use Rattle.pv_words.specs.declared.device.NodeValue.{NodeValue}
+use Rattle.pv_words.specs.declared.place.Place.{Place}
+use Rattle.pv_words.specs.declared.place.Place.TheVariants.{Cell, Grant}
 use Rattle.pv_words.specs.Along.{after, Along}
+use Rattle.pv_words.specs.Memory.{place_of}
 use Rattle.pv_words.specs.Held.{Made}
 use Rattle.pv_words.specs.Plan.{Plan, Finished, Make, Want, Note, Plain, Goes, MayGo, wanted, seen_by}
 
 -- What a device does and hears, one after another: an access, something that it says, or resting until it is stepped
--- again; or its frontend sets its state, while the nodes stand so.
+-- again; or its frontend sets its state, while the nodes stand so; or a domain or another device makes an access.
 pub data Own : Type 0 where
   Did : Access → Own
   Spoke : Said → Own
   Rested : Own
   Heard : State → List NodeValue → Own
+  Others : Access → Own
 
 -- What a device does next: an activity (one that is over at once says its event in a step of its own), with the work as
--- the activity's beginning leaves it; or it rests.
+-- the activity's beginning leaves it; or, where memory may be wanting, the first of two activities if it is, the second if
+-- it isn't; or it rests.
 pub data Order (W O : Type 0) : Type 0 where
   Act : W → Plan O → Order W O
+  Either : W → Plan O → W → Plan O → Order W O
   Rest : W → Order W O
+
+-- the place is a word of a page, not of a grant entry
+abbrev pub is_in_page : Place → Bool
+is_in_page (Cell d f w) = true
+is_in_page (Grant d g h) = false
+
+-- Which of two activities it is, as what comes next shows: the first begins with an access to a page, the second with one
+-- to a grant entry, or it is over at once.
+abbrev pub picked : {W O : Type 0} → Order W O → Own → Order W O
+picked (Act v p) e = Act v p
+picked (Rest v) e = Rest v
+picked (Either v p u q) (Did a) = if is_in_page (place_of a) then Act v p else Act u q
+picked (Either v p u q) (Spoke s) = Act u q
+picked (Either v p u q) Rested = Act u q
+picked (Either v p u q) (Heard front nodes) = Act u q
+picked (Either v p u q) (Others a) = Act u q
+
+-- one of the activities that may come next, with the work as its beginning leaves it
+abbrev pub Offers : {W O : Type 0} → Order W O → W → Plan O → Type 0
+Offers (Act v p) w x = (v ≡ w) × (p ≡ x)
+Offers (Either v p u q) w x = ((v ≡ w) × (p ≡ x)) ⊎ ((u ≡ w) × (q ≡ x))
+Offers (Rest v) w x = ⊥
 
 -- how a device works: what it does next, what it says at an activity's end, what that end makes of its work, and what
 -- a state of its frontend makes of it
@@ -50,6 +78,10 @@ going r w (Make want note more) = During w (Make want note more)
 -- the stand after what a device does between two activities
 abbrev pub begun : {W O : Type 0} → Rules W O → W → Order W O → Own → Stand W O
 begun r w c (Heard front nodes) = Between (r.heard w front nodes)
+begun r w c (Others a) = Between w
+begun r w (Either v p u q) (Did a) = Between w
+begun r w (Either v p u q) (Spoke s) = Between w
+begun r w (Either v p u q) Rested = Between w
 begun r w (Act v (Finished o)) (Spoke s) = Between (r.settled v o)
 begun r w (Act v (Finished o)) (Did a) = Between w
 begun r w (Act v (Finished o)) Rested = Between w
@@ -63,6 +95,7 @@ begun r w (Rest v) (Spoke s) = Between w
 -- the stand after an access in an activity, or after what is heard in it
 abbrev pub gone : {W O : Type 0} → Rules W O → W → Plan O → Own → Stand W O
 gone r w p (Heard front nodes) = During (r.heard w front nodes) p
+gone r w p (Others a) = During w p
 gone r w (Finished o) (Did a) = During w (Finished o)
 gone r w (Make want note more) (Did a) = going r w (more (seen_by a))
 gone r w p (Spoke s) = During w p
@@ -70,13 +103,17 @@ gone r w p Rested = During w p
 
 -- the stand after one more thing
 abbrev pub next : {W O : Type 0} → Rules W O → Stand W O → Own → Stand W O
-next r (Between w) e = begun r w (r.choice w) e
+next r (Between w) e = begun r w (picked (r.choice w) e) e
 next r (During w p) e = gone r w p e
 next r (Telling s w o) e = Between (r.settled w o)
 
--- what may come between two activities: what the order of work gives next, or a state of the frontend
+-- what may come between two activities: what the order of work gives next, a state of the frontend, or another's access
 abbrev pub MayBegin : {W O : Type 0} → Rules W O → W → Order W O → Own → Type 0
 MayBegin r w c (Heard front nodes) = Unit {0}
+MayBegin r w c (Others a) = Unit {0}
+MayBegin r w (Either v p u q) (Did a) = ⊥
+MayBegin r w (Either v p u q) (Spoke s) = ⊥
+MayBegin r w (Either v p u q) Rested = ⊥
 MayBegin r w (Act v (Finished o)) (Spoke s) = r.said_at v o ≡ Some s
 MayBegin r w (Act v (Finished o)) (Did a) = ⊥
 MayBegin r w (Act v (Finished o)) Rested = ⊥
@@ -87,9 +124,10 @@ MayBegin r w (Rest v) Rested = Unit {0}
 MayBegin r w (Rest v) (Did a) = ⊥
 MayBegin r w (Rest v) (Spoke s) = ⊥
 
--- what may come in an activity: its next access, or a state of the frontend
+-- what may come in an activity: its next access, a state of the frontend, or another's access
 abbrev pub MayGoOn : {O : Type 0} → Plan O → Own → Type 0
 MayGoOn p (Heard front nodes) = Unit {0}
+MayGoOn p (Others a) = Unit {0}
 MayGoOn (Finished o) (Did a) = ⊥
 MayGoOn (Make want note more) (Did a) = wanted a ≡ want
 MayGoOn p (Spoke s) = ⊥
@@ -101,10 +139,11 @@ MayTell s (Spoke t) = t ≡ s
 MayTell s (Did a) = ⊥
 MayTell s Rested = ⊥
 MayTell s (Heard front nodes) = ⊥
+MayTell s (Others a) = ⊥
 
 -- what may come where a device stands
 abbrev pub May : {W O : Type 0} → Rules W O → Stand W O → Own → Type 0
-May r (Between w) e = MayBegin r w (r.choice w) e
+May r (Between w) e = MayBegin r w (picked (r.choice w) e) e
 May r (During w p) e = MayGoOn p e
 May r (Telling s w o) e = MayTell s e
 
@@ -115,6 +154,7 @@ IsExplained r s es = Along (next r) (May r) s es
 -- whether the device rests next
 abbrev pub rests_next : {W O : Type 0} → Order W O → Bool
 rests_next (Act v p) = false
+rests_next (Either v p u q) = false
 rests_next (Rest v) = true
 
 abbrev pub at_rest : {W O : Type 0} → Rules W O → Stand W O → Bool
@@ -145,9 +185,10 @@ abbrev pub GoesOn : {W O : Type 0} → Rules W O → W → Plan O → Option Acc
 GoesOn r w p None said new = ⊥
 GoesOn {W} {O} r w p (Some a) said new = (q : Plan O) × Goes p a q × Went r w q said new
 
--- the next access, if one comes next, may be made through a port
+-- the next access, whichever comes next, may be made through a port
 abbrev pub MayChoose : {W O : Type 0} → (Want → Type 0) → Order W O → Type 0
 MayChoose may (Act v p) = MayGo may p
+MayChoose may (Either v p u q) = MayGo may p × MayGo may q
 MayChoose may (Rest v) = Unit {0}
 
 abbrev pub MayStep : {W O : Type 0} → (Want → Type 0) → Rules W O → Stand W O → Type 0
@@ -162,17 +203,19 @@ note_of (Make want note more) = note
 
 abbrev pub note_in : {W O : Type 0} → Order W O → Note
 note_in (Act v p) = note_of p
+note_in (Either v p u q) = Plain
 note_in (Rest v) = Plain
 
-abbrev pub note_at : {W O : Type 0} → Rules W O → Stand W O → Note
-note_at r (Between w) = note_in (r.choice w)
-note_at r (During w p) = note_of p
-note_at r (Telling s w o) = Plain
+abbrev pub note_at : {W O : Type 0} → Rules W O → Stand W O → Own → Note
+note_at r (Between w) e = note_in (picked (r.choice w) e)
+note_at r (During w p) e = note_of p
+note_at r (Telling s w o) e = Plain
 
 -- the accesses among what a device does and hears, and what they are for
 abbrev pub made_by : {W O : Type 0} → Rules W O → Stand W O → List Own → List Made
 made_by r s [] = []
-made_by r s (Did a ∷ es) = record { access = a; note = note_at r s } ∷ made_by r (next r s (Did a)) es
+made_by r s (Did a ∷ es) = record { access = a; note = note_at r s (Did a) } ∷ made_by r (next r s (Did a)) es
 made_by r s (Spoke t ∷ es) = made_by r (next r s (Spoke t)) es
 made_by r s (Rested ∷ es) = made_by r (next r s Rested) es
 made_by r s (Heard front nodes ∷ es) = made_by r (next r s (Heard front nodes)) es
+made_by r s (Others a ∷ es) = made_by r (next r s (Others a)) es

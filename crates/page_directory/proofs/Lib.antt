@@ -1,3 +1,4 @@
+pub mod Begun
 pub mod Changing
 pub mod Counts
 pub mod Heads

@@ -48,6 +48,17 @@ is_turning (stage.Leave d) = false
 is_turning (stage.Undo i r) = false
 is_turning stage.Over = false
 
+-- all pages are mapped
+abbrev pub is_leaving : Stage → Bool
+is_leaving stage.Directory = false
+is_leaving (stage.Reference d) = false
+is_leaving (stage.Page d) = false
+is_leaving (stage.Next d) = false
+is_leaving (stage.Further d g) = false
+is_leaving (stage.Leave d) = true
+is_leaving (stage.Undo i r) = false
+is_leaving stage.Over = false
+
 -- pages are unmapped again
 abbrev pub is_undoing : Stage → Bool
 is_undoing stage.Directory = false

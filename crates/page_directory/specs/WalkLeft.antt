@@ -1,5 +1,5 @@
 -- What is left of a walk, and what it holds.
-use Rattle.std.specs.Prelude.{◌≡◌, ℕ, Bool, List, [], ◌∷◌, ◌++◌, length, drop, Option, Some, None, is_some}
+use Rattle.std.specs.Prelude.{◌≡◌, ℕ, Bool, true, false, ◌||◌, nat_lt, List, [], ◌∷◌, ◌++◌, length, drop, Option, Some, None, is_some}
 use Rattle.std.specs.List.{insert}
 use Rattle.std.specs.Option.{OnSome}
 use Rattle.pv_words.specs.declared.place.Place.TheVariants.{Cell, Grant}
@@ -10,6 +10,8 @@ use Rattle.pv_words.specs.declared.grant.Mode.{Mode}
 use Rattle.pv_words.specs.Held.{Covers, CoversToWrite}
 use Rattle.pv_words.specs.Plan.{Plan, Finished}
 use Rattle.grant_table.specs.declared.map.MapStep.{MapStep}
+use Rattle.grant_table.specs.declared.map.MapStage.{MapStage}
+use Rattle.grant_table.specs.declared.map.MapStage.TheVariants as map
 use Rattle.grant_table.specs.MapLeft.{map_left}
 use Rattle.page_directory.specs.declared.walk.Stage.{Stage}
 use Rattle.page_directory.specs.declared.walk.Stage.TheVariants as stage
@@ -51,9 +53,32 @@ walk_left frames grants w = left_in frames grants w.dom.0 w.mode w.map w.more w.
 unfoldable pub dom_of : Walk → ℕ
 dom_of w = w.dom.0
 
+-- how many pages it comes to, unless it is refused
+unfoldable pub count_of : Walk → ℕ
+count_of w = w.count
+
 -- the walk is done
 unfoldable pub is_over : Walk → Bool
 is_over w = is_last w.stage
+
+-- a map has made an access, and isn't done
+abbrev pub is_begun_at : MapStage → Bool
+is_begun_at map.Start = false
+is_begun_at (map.Begin flags) = true
+is_begun_at map.Name = true
+is_begun_at (map.Undo frame) = true
+is_begun_at (map.Over r) = false
+
+-- a walk has made an access, and isn't done
+abbrev pub is_begun : MapStep → List Hold → Stage → Bool
+is_begun m pages stage.Directory = is_begun_at m.stage || nat_lt 0 (length pages)
+is_begun m pages (stage.Reference d) = true
+is_begun m pages (stage.Page d) = true
+is_begun m pages (stage.Next d) = true
+is_begun m pages (stage.Further d gref) = true
+is_begun m pages (stage.Leave d) = true
+is_begun m pages (stage.Undo i refusal) = true
+is_begun m pages stage.Over = false
 
 -- the pages that are held, in the order of mapping
 abbrev pub held_in : (begins : ℕ) → List Hold → Stage → List Hold
@@ -75,6 +100,13 @@ PagesByAccess (Some a) last = Unit {0}
 PagesByAccess None None = Unit {0}
 PagesByAccess None (Some (Pages ps)) = ⊥
 PagesByAccess None (Some (Refused r)) = Unit {0}
+
+-- where a walk ends with its pages, by an access, they are so many
+abbrev pub Counts : ℕ → Option Walked → Option Access → Type 0
+Counts n None access = Unit {0}
+Counts n (Some (Refused r)) access = Unit {0}
+Counts n (Some (Pages ps)) None = Unit {0}
+Counts n (Some (Pages ps)) (Some a) = length ps ≡ n
 
 -- an access to a cell lies in the frame of one of these pages, one that may write in one that is held for writing
 abbrev pub LiesIn : List Hold → Access → Type 0

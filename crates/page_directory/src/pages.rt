@@ -33,9 +33,10 @@ impl Pages {
         Pages { holds }
     }
 
-    /// How many pages there are.
+    /// How many pages there are, at most 8192.
     pub fn len(&self) -> u32
-        ensures { result ≡ length self.now }
+        ensures count { result ≡ length self.now }
+        ensures few { result ≤ 8192 }
     {
         self.holds.len() as u32
     }

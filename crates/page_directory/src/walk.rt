@@ -2,7 +2,7 @@
 
 ghost use Rattle.std.specs.Prelude.{◌≡◌, ℕ, ◌+◌, ◌-◌, ◌<◌, ◌≤◌, true, false, Some, None, IfOk, is_some, vec_len, vec_capacity};
 ghost use Rattle.grant_table.specs.MapLeft.{dom_of, is_over};
-ghost use Rattle.page_directory.specs.Stages.{is_mapping, is_going, is_reading, is_turning, is_undoing, undone, directory_in};
+ghost use Rattle.page_directory.specs.Stages.{is_mapping, is_going, is_leaving, is_reading, is_turning, is_undoing, undone, directory_in};
 
 use crate::pages::Pages;
 use grant_table::{MapStep, unmap};
@@ -53,14 +53,17 @@ pub struct Walk {
     // The map that is under way.
     map: MapStep,
     // The pages that were mapped; of these, from which number on this directory page lists them; how many more are
-    // needed behind the next one.
+    // needed behind the next one; and how many there are to be in all.
     pages: Vec<Hold>,
     begins: usize,
     more: u32,
+    count: u32,
     stage: Stage,
     ghost same_dom: { dom_of map ≡ dom.0 },
     ghost maps: { is_mapping stage ≡ true → is_over map ≡ false },
     ghost room: { is_going stage ≡ true → vec_len pages + more < vec_capacity pages },
+    ghost counted: { is_going stage ≡ true → vec_len pages + more + 1 ≡ count },
+    ghost complete: { is_leaving stage ≡ true → vec_len pages ≡ count },
     ghost limit: { vec_capacity pages ≤ 8192 },
     ghost begin: { begins ≤ vec_len pages },
     ghost reads: { is_reading stage ≡ true → vec_len pages < begins + 1023 },
@@ -72,13 +75,13 @@ impl Walk {
     ghost use Rattle.std.specs.Prelude.{[], ◌∷◌, ◌++◌, length, slice_get, drop, List, IfSome, OnSome};
     ghost use Rattle.std.specs.List.{insert};
     ghost use Rattle.pv_words.specs.declared.grant.Hold.{Hold};
-    ghost use Rattle.pv_words.specs.Plan.{Plan, MayGo, Makes};
+    ghost use Rattle.pv_words.specs.Plan.{Plan, IsUnfinished, MayGo, Makes};
     ghost use Rattle.page_directory.specs.declared.walk.Walked.{Walked};
     ghost use Rattle.page_directory.specs.declared.walk.Stage.TheVariants as stage;
     ghost use Rattle.page_directory.specs.Changes.{Changes, Stand, held_then};
     ghost use Rattle.page_directory.specs.Joins.{Leads, TurnsOrEnds};
     ghost use Rattle.page_directory.specs.Walking.{walk_plan, pages_of, undo_plan, rest_plan};
-    ghost use Rattle.page_directory.specs.WalkLeft.{walk_left, held_by, Steps, PagesByAccess, LiesIn};
+    ghost use Rattle.page_directory.specs.WalkLeft.{walk_left, count_of, is_begun, held_by, Steps, Counts, PagesByAccess, LiesIn};
     ghost use Rattle.page_directory.specs.WalkLeft.{dom_of as walked_dom, is_over as is_walked};
 
     /// A walk for a buffer of so many octets, before its first access: over the page directory of the domain whose first
@@ -96,6 +99,7 @@ impl Walk {
         ensures dom { IfOk result (λ w. walked_dom w ≡ dom.0) }
         ensures begins { IfOk result (λ w. is_walked w ≡ false) }
         ensures holds { IfOk result (λ w. held_by w ≡ []) }
+        ensures count { IfOk result (λ w. count_of w ≡ pages_of buffer_sz) }
     {
         let count = (buffer_sz + (PAGE_OCTETS - 1)) / PAGE_OCTETS;
         let pages = Vec::with_capacity(alloc, count as usize)?;
@@ -106,6 +110,7 @@ impl Walk {
             pages,
             begins: 0,
             more: count - 1,
+            count,
             stage: Stage::Directory,
         })
     }
@@ -134,9 +139,10 @@ impl Walk {
         }
     }
 
-    /// How many pages the walk holds, the directory page among them.
+    /// How many pages the walk holds, the directory page among them, at most 8193.
     pub fn held(&self) -> u32
-        ensures { result ≡ length (held_by self.now) }
+        ensures count { result ≡ length (held_by self.now) }
+        ensures few { result ≤ 8193 }
     {
         let pages = self.pages.len() - self.undone();
         match self.directory() {
@@ -170,6 +176,9 @@ impl Walk {
         requires within { i < vec_len self.old.pages }
         requires may { MayGo (W.may words.old) (undo_plan (drop i self.old.pages.items) refusal) }
         ensures steps { (frames grants : ℕ) → Steps frames grants (walked_dom self.old) (drop i self.old.pages.items) (undo_plan (drop i self.old.pages.items) refusal) result.access result.done self.new }
+        ensures count { self.new.count ≡ self.old.count }
+        ensures begun { result.done ≡ None → is_begun self.new.map self.new.pages.items self.new.stage ≡ true }
+        ensures number { (n : ℕ) → Counts n result.done result.access }
         ensures made { Makes W.makes words.old result.access words.new }
     {
         let hold = self.pages[i];
@@ -199,6 +208,9 @@ impl Walk {
     ) -> Turn<Walked>
         requires may { access ≡ None → MayGo (W.may words.old) (undo_plan self.old.pages.items refusal) }
         ensures steps { (frames grants : ℕ) (held : List Hold) (old : Plan Walked) → Leads old access (undo_plan self.old.pages.items refusal) → Stand frames held old access self.old.pages.items → Steps frames grants (walked_dom self.old) held old result.access result.done self.new }
+        ensures count { self.new.count ≡ self.old.count }
+        ensures begun { result.done ≡ None → is_begun self.new.map self.new.pages.items self.new.stage ≡ true }
+        ensures number { (n : ℕ) → Counts n result.done result.access }
         ensures first { is_some access ≡ true → result.access ≡ access }
         ensures made { is_some access ≡ true → words.new ≡ words.old }
         ensures makes { access ≡ None → Makes W.makes words.old result.access words.new }
@@ -221,6 +233,7 @@ impl Walk {
     fn keep(&mut self, directory: Hold)
         requires { vec_len self.old.pages < vec_capacity self.old.pages }
         ensures pages { self.new.pages.items ≡ insert self.old.pages.items self.old.begins directory }
+        ensures count { self.new.count ≡ self.old.count }
         ensures dom { walked_dom self.new ≡ walked_dom self.old }
     {
         self.stage = Stage::Over;
@@ -236,6 +249,9 @@ impl Walk {
         requires mapping { self.old.stage ≡ stage.Directory }
         requires may { MayGo (W.may words.old) (walk_left (W.frames_of words.old (walked_dom self.old)) (W.grants_of words.old (walked_dom self.old)) self.old) }
         ensures steps { Steps (W.frames_of words.old (walked_dom self.old)) (W.grants_of words.old (walked_dom self.old)) (walked_dom self.old) (held_by self.old) (walk_left (W.frames_of words.old (walked_dom self.old)) (W.grants_of words.old (walked_dom self.old)) self.old) result.access result.done self.new }
+        ensures count { self.new.count ≡ self.old.count }
+        ensures begun { result.done ≡ None → is_begun self.new.map self.new.pages.items self.new.stage ≡ true }
+        ensures number { Counts self.old.count result.done result.access }
         ensures made { Makes W.makes words.old result.access words.new }
     {
         let turn = self.map.step(words);
@@ -259,6 +275,9 @@ impl Walk {
         requires reading { self.old.stage ≡ stage.Reference directory }
         requires may { MayGo (W.may words.old) (walk_left (W.frames_of words.old (walked_dom self.old)) (W.grants_of words.old (walked_dom self.old)) self.old) }
         ensures steps { (frames grants : ℕ) → Steps frames grants (walked_dom self.old) (held_by self.old) (walk_left frames grants self.old) result.access result.done self.new }
+        ensures count { self.new.count ≡ self.old.count }
+        ensures begun { result.done ≡ None → is_begun self.new.map self.new.pages.items self.new.stage ≡ true }
+        ensures number { Counts self.old.count result.done result.access }
         ensures made { Makes W.makes words.old result.access words.new }
     {
         let word = (self.pages.len() - self.begins + 1) as u16;
@@ -275,6 +294,9 @@ impl Walk {
     // The page is one of those that this directory page lists. The walk goes on.
     fn push(&mut self, directory: Hold, page: Hold)
         requires room { vec_len self.old.pages + self.old.more < vec_capacity self.old.pages }
+        requires counted { vec_len self.old.pages + self.old.more + 1 ≡ self.old.count }
+        ensures count { self.new.count ≡ self.old.count }
+        ensures begun { is_begun self.new.map self.new.pages.items self.new.stage ≡ true }
         ensures left { (frames grants : ℕ) → walk_left frames grants self.new ≡ rest_plan frames grants (walked_dom self.old) self.old.mode self.old.more directory self.old.begins (self.old.pages.items ++ page ∷ []) }
         ensures dom { walked_dom self.new ≡ walked_dom self.old }
         ensures over { is_walked self.new ≡ false }
@@ -298,6 +320,9 @@ impl Walk {
         requires mapping { self.old.stage ≡ stage.Page directory }
         requires may { MayGo (W.may words.old) (walk_left (W.frames_of words.old (walked_dom self.old)) (W.grants_of words.old (walked_dom self.old)) self.old) }
         ensures steps { Steps (W.frames_of words.old (walked_dom self.old)) (W.grants_of words.old (walked_dom self.old)) (walked_dom self.old) (held_by self.old) (walk_left (W.frames_of words.old (walked_dom self.old)) (W.grants_of words.old (walked_dom self.old)) self.old) result.access result.done self.new }
+        ensures count { self.new.count ≡ self.old.count }
+        ensures begun { result.done ≡ None → is_begun self.new.map self.new.pages.items self.new.stage ≡ true }
+        ensures number { Counts self.old.count result.done result.access }
         ensures made { Makes W.makes words.old result.access words.new }
     {
         let turn = self.map.step(words);
@@ -323,6 +348,9 @@ impl Walk {
         requires turning { self.old.stage ≡ stage.Next directory }
         requires may { MayGo (W.may words.old) (walk_left (W.frames_of words.old (walked_dom self.old)) (W.grants_of words.old (walked_dom self.old)) self.old) }
         ensures steps { (frames grants : ℕ) → Steps frames grants (walked_dom self.old) (held_by self.old) (walk_left frames grants self.old) result.access result.done self.new }
+        ensures count { self.new.count ≡ self.old.count }
+        ensures begun { result.done ≡ None → is_begun self.new.map self.new.pages.items self.new.stage ≡ true }
+        ensures number { Counts self.old.count result.done result.access }
         ensures made { Makes W.makes words.old result.access words.new }
     {
         let at = Place::Cell(directory.dom, directory.frame, 0);
@@ -346,6 +374,9 @@ impl Walk {
         requires turning { self.old.stage ≡ stage.Further directory gref }
         requires may { MayGo (W.may words.old) (walk_left (W.frames_of words.old (walked_dom self.old)) (W.grants_of words.old (walked_dom self.old)) self.old) }
         ensures steps { (frames grants : ℕ) → Steps frames grants (walked_dom self.old) (held_by self.old) (walk_left frames grants self.old) result.access result.done self.new }
+        ensures count { self.new.count ≡ self.old.count }
+        ensures begun { result.done ≡ None → is_begun self.new.map self.new.pages.items self.new.stage ≡ true }
+        ensures number { Counts self.old.count result.done result.access }
         ensures made { Makes W.makes words.old result.access words.new }
     {
         let access = unmap(&directory, words);
@@ -360,6 +391,7 @@ impl Walk {
     // The walk is done: its pages are all there.
     fn finish(&mut self) -> Pages
         ensures pages { result ≡ self.old.pages.items }
+        ensures count { self.new.count ≡ self.old.count }
         ensures dom { walked_dom self.new ≡ walked_dom self.old }
         ensures over { is_walked self.new ≡ true }
         ensures empty { held_by self.new ≡ [] }
@@ -375,6 +407,9 @@ impl Walk {
         requires leaving { self.old.stage ≡ stage.Leave directory }
         requires may { MayGo (W.may words.old) (walk_left (W.frames_of words.old (walked_dom self.old)) (W.grants_of words.old (walked_dom self.old)) self.old) }
         ensures steps { (frames grants : ℕ) → Steps frames grants (walked_dom self.old) (held_by self.old) (walk_left frames grants self.old) result.access result.done self.new }
+        ensures count { self.new.count ≡ self.old.count }
+        ensures begun { result.done ≡ None → is_begun self.new.map self.new.pages.items self.new.stage ≡ true }
+        ensures number { Counts self.old.count result.done result.access }
         ensures made { Makes W.makes words.old result.access words.new }
     {
         let access = unmap(&directory, words);
@@ -388,6 +423,9 @@ impl Walk {
     fn advance<W: Words>(&mut self, words: &mut W) -> Turn<Walked>
         requires { MayGo (W.may words.old) (walk_left (W.frames_of words.old (walked_dom self.old)) (W.grants_of words.old (walked_dom self.old)) self.old) }
         ensures steps { Steps (W.frames_of words.old (walked_dom self.old)) (W.grants_of words.old (walked_dom self.old)) (walked_dom self.old) (held_by self.old) (walk_left (W.frames_of words.old (walked_dom self.old)) (W.grants_of words.old (walked_dom self.old)) self.old) result.access result.done self.new }
+        ensures count { self.new.count ≡ self.old.count }
+        ensures begun { result.done ≡ None → is_begun self.new.map self.new.pages.items self.new.stage ≡ true }
+        ensures number { Counts self.old.count result.done result.access }
         ensures made { Makes W.makes words.old result.access words.new }
     {
         match self.stage {
@@ -408,15 +446,19 @@ impl Walk {
     /// Makes the next access of the walk. Each directory page is mapped for reading; its references are loaded in order,
     /// each page mapped before the next reference is loaded; where a further directory page is needed, its reference is
     /// loaded from word 0, which has to be another than 0; then the directory page is unmapped. Done is the list of the
-    /// pages, or why the walk was refused: the first map that was refused, or NoNext where the reference of a needed
+    /// pages, as many as the walk was made for, or why it was refused: the first map that was refused, or NoNext where the reference of a needed
     /// directory page is 0. Before a refusal is told each page that the walk holds is unmapped, in the order of mapping.
-    /// A walk that is done holds no page itself, and answers none, without an access.
+    /// A walk that is done holds no page itself, and answers none, without an access. One that isn't done after a step makes a
+    /// further access, whatever the domain has then.
     pub fn step<W: Words>(&mut self, words: &mut W) -> Turn<Walked>
         requires { MayGo (W.may words.old) (walk_left (W.frames_of words.old (walked_dom self.old)) (W.grants_of words.old (walked_dom self.old)) self.old) }
         ensures turns { TurnsOrEnds (walk_left (W.frames_of words.old (walked_dom self.old)) (W.grants_of words.old (walked_dom self.old)) self.old) result.access result.done (walk_left (W.frames_of words.old (walked_dom self.old)) (W.grants_of words.old (walked_dom self.old)) self.new) }
         ensures made { Makes W.makes words.old result.access words.new }
         ensures dom { walked_dom self.new ≡ walked_dom self.old }
+        ensures count { count_of self.new ≡ count_of self.old }
+        ensures number { Counts (count_of self.old) result.done result.access }
         ensures over { is_walked self.new ≡ is_some result.done }
+        ensures goes_on { result.done ≡ None → (frames grants : ℕ) → IsUnfinished (walk_left frames grants self.new) }
         ensures holds { Changes (W.frames_of words.old (walked_dom self.old)) (held_by self.old) (walk_left (W.frames_of words.old (walked_dom self.old)) (W.grants_of words.old (walked_dom self.old)) self.old) result.access (held_then result.done (held_by self.new)) }
         ensures rests { OnSome result.done (held_by self.new ≡ []) }
         ensures pages { is_walked self.old ≡ false → PagesByAccess result.access result.done }

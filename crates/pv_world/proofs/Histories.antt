@@ -12,7 +12,7 @@ use Rattle.pv_words.specs.Held.{Made, holding, holds_of}
 use Rattle.pv_words.specs.Memory.{Memory, Finds, IsLawful, IsTrueOf, access_of, memory_after, place_of, remembered, without, written, zeros}
 use Rattle.pv_words.specs.Place.{InRange, same_place}
 use Rattle.pv_words.specs.Plan.{aim_of, wanted}
-use Rattle.link_core.specs.Order.{Own, Did, Spoke, Rested, Heard, Rules, Stand, next, May, IsExplained, made_by, note_at}
+use Rattle.link_core.specs.Order.{Own, Did, Spoke, Rested, Heard, Others, Rules, Stand, next, May, IsExplained, made_by, note_at}
 use Rattle.display_backend.specs.Work.{Work, End, display}
 use Rattle.pv_world.specs.Marked.{Item, entries, own, own_from, nodes_in, nodes_next}
 use Rattle.pv_world.specs.History.{IsHistory, Belongs, IsExplainedIn, first_stand, held_in, made_in, site_of, stand_after}
@@ -45,10 +45,11 @@ all_of P f (x ∷ xs) = (f x, all_of P f xs)
 -- the accesses of what a device does and then does
 made_append : {W O : Type 0} (r : Rules W O) (s : Stand W O) (es fs : List Own) → made_by r s (es ++ fs) ≡ made_by r s es ++ made_by r (after (next r) s es) fs
 made_append r s [] fs = refl
-made_append r s (Did a ∷ es) fs = ap (λ (ms : List Made). record { access = a; note = note_at r s } ∷ ms) (made_append r (next r s (Did a)) es fs)
+made_append r s (Did a ∷ es) fs = ap (λ (ms : List Made). record { access = a; note = note_at r s (Did a) } ∷ ms) (made_append r (next r s (Did a)) es fs)
 made_append r s (Spoke t ∷ es) fs = made_append r (next r s (Spoke t)) es fs
 made_append r s (Rested ∷ es) fs = made_append r (next r s Rested) es fs
 made_append r s (Heard front nodes ∷ es) fs = made_append r (next r s (Heard front nodes)) es fs
+made_append r s (Others a ∷ es) fs = made_append r (next r s (Others a)) es fs
 
 -- places in range are in range of equal sizes
 pub in_range_from : (f g h k : ℕ → ℕ) → ((d : ℕ) → f d ≡ g d) → ((d : ℕ) → h d ≡ k d) → (q : Place) → InRange f h q → InRange g k q

@@ -8,9 +8,10 @@ use Rattle.pv_words.specs.declared.device.Said.{Said}
 use Rattle.pv_words.specs.declared.device.Said.TheVariants as said
 use Rattle.pv_words.specs.declared.device.NodeValue.{NodeValue}
 use Rattle.pv_words.specs.Along.{after}
-use Rattle.link_core.specs.Order.{Own, Did, Spoke, Rested, steps_of}
+use Rattle.link_core.specs.Order.{Own, Did, Spoke, Rested, Others, steps_of}
 use Rattle.pv_world.specs.Marked.{Item, Entered, Idle, entries, told_by, told_in, own_from, node_set, nodes_next, entry_of, items_of, is_access, accesses_in, IsStepOf, AreSteps}
 use Rattle.pv_world.specs.Record.{progress}
+use Rattle.pv_world.proofs.Others.{AreOthers}
 
 abbrev pub rest_of : DevId → Option Said → List Item
 rest_of dev None = []
@@ -39,26 +40,26 @@ own_append d nodes (i ∷ m) n =
     let later : List NodeValue = nodes_next d nodes i in
     ap (λ (es : List Own). told_in d nodes i ++ es) (own_append d later m n) ∙ sym (append_assoc (told_in d nodes i) (own_from d later m) (own_from d (after (nodes_next d) later m) n))
 
-chosen : (b : Bool) (xs : List Own) → b ≡ true → cond b xs [] ≡ xs
-chosen true xs e = refl
-chosen false xs e = let wrong : ⊥ = cc in absurd wrong
+chosen : (b : Bool) (xs ys : List Own) → b ≡ true → cond b xs ys ≡ xs
+chosen true xs ys e = refl
+chosen false xs ys e = let wrong : ⊥ = cc in absurd wrong
 
 same_device : (dev : DevId) → (dev.0 == dev.0) ≡ true
 same_device dev = eq-eqb dev.0 dev.0 refl
 
 told_said : (dev : DevId) (nodes : List NodeValue) (s : Said) → told_by dev.0 nodes (entry_of dev s) ≡ Spoke s ∷ []
-told_said dev nodes (said.State s) = chosen (dev.0 == dev.0) _ (same_device dev)
-told_said dev nodes (said.Request part id op) = chosen (dev.0 == dev.0) _ (same_device dev)
-told_said dev nodes (said.Denied r) = chosen (dev.0 == dev.0) _ (same_device dev)
-told_said dev nodes (said.Replied part id status n) = chosen (dev.0 == dev.0) _ (same_device dev)
-told_said dev nodes (said.Raised part cookie) = chosen (dev.0 == dev.0) _ (same_device dev)
-told_said dev nodes (said.Pos part position) = chosen (dev.0 == dev.0) _ (same_device dev)
-told_said dev nodes (said.Full part) = chosen (dev.0 == dev.0) _ (same_device dev)
-told_said dev nodes (said.Blank part) = chosen (dev.0 == dev.0) _ (same_device dev)
-told_said dev nodes (said.Shown part pixels mark) = chosen (dev.0 == dev.0) _ (same_device dev)
-told_said dev nodes (said.Moved part octets mark) = chosen (dev.0 == dev.0) _ (same_device dev)
-told_said dev nodes (said.Published events) = chosen (dev.0 == dev.0) _ (same_device dev)
-told_said dev nodes (said.Closed why) = chosen (dev.0 == dev.0) _ (same_device dev)
+told_said dev nodes (said.State s) = chosen (dev.0 == dev.0) _ [] (same_device dev)
+told_said dev nodes (said.Request part id op) = chosen (dev.0 == dev.0) _ [] (same_device dev)
+told_said dev nodes (said.Denied r) = chosen (dev.0 == dev.0) _ [] (same_device dev)
+told_said dev nodes (said.Replied part id status n) = chosen (dev.0 == dev.0) _ [] (same_device dev)
+told_said dev nodes (said.Raised part cookie) = chosen (dev.0 == dev.0) _ [] (same_device dev)
+told_said dev nodes (said.Pos part position) = chosen (dev.0 == dev.0) _ [] (same_device dev)
+told_said dev nodes (said.Full part) = chosen (dev.0 == dev.0) _ [] (same_device dev)
+told_said dev nodes (said.Blank part) = chosen (dev.0 == dev.0) _ [] (same_device dev)
+told_said dev nodes (said.Shown part pixels mark) = chosen (dev.0 == dev.0) _ [] (same_device dev)
+told_said dev nodes (said.Moved part octets mark) = chosen (dev.0 == dev.0) _ [] (same_device dev)
+told_said dev nodes (said.Published events) = chosen (dev.0 == dev.0) _ [] (same_device dev)
+told_said dev nodes (said.Closed why) = chosen (dev.0 == dev.0) _ [] (same_device dev)
 
 -- what a device says sets no node
 said_sets : (d : ℕ) (dev : DevId) (nodes : List NodeValue) (s : Said) → node_set d nodes (entry_of dev s) ≡ nodes
@@ -77,11 +78,11 @@ said_sets d dev nodes (said.Closed why) = refl
 
 -- the items of a step are that step, and set no node
 pub own_step : (dev : DevId) (nodes : List NodeValue) (a : Option Access) (s : Option Said) → own_from dev.0 nodes (items_of dev a s) ≡ steps_of a s
-own_step dev nodes None None = ap (λ (es : List Own). es ++ []) (chosen (dev.0 == dev.0) (Rested ∷ []) (same_device dev))
+own_step dev nodes None None = ap (λ (es : List Own). es ++ []) (chosen (dev.0 == dev.0) (Rested ∷ []) [] (same_device dev))
 own_step dev nodes None (Some s) = ap (λ (es : List Own). es ++ []) (told_said dev nodes s)
-own_step dev nodes (Some a) None = ap (λ (es : List Own). es ++ []) (chosen (dev.0 == dev.0) (Did a ∷ []) (same_device dev))
+own_step dev nodes (Some a) None = ap (λ (es : List Own). es ++ []) (chosen (dev.0 == dev.0) (Did a ∷ []) (Others a ∷ []) (same_device dev))
 own_step dev nodes (Some a) (Some s) =
-    ap (λ (es : List Own). es ++ (told_by dev.0 nodes (entry_of dev s) ++ [])) (chosen (dev.0 == dev.0) (Did a ∷ []) (same_device dev))
+    ap (λ (es : List Own). es ++ (told_by dev.0 nodes (entry_of dev s) ++ [])) (chosen (dev.0 == dev.0) (Did a ∷ []) (Others a ∷ []) (same_device dev))
     ∙ ap (λ (es : List Own). Did a ∷ (es ++ [])) (told_said dev nodes s)
 
 pub nodes_step : (d : ℕ) (dev : DevId) (nodes : List NodeValue) (a : Option Access) (s : Option Said) → after (nodes_next d) nodes (items_of dev a s) ≡ nodes
@@ -90,32 +91,35 @@ nodes_step d dev nodes None (Some s) = said_sets d dev nodes s
 nodes_step d dev nodes (Some a) None = refl
 nodes_step d dev nodes (Some a) (Some s) = said_sets d dev nodes s
 
--- they are nothing of another device
-not_chosen : (b : Bool) (xs : List Own) → b ≡ false → cond b xs [] ≡ []
-not_chosen false xs e = refl
-not_chosen true xs e = let wrong : ⊥ = cc in absurd wrong
+-- to another device they are at most an access of another
+not_chosen : (b : Bool) (xs ys : List Own) → b ≡ false → cond b xs ys ≡ ys
+not_chosen false xs ys e = refl
+not_chosen true xs ys e = let wrong : ⊥ = cc in absurd wrong
+
+others_as : (es fs : List Own) → es ≡ fs → AreOthers fs → AreOthers es
+others_as es fs e o = subst (λ (x : List Own). AreOthers x) (sym e) o
 
 told_other : (d : ℕ) (dev : DevId) (nodes : List NodeValue) (s : Said) → (dev.0 == d) ≡ false → told_by d nodes (entry_of dev s) ≡ []
-told_other d dev nodes (said.State s) e = not_chosen (dev.0 == d) _ e
-told_other d dev nodes (said.Request part id op) e = not_chosen (dev.0 == d) _ e
-told_other d dev nodes (said.Denied r) e = not_chosen (dev.0 == d) _ e
-told_other d dev nodes (said.Replied part id status n) e = not_chosen (dev.0 == d) _ e
-told_other d dev nodes (said.Raised part cookie) e = not_chosen (dev.0 == d) _ e
-told_other d dev nodes (said.Pos part position) e = not_chosen (dev.0 == d) _ e
-told_other d dev nodes (said.Full part) e = not_chosen (dev.0 == d) _ e
-told_other d dev nodes (said.Blank part) e = not_chosen (dev.0 == d) _ e
-told_other d dev nodes (said.Shown part pixels mark) e = not_chosen (dev.0 == d) _ e
-told_other d dev nodes (said.Moved part octets mark) e = not_chosen (dev.0 == d) _ e
-told_other d dev nodes (said.Published events) e = not_chosen (dev.0 == d) _ e
-told_other d dev nodes (said.Closed why) e = not_chosen (dev.0 == d) _ e
+told_other d dev nodes (said.State s) e = not_chosen (dev.0 == d) _ [] e
+told_other d dev nodes (said.Request part id op) e = not_chosen (dev.0 == d) _ [] e
+told_other d dev nodes (said.Denied r) e = not_chosen (dev.0 == d) _ [] e
+told_other d dev nodes (said.Replied part id status n) e = not_chosen (dev.0 == d) _ [] e
+told_other d dev nodes (said.Raised part cookie) e = not_chosen (dev.0 == d) _ [] e
+told_other d dev nodes (said.Pos part position) e = not_chosen (dev.0 == d) _ [] e
+told_other d dev nodes (said.Full part) e = not_chosen (dev.0 == d) _ [] e
+told_other d dev nodes (said.Blank part) e = not_chosen (dev.0 == d) _ [] e
+told_other d dev nodes (said.Shown part pixels mark) e = not_chosen (dev.0 == d) _ [] e
+told_other d dev nodes (said.Moved part octets mark) e = not_chosen (dev.0 == d) _ [] e
+told_other d dev nodes (said.Published events) e = not_chosen (dev.0 == d) _ [] e
+told_other d dev nodes (said.Closed why) e = not_chosen (dev.0 == d) _ [] e
 
-pub own_other : (d : ℕ) (dev : DevId) (nodes : List NodeValue) (a : Option Access) (s : Option Said) → (dev.0 == d) ≡ false → own_from d nodes (items_of dev a s) ≡ []
-own_other d dev nodes None None e = ap (λ (es : List Own). es ++ []) (not_chosen (dev.0 == d) (Rested ∷ []) e)
-own_other d dev nodes None (Some s) e = ap (λ (es : List Own). es ++ []) (told_other d dev nodes s e)
-own_other d dev nodes (Some a) None e = ap (λ (es : List Own). es ++ []) (not_chosen (dev.0 == d) (Did a ∷ []) e)
+pub own_other : (d : ℕ) (dev : DevId) (nodes : List NodeValue) (a : Option Access) (s : Option Said) → (dev.0 == d) ≡ false → AreOthers (own_from d nodes (items_of dev a s))
+own_other d dev nodes None None e = others_as _ [] (ap (λ (es : List Own). es ++ []) (not_chosen (dev.0 == d) (Rested ∷ []) [] e)) tt
+own_other d dev nodes None (Some s) e = others_as _ [] (ap (λ (es : List Own). es ++ []) (told_other d dev nodes s e)) tt
+own_other d dev nodes (Some a) None e = others_as _ (Others a ∷ []) (ap (λ (es : List Own). es ++ []) (not_chosen (dev.0 == d) (Did a ∷ []) (Others a ∷ []) e)) tt
 own_other d dev nodes (Some a) (Some s) e =
-    ap (λ (es : List Own). es ++ (told_by d nodes (entry_of dev s) ++ [])) (not_chosen (dev.0 == d) (Did a ∷ []) e)
-    ∙ ap (λ (es : List Own). es ++ []) (told_other d dev nodes s e)
+    others_as _ (Others a ∷ []) (ap (λ (es : List Own). es ++ (told_by d nodes (entry_of dev s) ++ [])) (not_chosen (dev.0 == d) (Did a ∷ []) (Others a ∷ []) e)
+    ∙ ap (λ (es : List Own). Others a ∷ (es ++ [])) (told_other d dev nodes s e)) tt
 
 is_step_said : (dev : DevId) (s : Said) → IsStepOf dev.0 (entry_of dev s)
 is_step_said dev (said.State s) = refl

@@ -1,9 +1,11 @@
+pub mod Answers
 pub mod Beginnings
 pub mod Buses
 pub mod Consequences
 pub mod Devices
 pub mod Histories
 pub mod Items
+pub mod Others
 pub mod Owners
 pub mod Serving
 pub mod Standings

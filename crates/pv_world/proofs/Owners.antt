@@ -95,7 +95,7 @@ module _ {W : Type 0} (g : Sight W) (frames grants : ℕ → ℕ) where
   told_stands : (memory : W) (devices : List Placed) (m : List Item) (dom : DomId) (t : Option Told) → Stands g frames grants memory devices m → Stands g frames grants memory devices (m ++ told_items dom t)
   told_stands memory devices m dom None st = subst (λ (x : List Item). Stands g frames grants memory devices x) (sym (append-nil m)) st
   told_stands memory devices m dom (Some t) st =
-      silent_stands g frames grants memory devices m (Entered (entry.Told dom t) ∷ []) (λ s. record { owns = refl; sets = refl }) (λ q. refl) (tt, tt) (tt, tt) st
+      silent_stands g frames grants memory devices m (Entered (entry.Told dom t) ∷ []) (λ s. record { owns = tt; sets = refl }) (λ q. refl) (tt, tt) (tt, tt) st
 
   -- the access of a step found no room
   access_cause : (devices : List DeviceSetup) (dom : DomId) (gref : GrantRef) (p k : Plan Owned) (a : Access) (stop : Stop) (m : List Item) (es : List Entry) → Goes p a k → IsHistory frames grants devices (m ++ front_access a ∷ []) → IsAtLimit stop es → HasCauseAt frames grants devices dom gref p m [] es stop

@@ -11,12 +11,16 @@ use Rattle.pv_words.specs.Memory.{Memory, Answers, IsTrueOf, memory_after, place
 use Rattle.pv_words.specs.Place.{InRange}
 use Rattle.pv_words.specs.Port.{IsListed, Leaves, Turned}
 use Rattle.pv_words.proofs.Listing.{listed_domain, listed_turned}
-use Rattle.link_core.specs.Order.{Own, next, made_by, IsExplained}
+use Rattle.link_core.specs.Order.{Stand, next, IsExplained}
+use Rattle.display_backend.specs.Work.{Work, End}
+use Rattle.backend_core.specs.Device as backend
 use Rattle.pv_world.specs.declared.world.Placed.{Placed}
 use Rattle.pv_world.specs.Marked.{Item, entries, nodes_in, nodes_next}
-use Rattle.pv_world.specs.History.{Belongs, IsHistory, held_in, stand_after}
+use Rattle.pv_world.specs.History.{Belongs, IsHistory, held_in, site_of, stand_after}
 use Rattle.pv_world.specs.World.{IsPlaced, Sight, Stands, front_access, setups}
-use Rattle.pv_world.proofs.Histories.{IsNextIn, IsTrueNext, all_of, all_weaker, finds_same, held_more, history_more, in_range_from, memory_more, nodes_more, own_more, rules, stand_more, written_same}
+use Rattle.pv_world.proofs.Devices.{all_setups}
+use Rattle.pv_world.proofs.Histories.{IsNextIn, IsTrueNext, all_weaker, finds_same, held_more, history_more, in_range_from, memory_more, nodes_more, own_more, rules, stand_more, written_same}
+use Rattle.pv_world.proofs.Others.{AreOthers, others_explained, others_made, others_stand}
 
 -- what the accesses of a machine leave
 pub record Behaves {W : Type 0} (g : Sight W) (makes : W → Access → W → Type 0) : Type 0 where
@@ -39,27 +43,32 @@ pub record Hands {W : Type 0} (g : Sight W) (who : Who) (old new : W) : Type 0 w
   pub domains : (d : ℕ) → g.knows_domain old d → g.knows_domain new d
 
 module _ {W : Type 0} (g : Sight W) (frames grants : ℕ → ℕ) where
-  -- these items tell a device nothing
+  -- these items tell a device nothing but accesses of others, and set none of its nodes
   pub record IsSilent (m n : List Item) (s : DeviceSetup) : Type 0 where
-    pub owns : own_more frames grants m n s ≡ []
+    pub owns : AreOthers (own_more frames grants m n s)
     pub sets : after (nodes_next s.dev.0) (nodes_in s.dev.0 m) n ≡ nodes_in s.dev.0 m
 
-  pub stand_silent : (m n : List Item) (s : DeviceSetup) → IsSilent m n s → stand_after frames grants (m ++ n) s ≡ stand_after frames grants m s
-  stand_silent m n s q =
-      stand_more frames grants m n s ∙ ap (λ (es : List Own). after (next (rules frames grants s)) (stand_after frames grants m s) es) q.owns
+  -- where a device stands by what it is itself
+  abbrev IsWhere : List Item → Placed → Type 0
+  IsWhere m p = backend.stand_of (site_of frames grants p.setup) p.device ≡ stand_after frames grants m p.setup
 
-  pub held_silent : (m n : List Item) (s : DeviceSetup) → IsSilent m n s → held_in frames grants (m ++ n) s ≡ held_in frames grants m s
+  stand_silent : (m n : List Item) (p : Placed) → IsSilent m n p.setup → IsWhere m p → IsWhere (m ++ n) p
+  stand_silent m n p q e =
+      sym (stand_more frames grants m n p.setup ∙ (ap (λ (x : Stand Work End). after (next (rules frames grants p.setup)) x (own_more frames grants m n p.setup)) (sym e) ∙ others_stand (site_of frames grants p.setup) p.device (own_more frames grants m n p.setup) q.owns))
+
+  held_silent : (m n : List Item) (s : DeviceSetup) → IsSilent m n s → held_in frames grants (m ++ n) s ≡ held_in frames grants m s
   held_silent m n s q =
-      held_more frames grants m n s ∙ ap (λ (es : List Own). after (λ h (k : Made). holding frames h k.note k.access) (held_in frames grants m s) (made_by (rules frames grants s) (stand_after frames grants m s) es)) q.owns
+      held_more frames grants m n s ∙ ap (λ (ms : List Made). after (λ h (k : Made). holding frames h k.note k.access) (held_in frames grants m s) ms) (others_made (rules frames grants s) (stand_after frames grants m s) (own_more frames grants m n s) q.owns)
 
-  pub next_silent : (m n : List Item) (s : DeviceSetup) → IsSilent m n s → IsNextIn frames grants m n s
-  next_silent m n s q = subst (λ (es : List Own). IsExplained (rules frames grants s) (stand_after frames grants m s) es) (sym q.owns) tt
+  pub next_silent : (m n : List Item) (p : Placed) → IsSilent m n p.setup → IsWhere m p → IsNextIn frames grants m n p.setup
+  next_silent m n p q e =
+      subst (λ (x : Stand Work End). IsExplained (rules frames grants p.setup) x (own_more frames grants m n p.setup)) e (others_explained (site_of frames grants p.setup) p.device (own_more frames grants m n p.setup) q.owns)
 
-  -- a device that is told nothing stands where it stood
+  -- a device that is told nothing else stands where it stood
   pub placed_silent : (old new : W) (m n : List Item) (p : Placed) → IsSilent m n p.setup → g.knows_device new p.setup.dev.0 p.setup.dom.0 → IsListed (g.port new) p.setup.dev.0 (held_in frames grants m p.setup) → IsPlaced g frames grants old m p → IsPlaced g frames grants new (m ++ n) p
   placed_silent old new m n p q k l h =
       record {
-        stands = h.stands ∙ sym (stand_silent m n p.setup q);
+        stands = stand_silent m n p q h.stands;
         dom_is = h.dom_is;
         parts_are = h.parts_are;
         nodes_are = h.nodes_are ∙ sym (nodes_more frames grants m n p.setup.dev.0 ∙ q.sets);
@@ -91,7 +100,7 @@ module _ {W : Type 0} (g : Sight W) (frames grants : ℕ → ℕ) where
               listed = listed_turned (g.port old) (g.port new) (g.knows_device old) who p.setup.dev.0 (held_in frames grants m p.setup) t.turned h.listed;
             }
 
-  -- items that tell no device anything, and change no word, were entered
+  -- items that tell no device anything but accesses of others, and change no word, were entered
   pub silent_stands : (memory : W) (devices : List Placed) (m n : List Item) → ((s : DeviceSetup) → IsSilent m n s) → ((q : Place) → after remembered (memory_after (entries m)) (entries n) q ≡ memory_after (entries m) q) → Along remembered (IsTrueNext frames grants) (memory_after (entries m)) (entries n) → AllByRecursion (Belongs (setups devices)) (entries n) → Stands g frames grants memory devices m → Stands g frames grants memory devices (m ++ n)
   silent_stands memory devices m n q same t b st =
       record {
@@ -102,16 +111,16 @@ module _ {W : Type 0} (g : Sight W) (frames grants : ℕ → ℕ) where
         domains = st.domains;
         apart = st.apart;
         placed = all_weaker (IsPlaced g frames grants memory m) (IsPlaced g frames grants memory (m ++ n)) (λ p h. placed_silent memory memory m n p (q p.setup) h.known h.listed h) devices st.placed;
-        so_far = history_more frames grants (setups devices) m n st.so_far t b (all_of (IsNextIn frames grants m n) (λ s. next_silent m n s (q s)) (setups devices));
+        so_far = history_more frames grants (setups devices) m n st.so_far t b (all_setups (IsPlaced g frames grants memory m) (IsNextIn frames grants m n) devices (λ p h. next_silent m n p (q p.setup) h.stands) st.placed);
       }
 
-  -- an access of a domain tells no device anything
+  -- an access of a domain is another's to each device
   pub front_silent : (m : List Item) (a : Access) (s : DeviceSetup) → IsSilent m (front_access a ∷ []) s
-  front_silent m a s = record { owns = refl; sets = refl }
+  front_silent m a s = record { owns = tt; sets = refl }
 
-  pub front_history : (devices : List DeviceSetup) (m : List Item) (a : Access) → IsTrueOf frames grants (memory_after (entries m)) (Some a) → IsHistory frames grants devices m → IsHistory frames grants devices (m ++ front_access a ∷ [])
-  front_history devices m a is_true h =
-      history_more frames grants devices m (front_access a ∷ []) h (is_true, tt) (tt, tt) (all_of (IsNextIn frames grants m (front_access a ∷ [])) (λ s. next_silent m (front_access a ∷ []) s (front_silent m a s)) devices)
+  pub front_history : (memory : W) (devices : List Placed) (m : List Item) (a : Access) → IsTrueOf frames grants (memory_after (entries m)) (Some a) → Stands g frames grants memory devices m → IsHistory frames grants (setups devices) (m ++ front_access a ∷ [])
+  front_history memory devices m a is_true st =
+      history_more frames grants (setups devices) m (front_access a ∷ []) st.so_far (is_true, tt) (tt, tt) (all_setups (IsPlaced g frames grants memory m) (IsNextIn frames grants m (front_access a ∷ [])) devices (λ p h. next_silent m (front_access a ∷ []) p (front_silent m a p.setup) h.stands) st.placed)
 
   module _ (makes : W → Access → W → Type 0) (b : Behaves g makes) where
     -- an access in range finds what the journal left
@@ -138,7 +147,7 @@ module _ {W : Type 0} (g : Sight W) (frames grants : ℕ → ℕ) where
           domains = λ d h. b.domains old a new made d (st.domains d h);
           apart = st.apart;
           placed = all_weaker (IsPlaced g frames grants old m) (IsPlaced g frames grants new (m ++ front_access a ∷ [])) front_placed devices st.placed;
-          so_far = front_history (setups devices) m a (access_true old new devices m a range made st) st.so_far;
+          so_far = front_history old devices m a (access_true old new devices m a range made st) st;
         } where
           front_placed : (p : Placed) → IsPlaced g frames grants old m p → IsPlaced g frames grants new (m ++ front_access a ∷ []) p
           front_placed p h =

@@ -21,7 +21,7 @@ use Rattle.pv_words.proofs.Listing.{listed_other, listed_own, port_may}
 use Rattle.link_core.specs.Order.{Own, Did, Stand, Steps, MayStep, steps_of, next, May, IsExplained, made_by, note_at}
 use Rattle.link_core.proofs.MachineRun.{IsGood, good_after, proper_next, may_step}
 use Rattle.display_backend.specs.Machine.{Site}
-use Rattle.display_backend.specs.Display as backend
+use Rattle.backend_core.specs.Device as backend
 use Rattle.display_backend.specs.Work.{Work, End, display, reading}
 use Rattle.display_backend.proofs.Sound.{sound, first_good}
 use Rattle.pv_world.specs.declared.world.Placed.{Placed}
@@ -29,7 +29,7 @@ use Rattle.pv_world.specs.Marked.{Item, entries, entry_of, items_of, nodes_in}
 use Rattle.pv_world.specs.History.{AreApart, Belongs, IsExplainedIn, IsHistory, first_stand, held_in, is_declared, parts_of, site_of, stand_after}
 use Rattle.pv_world.specs.World.{IsPlaced, Sight, Stands, setups}
 use Rattle.pv_world.proofs.Devices.{all_setups, all_step, at_index, declared_at, setups_set}
-use Rattle.pv_world.proofs.Histories.{IsNextIn, IsTrueNext, aimed, all_of, held_more, history_more, in_range_from, memory_more, nodes_more, rules, stand_more}
+use Rattle.pv_world.proofs.Histories.{IsNextIn, IsTrueNext, aimed, held_more, history_more, in_range_from, memory_more, nodes_more, rules, stand_more}
 use Rattle.pv_world.proofs.Items.{nodes_step, own_other, own_step}
 use Rattle.pv_world.proofs.Standings.{Behaves, IsSilent, access_true, next_silent, placed_silent, words_after}
 
@@ -126,22 +126,22 @@ module _ {W : Type 0} (g : Sight W) (frames grants : ℕ → ℕ) where
   good_in m s h =
       good_after (display (site_of frames grants s)) (reading (site_of frames grants s)) (IsProper frames grants s.dom.0) (holding frames) (sound frames grants s.dom.0 (parts_of s.kind)) first_stand _ (holds_of []) (first_good frames grants s.dom.0 (parts_of s.kind)) h
 
-  pub site_is : (memory : W) (m : List Item) (p : Placed) → ((d : ℕ) → g.frames memory d ≡ frames d) → ((d : ℕ) → g.grants memory d ≡ grants d) → IsPlaced g frames grants memory m p → backend.site_of (g.frames memory) (g.grants memory) p.display ≡ site_of frames grants p.setup
+  pub site_is : (memory : W) (m : List Item) (p : Placed) → ((d : ℕ) → g.frames memory d ≡ frames d) → ((d : ℕ) → g.grants memory d ≡ grants d) → IsPlaced g frames grants memory m p → backend.site_of (g.frames memory) (g.grants memory) p.device ≡ site_of frames grants p.setup
   site_is memory m p e f h =
-      same_site (backend.dom_of p.display) p.setup.dom.0 (backend.parts_of p.display) (parts_of p.setup.kind) (g.frames memory (backend.dom_of p.display)) (frames p.setup.dom.0) (g.grants memory (backend.dom_of p.display)) (grants p.setup.dom.0) h.dom_is h.parts_are (ap (g.frames memory) h.dom_is ∙ e p.setup.dom.0) (ap (g.grants memory) h.dom_is ∙ f p.setup.dom.0)
+      same_site (backend.dom_of p.device) p.setup.dom.0 (backend.parts_of p.device) (parts_of p.setup.kind) (g.frames memory (backend.dom_of p.device)) (frames p.setup.dom.0) (g.grants memory (backend.dom_of p.device)) (grants p.setup.dom.0) h.dom_is h.parts_are (ap (g.frames memory) h.dom_is ∙ e p.setup.dom.0) (ap (g.grants memory) h.dom_is ∙ f p.setup.dom.0)
 
-  good_placed : (memory : W) (m : List Item) (p : Placed) → IsExplainedIn frames grants m p.setup → IsPlaced g frames grants memory m p → IsGoodAt p.setup (backend.stand_of (site_of frames grants p.setup) p.display) (held_in frames grants m p.setup)
+  good_placed : (memory : W) (m : List Item) (p : Placed) → IsExplainedIn frames grants m p.setup → IsPlaced g frames grants memory m p → IsGoodAt p.setup (backend.stand_of (site_of frames grants p.setup) p.device) (held_in frames grants m p.setup)
   good_placed memory m p x h = subst (λ (s : Stand Work End). IsGoodAt p.setup s (held_in frames grants m p.setup)) (sym h.stands) (good_in m p.setup x)
 
   -- the next step may be made, once the port is the device's
-  pub may_next : (may : W → Want → Type 0) → ((w : W) (want : Want) → PortMay (g.frames w) (g.grants w) (g.port w) want → may w want) → (memory : W) (devices : List Placed) (i : ℕ) (p : Placed) (m : List Item) → slice_get devices i ≡ Some p → (g.port memory).device ≡ Some p.setup.dev.0 → (g.port memory).serves p.setup.dom.0 ≡ true → Stands g frames grants memory devices m → MayStep (may memory) (display (backend.site_of (g.frames memory) (g.grants memory) p.display)) (backend.stand_of (backend.site_of (g.frames memory) (g.grants memory) p.display) p.display)
+  pub may_next : (may : W → Want → Type 0) → ((w : W) (want : Want) → PortMay (g.frames w) (g.grants w) (g.port w) want → may w want) → (memory : W) (devices : List Placed) (i : ℕ) (p : Placed) (m : List Item) → slice_get devices i ≡ Some p → (g.port memory).device ≡ Some p.setup.dev.0 → (g.port memory).serves p.setup.dom.0 ≡ true → Stands g frames grants memory devices m → MayStep (may memory) (display (backend.site_of (g.frames memory) (g.grants memory) p.device)) (backend.stand_of (backend.site_of (g.frames memory) (g.grants memory) p.device) p.device)
   may_next may allows memory devices i p m at his serves st =
       let h = at_index (IsPlaced g frames grants memory m) devices i p at st.placed in
       let x = at_index (λ q. IsExplainedIn frames grants m q.setup) devices i p at (all_back devices st.so_far.explained) in
-      subst (λ (site : Site). MayStep (may memory) (display site) (backend.stand_of site p.display)) (sym (site_is memory m p st.frames_are st.grants_are h))
+      subst (λ (site : Site). MayStep (may memory) (display site) (backend.stand_of site p.device)) (sym (site_is memory m p st.frames_are st.grants_are h))
       (may_step (display (site_of frames grants p.setup)) (reading (site_of frames grants p.setup)) (IsProper frames grants p.setup.dom.0) (holding frames) (sound frames grants p.setup.dom.0 (parts_of p.setup.kind)) (may memory) (held_in frames grants m p.setup)
       (λ want note proper. allows memory want (sized want (port_may frames grants (g.port memory) p.setup.dev.0 p.setup.dom.0 (held_in frames grants m p.setup) want note h.listed his serves proper)))
-      (backend.stand_of (site_of frames grants p.setup) p.display) (good_placed memory m p x h)) where
+      (backend.stand_of (site_of frames grants p.setup) p.device) (good_placed memory m p x h)) where
         all_back : (ps : List Placed) → AllByRecursion (IsExplainedIn frames grants m) (setups ps) → AllByRecursion (λ q. IsExplainedIn frames grants m q.setup) ps
         all_back [] k = tt
         all_back (q ∷ qs) k = (k.0, all_back qs k.1)
@@ -156,7 +156,7 @@ module _ {W : Type 0} (g : Sight W) (frames grants : ℕ → ℕ) where
   -- what a device holds after a step
   abbrev held_by : DeviceSetup → Stand Work End → Holds → Option Access → Holds
   held_by s stand h None = h
-  held_by s stand h (Some a) = holding frames h (note_at (rules frames grants s) stand) a
+  held_by s stand h (Some a) = holding frames h (note_at (rules frames grants s) stand (Did a)) a
 
   made_steps : (s : DeviceSetup) (stand : Stand Work End) (h : Holds) (a : Option Access) (t : Option Said) → after (λ k (x : Made). holding frames k x.note x.access) h (made_by (rules frames grants s) stand (steps_of a t)) ≡ held_by s stand h a
   made_steps s stand h None None = refl
@@ -182,19 +182,19 @@ module _ {W : Type 0} (g : Sight W) (frames grants : ℕ → ℕ) where
         listed_other (g.frames old) (g.port old) (g.port new) a (b.leaves old a new made) d e h his (λ same. let is : (e == d) ≡ true = grind (arith, nat_tests) in let wrong : ⊥ = cc in wrong) l
 
     -- the access of a step is proper
-    proper_step : (m : List Item) (p : Placed) (a : Access) (t : Option Said) (new : Stand Work End) → IsGoodAt p.setup (backend.stand_of (site_of frames grants p.setup) p.display) (held_in frames grants m p.setup) → Steps (display (site_of frames grants p.setup)) (backend.stand_of (site_of frames grants p.setup) p.display) (Some a) t new → IsProper frames grants p.setup.dom.0 (held_in frames grants m p.setup) (wanted a) (note_at (rules frames grants p.setup) (backend.stand_of (site_of frames grants p.setup) p.display))
+    proper_step : (m : List Item) (p : Placed) (a : Access) (t : Option Said) (new : Stand Work End) → IsGoodAt p.setup (backend.stand_of (site_of frames grants p.setup) p.device) (held_in frames grants m p.setup) → Steps (display (site_of frames grants p.setup)) (backend.stand_of (site_of frames grants p.setup) p.device) (Some a) t new → IsProper frames grants p.setup.dom.0 (held_in frames grants m p.setup) (wanted a) (note_at (rules frames grants p.setup) (backend.stand_of (site_of frames grants p.setup) p.device) (Did a))
     proper_step m p a t new good steps =
-        proper_next (display (site_of frames grants p.setup)) (reading (site_of frames grants p.setup)) (IsProper frames grants p.setup.dom.0) (holding frames) (sound frames grants p.setup.dom.0 (parts_of p.setup.kind)) (backend.stand_of (site_of frames grants p.setup) p.display) a (held_in frames grants m p.setup) good (first_may (site_of frames grants p.setup) a t (backend.stand_of (site_of frames grants p.setup) p.display) steps.explained)
+        proper_next (display (site_of frames grants p.setup)) (reading (site_of frames grants p.setup)) (IsProper frames grants p.setup.dom.0) (holding frames) (sound frames grants p.setup.dom.0 (parts_of p.setup.kind)) (backend.stand_of (site_of frames grants p.setup) p.device) a (held_in frames grants m p.setup) good (first_may (site_of frames grants p.setup) a t (backend.stand_of (site_of frames grants p.setup) p.device) steps.explained)
 
-    listed_step : (old new : W) (m : List Item) (p : Placed) (a : Option Access) (t : Option Said) (stand : Stand Work End) → Makes makes old a new → (g.port old).device ≡ Some p.setup.dev.0 → ((d : ℕ) → g.frames old d ≡ frames d) → IsGoodAt p.setup (backend.stand_of (site_of frames grants p.setup) p.display) (held_in frames grants m p.setup) → Steps (display (site_of frames grants p.setup)) (backend.stand_of (site_of frames grants p.setup) p.display) a t stand → IsPlaced g frames grants old m p → IsListed (g.port new) p.setup.dev.0 (held_by p.setup (stand_after frames grants m p.setup) (held_in frames grants m p.setup) a)
+    listed_step : (old new : W) (m : List Item) (p : Placed) (a : Option Access) (t : Option Said) (stand : Stand Work End) → Makes makes old a new → (g.port old).device ≡ Some p.setup.dev.0 → ((d : ℕ) → g.frames old d ≡ frames d) → IsGoodAt p.setup (backend.stand_of (site_of frames grants p.setup) p.device) (held_in frames grants m p.setup) → Steps (display (site_of frames grants p.setup)) (backend.stand_of (site_of frames grants p.setup) p.device) a t stand → IsPlaced g frames grants old m p → IsListed (g.port new) p.setup.dev.0 (held_by p.setup (stand_after frames grants m p.setup) (held_in frames grants m p.setup) a)
     listed_step old new m p None t stand made his e good steps h = subst (λ (w : W). IsListed (g.port w) p.setup.dev.0 (held_in frames grants m p.setup)) (sym made) h.listed
     listed_step old new m p (Some a) t stand made his e good steps h =
         let proper = proper_step m p a t stand good steps in
-        subst (λ (s : Stand Work End). IsListed (g.port new) p.setup.dev.0 (holding frames (held_in frames grants m p.setup) (note_at (rules frames grants p.setup) s) a)) h.stands
-        (subst (λ (k : Holds). IsListed (g.port new) p.setup.dev.0 k) (holding_same (g.frames old) frames e (held_in frames grants m p.setup) (note_at (rules frames grants p.setup) (backend.stand_of (site_of frames grants p.setup) p.display)) a)
-        (listed_own (g.frames old) (g.port old) (g.port new) a (b.leaves old a new made) p.setup.dev.0 (held_in frames grants m p.setup) (note_at (rules frames grants p.setup) (backend.stand_of (site_of frames grants p.setup) p.display)) his h.listed proper.1.1))
+        subst (λ (s : Stand Work End). IsListed (g.port new) p.setup.dev.0 (holding frames (held_in frames grants m p.setup) (note_at (rules frames grants p.setup) s (Did a)) a)) h.stands
+        (subst (λ (k : Holds). IsListed (g.port new) p.setup.dev.0 k) (holding_same (g.frames old) frames e (held_in frames grants m p.setup) (note_at (rules frames grants p.setup) (backend.stand_of (site_of frames grants p.setup) p.device) (Did a)) a)
+        (listed_own (g.frames old) (g.port old) (g.port new) a (b.leaves old a new made) p.setup.dev.0 (held_in frames grants m p.setup) (note_at (rules frames grants p.setup) (backend.stand_of (site_of frames grants p.setup) p.device) (Did a)) his h.listed proper.1.1))
 
-    true_step : (old new : W) (devices : List Placed) (m : List Item) (p : Placed) (a : Option Access) (t : Option Said) (stand : Stand Work End) → Makes makes old a new → IsGoodAt p.setup (backend.stand_of (site_of frames grants p.setup) p.display) (held_in frames grants m p.setup) → Steps (display (site_of frames grants p.setup)) (backend.stand_of (site_of frames grants p.setup) p.display) a t stand → Stands g frames grants old devices m → IsTrueOf frames grants (memory_after (entries m)) a
+    true_step : (old new : W) (devices : List Placed) (m : List Item) (p : Placed) (a : Option Access) (t : Option Said) (stand : Stand Work End) → Makes makes old a new → IsGoodAt p.setup (backend.stand_of (site_of frames grants p.setup) p.device) (held_in frames grants m p.setup) → Steps (display (site_of frames grants p.setup)) (backend.stand_of (site_of frames grants p.setup) p.device) a t stand → Stands g frames grants old devices m → IsTrueOf frames grants (memory_after (entries m)) a
     true_step old new devices m p None t stand made good steps st = tt
     true_step old new devices m p (Some a) t stand made good steps st =
         let proper = proper_step m p a t stand good steps in
@@ -221,7 +221,7 @@ module _ {W : Type 0} (g : Sight W) (frames grants : ℕ → ℕ) where
     words_step old new m (Some a) h e f w q r = words_after g frames grants makes b old new m a h e f w q r
 
     -- a whole step: what the world stands for then
-    pub step_stands : (old new : W) (devices : List Placed) (i : ℕ) (p r : Placed) (m : List Item) (a : Option Access) (t : Option Said) → slice_get devices i ≡ Some p → Makes makes old a new → (g.port old).device ≡ Some p.setup.dev.0 → Steps (display (site_of frames grants p.setup)) (backend.stand_of (site_of frames grants p.setup) p.display) a t (backend.stand_of (site_of frames grants p.setup) r.display) → r.setup ≡ p.setup → backend.dom_of r.display ≡ backend.dom_of p.display → backend.parts_of r.display ≡ backend.parts_of p.display → r.nodes ≡ p.nodes → Stands g frames grants old devices m → Stands g frames grants new (set devices i r) (m ++ items_of p.setup.dev a t)
+    pub step_stands : (old new : W) (devices : List Placed) (i : ℕ) (p r : Placed) (m : List Item) (a : Option Access) (t : Option Said) → slice_get devices i ≡ Some p → Makes makes old a new → (g.port old).device ≡ Some p.setup.dev.0 → Steps (display (site_of frames grants p.setup)) (backend.stand_of (site_of frames grants p.setup) p.device) a t (backend.stand_of (site_of frames grants p.setup) r.device) → r.setup ≡ p.setup → backend.dom_of r.device ≡ backend.dom_of p.device → backend.parts_of r.device ≡ backend.parts_of p.device → r.nodes ≡ p.nodes → Stands g frames grants old devices m → Stands g frames grants new (set devices i r) (m ++ items_of p.setup.dev a t)
     step_stands old new devices i p r m a t at made his steps same dom parts nodes st =
         let items : List Item = items_of p.setup.dev a t in
         let placed = at_index (IsPlaced g frames grants old m) devices i p at st.placed in
@@ -237,11 +237,11 @@ module _ {W : Type 0} (g : Sight W) (frames grants : ℕ → ℕ) where
           apart = subst (λ (x : List DeviceSetup). AreApart x) (sym declared) st.apart;
           placed = all_step (IsPlaced g frames grants old m) (IsPlaced g frames grants new (m ++ items)) devices i p r st.apart at (other_placed items) (own_placed good) st.placed;
           so_far = subst (λ (x : List DeviceSetup). IsHistory frames grants x (m ++ items)) (sym declared)
-              (history_more frames grants (setups devices) m items st.so_far (step_true frames grants (memory_after (entries m)) p.setup.dev a t (true_step old new devices m p a t (backend.stand_of (site_of frames grants p.setup) r.display) made good steps st))
+              (history_more frames grants (setups devices) m items st.so_far (step_true frames grants (memory_after (entries m)) p.setup.dev a t (true_step old new devices m p a t (backend.stand_of (site_of frames grants p.setup) r.device) made good steps st))
               (step_belongs (setups devices) p.setup.dev a t (declared_at devices i p at))
               (subst (λ (x : List DeviceSetup). AllByRecursion (IsNextIn frames grants m items) x) declared
               (all_setups (λ q. IsNextIn frames grants m items q.setup) (IsNextIn frames grants m items) (set devices i r) (λ q h. h)
-              (all_step (λ q. Unit {0}) (λ q. IsNextIn frames grants m items q.setup) devices i p r st.apart at (λ q e h. next_silent g frames grants m items q.setup (other_silent m p.setup.dev a t q.setup e)) (λ h. subst (λ (s : DeviceSetup). IsNextIn frames grants m items s) (sym same) (own_next placed)) (all_of (λ q. Unit {0}) (λ q. tt) devices)))));
+              (all_step (IsPlaced g frames grants old m) (λ q. IsNextIn frames grants m items q.setup) devices i p r st.apart at (λ q e h. next_silent g frames grants m items q (other_silent m p.setup.dev a t q.setup e) h.stands) (λ h. subst (λ (s : DeviceSetup). IsNextIn frames grants m items s) (sym same) (own_next placed)) st.placed))));
         } where
           all_back : (ps : List Placed) → AllByRecursion (IsExplainedIn frames grants m) (setups ps) → AllByRecursion (λ q. IsExplainedIn frames grants m q.setup) ps
           all_back [] k = tt
@@ -256,7 +256,7 @@ module _ {W : Type 0} (g : Sight W) (frames grants : ℕ → ℕ) where
               subst (λ (es : List Own). IsExplained (rules frames grants p.setup) (stand_after frames grants m p.setup) es) (sym (own_step p.setup.dev (nodes_in p.setup.dev.0 m) a t))
               (subst (λ (s : Stand Work End). IsExplained (rules frames grants p.setup) s (steps_of a t)) h.stands steps.explained)
 
-          moved : IsGoodAt p.setup (backend.stand_of (site_of frames grants p.setup) p.display) (held_in frames grants m p.setup) → IsPlaced g frames grants old m p → IsPlaced g frames grants new (m ++ items_of p.setup.dev a t) (record { setup = p.setup; display = r.display; nodes = r.nodes })
+          moved : IsGoodAt p.setup (backend.stand_of (site_of frames grants p.setup) p.device) (held_in frames grants m p.setup) → IsPlaced g frames grants old m p → IsPlaced g frames grants new (m ++ items_of p.setup.dev a t) (record { setup = p.setup; device = r.device; nodes = r.nodes })
           moved good h =
               record {
                 stands = steps.left ∙ (ap (λ (s : Stand Work End). after (next (rules frames grants p.setup)) s (steps_of a t)) h.stands ∙ (ap (λ (es : List Own). after (next (rules frames grants p.setup)) (stand_after frames grants m p.setup) es) (sym (own_step p.setup.dev (nodes_in p.setup.dev.0 m) a t)) ∙ sym (stand_more frames grants m (items_of p.setup.dev a t) p.setup)));
@@ -264,10 +264,10 @@ module _ {W : Type 0} (g : Sight W) (frames grants : ℕ → ℕ) where
                 parts_are = parts ∙ h.parts_are;
                 nodes_are = nodes ∙ (h.nodes_are ∙ sym (nodes_more frames grants m (items_of p.setup.dev a t) p.setup.dev.0 ∙ nodes_step p.setup.dev.0 p.setup.dev (nodes_in p.setup.dev.0 m) a t));
                 known = known_after old new a p.setup.dev.0 p.setup.dom.0 made h.known;
-                listed = subst (λ (k : Holds). IsListed (g.port new) p.setup.dev.0 k) (sym (held_step m p.setup a t)) (listed_step old new m p a t (backend.stand_of (site_of frames grants p.setup) r.display) made his st.frames_are good steps h);
+                listed = subst (λ (k : Holds). IsListed (g.port new) p.setup.dev.0 k) (sym (held_step m p.setup a t)) (listed_step old new m p a t (backend.stand_of (site_of frames grants p.setup) r.device) made his st.frames_are good steps h);
               }
 
-          own_placed : IsGoodAt p.setup (backend.stand_of (site_of frames grants p.setup) p.display) (held_in frames grants m p.setup) → IsPlaced g frames grants old m p → IsPlaced g frames grants new (m ++ items_of p.setup.dev a t) r
+          own_placed : IsGoodAt p.setup (backend.stand_of (site_of frames grants p.setup) p.device) (held_in frames grants m p.setup) → IsPlaced g frames grants old m p → IsPlaced g frames grants new (m ++ items_of p.setup.dev a t) r
           own_placed good h =
-              let is : record { setup = p.setup; display = r.display; nodes = r.nodes } ≡ r = ap (λ (s : DeviceSetup). record { setup = s; display = r.display; nodes = r.nodes }) (sym same) in
+              let is : record { setup = p.setup; device = r.device; nodes = r.nodes } ≡ r = ap (λ (s : DeviceSetup). record { setup = s; device = r.device; nodes = r.nodes }) (sym same) in
               subst (λ (x : Placed). IsPlaced g frames grants new (m ++ items_of p.setup.dev a t) x) is (moved good h)

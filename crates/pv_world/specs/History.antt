@@ -1,5 +1,5 @@
 -- What every journal of a run is, whatever was played: lawful, and explained by the devices' order of work.
-use Rattle.std.specs.Prelude.{◌≡◌, ℕ, ◌==◌, ◌<◌, Bool, true, false, List, [], ◌∷◌, if◌then◌else◌}
+use Rattle.std.specs.Prelude.{◌≡◌, ℕ, ◌==◌, ◌<◌, pos, Bool, true, false, List, [], ◌∷◌, ◌++◌, Some, if◌then◌else◌}
 use Rattle.std.specs.List.{AllByRecursion, list_any}
 use Rattle.pv_words.specs.declared.entry.Entry.{Entry}
 use Rattle.pv_words.specs.declared.entry.Entry.TheVariants as entry
@@ -9,12 +9,13 @@ use Rattle.pv_words.specs.declared.setup.DeviceKind.{DeviceKind}
 use Rattle.pv_words.specs.declared.setup.DeviceKind.TheVariants.{Display}
 use Rattle.pv_words.specs.declared.setup.DeviceSetup.{DeviceSetup}
 use Rattle.pv_words.specs.Along.{after}
-use Rattle.pv_words.specs.Memory.{IsLawful}
+use Rattle.pv_words.specs.Memory.{IsLawful, zeros}
 use Rattle.pv_words.specs.Held.{Holds, Made, KeepsToGrants, holding, holds_of}
 use Rattle.link_core.specs.Order.{Stand, Between, IsExplained, next, made_by}
-use Rattle.link_core.specs.Machine.{IsRun, history}
-use Rattle.display_backend.specs.Work.{Work, End, display, reading, first_work}
-use Rattle.display_backend.specs.Machine.{Site, Rows, Moves, first_rows}
+use Rattle.link_core.specs.Machine.{Happening, HappensTo, IsRun, Snapshot, Table, history}
+use Rattle.display_backend.specs.Work.{Work, End, display, reading, first_naming, first_work}
+use Rattle.display_backend.specs.Machine.{Event, Hand, Site, Rows, Moves, first_rows, makes, verdict}
+use Rattle.pv_world.specs.Answered.{IsAnsweredIn}
 use Rattle.pv_world.specs.Marked.{Item, entries, own}
 
 -- how many parts a device has: a display's connectors
@@ -82,19 +83,44 @@ made_in frames grants m s = made_by (display (site_of frames grants s)) first_st
 abbrev pub held_in : (frames grants : ℕ → ℕ) → List Item → DeviceSetup → Holds
 held_in frames grants m s = after (λ h k. holding frames h k.note k.access) (holds_of []) (made_in frames grants m s)
 
--- what a device says and hears is a run of the display machine
+-- the display machine: its rows, and the names that its replies make
+abbrev pub machine : Site → Table Rows Event
+machine site = record { moves = Moves site; makes = makes }
+
+-- at the beginning it has no name
+abbrev pub first_snapshot : Snapshot Rows
+first_snapshot = record { rows = first_rows; names = [] }
+
+-- what happens to it in a journal: what the device says and hears, and each write of a word of a live name, whoever writes
+abbrev pub events_in : (frames grants : ℕ → ℕ) → List Item → DeviceSetup → List (Happening Event)
+events_in frames grants m s =
+    history (display (site_of frames grants s)) (reading (site_of frames grants s)) first_stand first_naming zeros (own s.dev.0 m)
+
+-- what a device says and hears, with the words that are drawn, is a run of the display machine
 abbrev pub IsMachineRunIn : (frames grants : ℕ → ℕ) → List Item → DeviceSetup → Type 0
 IsMachineRunIn frames grants m s =
-    (rows : Rows) × IsRun (Moves (site_of frames grants s)) first_rows
-    (history (display (site_of frames grants s)) (reading (site_of frames grants s)) first_stand (own s.dev.0 m)) rows
+    (end : Snapshot Rows) × IsRun (HappensTo (machine (site_of frames grants s))) first_snapshot (events_in frames grants m s) end
 
--- Each access of a device to a cell lies in a page that it mapped and hasn't unmapped, each that may write in one that it
--- mapped for writing; each other access goes to a grant entry of its domain.
+-- Whenever the machine has an accepted request in hand, after some of what happens to it, that request is answered in what
+-- happens then, or its connection is closed, or it is in hand at the end.
+abbrev pub AnswersIn : (frames grants : ℕ → ℕ) → List Item → DeviceSetup → Type 0
+AnswersIn frames grants m s =
+    (before later : List (Happening Event)) (now : Snapshot Rows) (h : Hand)
+    → events_in frames grants m s ≡ before ++ later
+    → IsRun (HappensTo (machine (site_of frames grants s))) first_snapshot before now
+    → now.rows.hand ≡ Some h → verdict now.rows.buffers h.request.asked ≡ pos 0
+    → IsAnsweredIn h now.rows.denied later
+
+-- Each access of a device to a cell lies in a page that it mapped and hasn't unmapped by then, so that none comes after the
+-- page is gone, and each that may write in one that it mapped for writing; each other access goes to a grant entry of its
+-- domain.
 abbrev pub KeepsIn : (frames grants : ℕ → ℕ) → List Item → DeviceSetup → Type 0
 KeepsIn frames grants m s = KeepsToGrants frames grants s.dom.0 (holds_of []) (made_in frames grants m s)
 
--- what is so of every history: what its devices say and hear are runs of the display machine, and they stay in their pages
+-- what is so of every history: what its devices say and hear are runs of the display machine, accepted requests are
+-- answered, and the devices stay in their pages
 abbrev pub HistoriesAreRuns : Type 0
 HistoriesAreRuns =
     (frames grants : ℕ → ℕ) (devices : List DeviceSetup) (m : List Item) → IsHistory frames grants devices m
-    → AllByRecursion (IsMachineRunIn frames grants m) devices × AllByRecursion (KeepsIn frames grants m) devices
+    → AllByRecursion (IsMachineRunIn frames grants m) devices × AllByRecursion (AnswersIn frames grants m) devices
+    × AllByRecursion (KeepsIn frames grants m) devices

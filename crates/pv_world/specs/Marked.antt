@@ -9,7 +9,7 @@ use Rattle.pv_words.specs.declared.device.Said.{Said}
 use Rattle.pv_words.specs.declared.device.Said.TheVariants as said
 use Rattle.pv_words.specs.declared.device.NodeValue.{NodeValue}
 use Rattle.pv_words.specs.Along.{after}
-use Rattle.link_core.specs.Order.{Own, Did, Spoke, Rested, Heard}
+use Rattle.link_core.specs.Order.{Own, Did, Spoke, Rested, Heard, Others}
 use Rattle.xenbus_states.specs.Nodes.{no_nodes, with_node}
 
 -- an entry, or a mark: the device of this number was stepped and was idle
@@ -44,13 +44,13 @@ abbrev pub nodes_in : ℕ → List Item → List NodeValue
 nodes_in d m = after (nodes_next d) no_nodes m
 
 -- What an entry tells of the device of this number, while its nodes stand so: a state that it says is entered as a state
--- of the bus, and one that its frontend sets is heard.
+-- of the bus, and one that its frontend sets is heard. An access of a domain, or of another device, is another's.
 abbrev pub told_by : ℕ → List NodeValue → Entry → List Own
-told_by d nodes (entry.Back dev a) = if dev.0 == d then Did a ∷ [] else []
+told_by d nodes (entry.Back dev a) = if dev.0 == d then Did a ∷ [] else Others a ∷ []
 told_by d nodes (entry.Said dev s) = if dev.0 == d then Spoke s ∷ [] else []
 told_by d nodes (entry.Bus dev end.Back s) = if dev.0 == d then Spoke (said.State s) ∷ [] else []
 told_by d nodes (entry.Bus dev end.Front s) = if dev.0 == d then Heard s nodes ∷ [] else []
-told_by d nodes (entry.Front dom a) = []
+told_by d nodes (entry.Front dom a) = Others a ∷ []
 told_by d nodes (entry.Wake dev) = []
 told_by d nodes (entry.Host dev e) = []
 told_by d nodes (entry.Refused dev r) = []
@@ -61,7 +61,7 @@ abbrev pub told_in : ℕ → List NodeValue → Item → List Own
 told_in d nodes (Entered e) = told_by d nodes e
 told_in d nodes (Idle dev) = if dev == d then Rested ∷ [] else []
 
--- what the device of this number does and hears, in order
+-- what the device of this number does and hears, with the accesses of others, in order
 abbrev pub own_from : ℕ → List NodeValue → List Item → List Own
 own_from d nodes [] = []
 own_from d nodes (i ∷ m) = told_in d nodes i ++ own_from d (nodes_next d nodes i) m

@@ -14,7 +14,7 @@ use Rattle.pv_words.specs.declared.setup.DeviceSetup.{DeviceSetup}
 use Rattle.pv_words.specs.Memory.{memory_after, place_of}
 use Rattle.pv_words.specs.Place.{InRange, domain_of}
 use Rattle.pv_words.specs.Port.{Port, IsListed, no_listing}
-use Rattle.display_backend.specs.Display as backend
+use Rattle.backend_core.specs.Device as backend
 use Rattle.pv_world.specs.declared.world.Placed.{Placed}
 use Rattle.pv_world.specs.declared.world.World.{World}
 use Rattle.pv_world.specs.Record.{IsAtLimit, progress}
@@ -45,9 +45,9 @@ setups (p ∷ ps) = p.setup ∷ setups ps
 -- A device stands where its entries left it, with the nodes as they were set; the memory knows it as one of its domain, and
 -- lists what it mapped.
 pub record IsPlaced {W : Type 0} (g : Sight W) (frames grants : ℕ → ℕ) (memory : W) (m : List Item) (p : Placed) : Type 0 where
-  pub stands : backend.stand_of (site_of frames grants p.setup) p.display ≡ stand_after frames grants m p.setup
-  pub dom_is : backend.dom_of p.display ≡ p.setup.dom.0
-  pub parts_are : backend.parts_of p.display ≡ parts_of p.setup.kind
+  pub stands : backend.stand_of (site_of frames grants p.setup) p.device ≡ stand_after frames grants m p.setup
+  pub dom_is : backend.dom_of p.device ≡ p.setup.dom.0
+  pub parts_are : backend.parts_of p.device ≡ parts_of p.setup.kind
   pub nodes_are : p.nodes ≡ nodes_in p.setup.dev.0 m
   pub known : g.knows_device memory p.setup.dev.0 p.setup.dom.0
   pub listed : IsListed (g.port memory) p.setup.dev.0 (held_in frames grants m p.setup)
@@ -176,9 +176,9 @@ Exchanged g frames grants memory devices at old new es m r =
 -- a device that was just declared
 pub record IsDeclaredAs (s : DeviceSetup) (p : Placed) : Type 0 where
   pub setup_is : p.setup ≡ s
-  pub stands : (site : Site) → backend.stand_of site p.display ≡ first_stand
-  pub dom_is : backend.dom_of p.display ≡ s.dom.0
-  pub parts_are : backend.parts_of p.display ≡ parts_of s.kind
+  pub stands : (site : Site) → backend.stand_of site p.device ≡ first_stand
+  pub dom_is : backend.dom_of p.device ≡ s.dom.0
+  pub parts_are : backend.parts_of p.device ≡ parts_of s.kind
   pub nodes_are : p.nodes ≡ no_nodes
 
 abbrev pub AreDeclaredAs : List DeviceSetup → List Placed → Type 0

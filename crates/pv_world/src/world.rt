@@ -12,6 +12,7 @@ ghost use Rattle.pv_world.specs.World.{AreDeclaredAs, HasParts, IsDeclaredAs};
 ghost use Rattle.pv_world.specs.Owner.{EntersTurn};
 
 use crate::owner::{Owning, news, place};
+use backend_core::Device;
 use display_backend::{Display, Step};
 use grant_table::{Owned, OwnerStep};
 use pv_words::{
@@ -25,7 +26,7 @@ use xenbus_states::Nodes;
 #[derive(Drop)]
 pub struct Placed {
     setup: DeviceSetup,
-    display: Display,
+    device: Device,
     nodes: Nodes,
 }
 
@@ -113,8 +114,8 @@ fn enter_turn(
     Ok(turn.done.is_none())
 }
 
-/// Whatever was played, what a device said and heard is a run of the display machine, and each of its accesses lies in a
-/// page that it mapped and holds.
+/// Whatever was played, what a device said and heard is a run of the display machine, its accepted requests are answered, and
+/// each of its accesses lies in a page that it mapped and holds.
 pub fn histories_are_runs()
     ensures { HistoriesAreRuns }
 {}
@@ -125,12 +126,14 @@ fn declare(alloc: Global, setup: &DeviceSetup) -> Result<Placed, AllocError>
     requires most { parts_of setup.now.kind ≤ 4 }
     ensures { IfOk result (λ p. IsDeclaredAs setup.now p) }
 {
-    let display = match setup.kind {
-        DeviceKind::Display(connectors) => Display::new(alloc, setup.dom, connectors)?,
+    let device = match setup.kind {
+        DeviceKind::Display(connectors) => {
+            Device::Display(Display::new(alloc, setup.dom, connectors)?)
+        }
     };
     Ok(Placed {
         setup: *setup,
-        display,
+        device,
         nodes: Nodes::new(),
     })
 }
@@ -354,7 +357,7 @@ impl<W: Machine> World<W> {
         let i = self.position(dev);
         enter(journal, Entry::Bus(dev, End::Front, s))?;
         let placed = &mut self.devices[i];
-        placed.display.bus(s, &placed.nodes);
+        placed.device.bus(s, &placed.nodes);
         Ok(())
     }
 
@@ -381,7 +384,7 @@ impl<W: Machine> World<W> {
         ensures grows { Grows result journal.old.entries journal.new.entries }
     {
         self.memory.turn(Who::Dev(dev));
-        let step = self.devices[i].display.step(&mut self.memory);
+        let step = self.devices[i].device.step(&mut self.memory);
         record(journal, dev, &step)
     }
 

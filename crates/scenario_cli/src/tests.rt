@@ -164,10 +164,10 @@ fn as_many_requests_as_slots(rt: HostRuntime) -> Result<(), Fail> {
     let outcome = run_connected(alloc, "put 1 0 0 32\nserve 1\n")?;
     let mut wanted = joined(
         alloc,
-        &[CONNECTED, "request 1 0 0 0\nreply 1 0 0 -95 notify\n"],
+        &[CONNECTED, "request 1 0 0 0\nreply 1 0 0 -22 notify\n"],
     )?;
     for _ in 1..32 {
-        wanted.push_str("request 1 0 0 0\nreply 1 0 0 -95\n")?;
+        wanted.push_str("request 1 0 0 0\nreply 1 0 0 -22\n")?;
     }
     assert_eq!(rt; outcome.status, Status::Ok);
     assert_eq!(rt; outcome.sink.as_slice(), wanted.as_bytes());
@@ -188,11 +188,182 @@ fn indices_go_on_at_zero(rt: HostRuntime) -> Result<(), Fail> {
             "put 1 0 0 2\nserve 1\n",
         ],
     )?;
-    let pair = "request 1 0 0 0\nreply 1 0 0 -95\n";
-    let notified = "request 1 0 0 0\nreply 1 0 0 -95 notify\n";
+    let pair = "request 1 0 0 0\nreply 1 0 0 -22\n";
+    let notified = "request 1 0 0 0\nreply 1 0 0 -22 notify\n";
     let wanted = joined(alloc, &[CONNECTED, pair, pair, notified, pair])?;
     assert_eq!(rt; outcome.status, Status::Ok);
     assert_eq!(rt; outcome.sink.as_slice(), wanted.as_bytes());
+    Ok(())
+}
+
+// A connected display whose domain has four frames: frame 2 is a page directory that lists frame 3, and the first request is
+// a CREATE of a buffer of 32 by 32 pixels with that directory.
+const BUFFER: &str =
+    "put 1 0 16 1\nput 1 0 18 1\nput 1 0 20 32\nput 1 0 21 32\nput 1 0 22 32\nput 1 0 23 4096\nput 1 0 25 2\n";
+
+fn run_buffers(alloc: Global, more: &str) -> Result<Outcome, AllocError> {
+    run_parts(
+        alloc,
+        &[
+            "domain 1 wild 4 4\ndisplay 1 1 1\nput 1 0 1 1\nput 1 0 3 1\nopen 1 0 0 rw 4\n",
+            NODES,
+            "put 1 2 1 3\n",
+            CONNECTS,
+            BUFFER,
+            more,
+        ],
+    )
+}
+
+// The page of a buffer is in use until the buffer is destroyed.
+#[test]
+fn a_buffer_is_made_and_destroyed(rt: HostRuntime) -> Result<(), Fail> {
+    let alloc = rt.alloc();
+    let outcome = run_buffers(
+        alloc,
+        "put 1 0 0 1\nserve 1\nend 1 3 1\nput 1 0 32 0x00010002\nput 1 0 34 1\nput 1 0 0 2\nserve 1\nend 1 3 1\n",
+    )?;
+    let wanted = joined(
+        alloc,
+        &[
+            CONNECTED,
+            "request 1 0 1 0\nreply 1 0 1 0 notify\ngrant 1 3 busy 9\n",
+            "request 1 0 2 1\nreply 1 0 2 0\ngrant 1 3 ended\n",
+        ],
+    )?;
+    assert_eq!(rt; outcome.status, Status::Ok);
+    assert_eq!(rt; outcome.sink.as_slice(), wanted.as_bytes());
+    Ok(())
+}
+
+// The second request is a CREATE or a DESTROY beside a live buffer of cookie 1.
+#[test]
+fn buffers_that_are_refused(rt: HostRuntime) -> Result<(), Fail> {
+    let alloc = rt.alloc();
+    for (asks, op, status) in [
+        ("put 1 0 32 2\nput 1 0 40 1\n", "0", "-95"),
+        ("put 1 0 32 2\nput 1 0 34 1\n", "0", "-17"),
+        ("put 1 0 32 2\nput 1 0 34 2\n", "0", "-22"),
+        ("put 1 0 32 0x00010002\nput 1 0 34 2\n", "1", "-2"),
+        ("put 1 0 32 0x00050002\nput 1 0 34 1\n", "5", "-95"),
+    ] {
+        let more = joined(
+            alloc,
+            &["put 1 0 0 1\nserve 1\n", asks, "put 1 0 0 2\nserve 1\n"],
+        )?;
+        let outcome = run_buffers(alloc, more.as_str())?;
+        let wanted = joined(
+            alloc,
+            &[
+                CONNECTED,
+                "request 1 0 1 0\nreply 1 0 1 0 notify\nrequest 1 0 2 ",
+                op,
+                "\nreply 1 0 2 ",
+                status,
+                "\n",
+            ],
+        )?;
+        assert_eq!(rt; outcome.status, Status::Ok);
+        assert_eq!(rt; outcome.sink.as_slice(), wanted.as_bytes());
+    }
+    Ok(())
+}
+
+// A page that is in use already is denied; the walk of one page makes eight accesses, of which a refused map of its page
+// makes one, and the directory page is unmapped.
+#[test]
+fn a_page_that_is_denied(rt: HostRuntime) -> Result<(), Fail> {
+    let alloc = rt.alloc();
+    for (change, cause, made) in [
+        ("putg 1 3 flags 9\n", "inuse 9", 11 + 17 + 6 + 18 + 3),
+        ("putg 1 2 flags 0\n", "notpermitted 0", 11 + 17 + 1 + 18 + 3),
+        ("put 1 0 25 4\n", "noentry 4", 11 + 17 + 18 + 3),
+        ("put 1 2 1 4\n", "noentry 4", 11 + 17 + 5 + 18 + 3),
+        ("putg 1 3 frame 4\n", "badframe 4", 11 + 17 + 9 + 18 + 3),
+    ] {
+        let more = joined(alloc, &[change, "put 1 0 0 1\nserve 1\n"])?;
+        let outcome = run_buffers(alloc, more.as_str())?;
+        let wanted = joined(
+            alloc,
+            &[
+                CONNECTED,
+                "request 1 0 1 0\ndenied 1 ",
+                cause,
+                "\nreply 1 0 1 -13 notify\n",
+            ],
+        )?;
+        assert_eq!(rt; outcome.status, Status::Ok);
+        assert_eq!(rt; outcome.sink.as_slice(), wanted.as_bytes());
+        assert_eq!(rt; accesses(&outcome.journal, DevId(1)), made);
+    }
+    Ok(())
+}
+
+// 1024 pages need a second directory page, and there is none: the 4096 accesses of the walk so far are undone by as many
+// clears as pages are held, 1024 with the directory's.
+#[test]
+fn a_directory_without_a_further_page(rt: HostRuntime) -> Result<(), Fail> {
+    let alloc = rt.alloc();
+    let outcome = run_parts(
+        alloc,
+        &[
+            "domain 1 wild 1030 1030\ndisplay 1 1 1\nput 1 0 1 1\nput 1 0 3 1\nopen 1 0 0 rw 1030\n",
+            NODES,
+            "fill 1 2 1 1023 3 1\n",
+            CONNECTS,
+            "put 1 0 16 1\nput 1 0 18 1\nput 1 0 20 32\nput 1 0 21 32768\nput 1 0 22 32\nput 1 0 23 4194304\nput 1 0 25 2\n",
+            "put 1 0 0 1\nserve 1\nend 1 0 4\nend 1 1029 1\n",
+        ],
+    )?;
+    let wanted = joined(
+        alloc,
+        &[
+            CONNECTED,
+            "request 1 0 1 0\ndenied 1 nonext\nreply 1 0 1 -13 notify\n",
+            "grant 1 0 busy 25\ngrant 1 1 busy 25\ngrant 1 2 ended\ngrant 1 3 ended\ngrant 1 1029 ended\n",
+        ],
+    )?;
+    assert_eq!(rt; outcome.status, Status::Ok);
+    assert_eq!(rt; outcome.sink.as_slice(), wanted.as_bytes());
+    assert_eq!(rt;
+        accesses(&outcome.journal, DevId(1)),
+        11 + 17 + 5120 + 18 + 3
+    );
+    Ok(())
+}
+
+// The frontend ends the connection while a buffer's pages are mapped: the walk comes to its end, and the Close unmaps its
+// page with the two of the connector. Afterwards the same request is taken anew.
+#[test]
+fn a_walk_comes_to_its_end_before_a_close(rt: HostRuntime) -> Result<(), Fail> {
+    let alloc = rt.alloc();
+    for (more, lines, made) in [
+        ("", "", 11 + 20 + 5 + 3),
+        (
+            "bus 1 1\nserve 1\nbus 1 3\nserve 1\n",
+            "bus 1 front 1\nbus 1 back 2\nbus 1 front 3\nbus 1 back 4\nrequest 1 0 1 0\nreply 1 0 1 0 notify\n",
+            11 + 20 + 5 + 3 + 8 + 17 + 8 + 18 + 3,
+        ),
+        (
+            "bus 1 1\nserve 1\nbus 1 3\nserve 1\nbus 1 6\nserve 1\nend 1 0 4\n",
+            "bus 1 front 1\nbus 1 back 2\nbus 1 front 3\nbus 1 back 4\nrequest 1 0 1 0\nreply 1 0 1 0 notify\nbus 1 front 6\nclosed 1 asked 6\nbus 1 back 6\ngrant 1 0 ended\ngrant 1 1 ended\ngrant 1 2 ended\ngrant 1 3 ended\n",
+            11 + 20 + 5 + 3 + 8 + 17 + 8 + 18 + 3 + 3,
+        ),
+    ] {
+        let script = joined(alloc, &["put 1 0 0 1\nback 1 20\nbus 1 5\nserve 1\n", more])?;
+        let outcome = run_buffers(alloc, script.as_str())?;
+        let wanted = joined(
+            alloc,
+            &[
+                CONNECTED,
+                "request 1 0 1 0\nbus 1 front 5\nclosed 1 asked 5\nbus 1 back 6\n",
+                lines,
+            ],
+        )?;
+        assert_eq!(rt; outcome.status, Status::Ok);
+        assert_eq!(rt; outcome.sink.as_slice(), wanted.as_bytes());
+        assert_eq!(rt; accesses(&outcome.journal, DevId(1)), made);
+    }
     Ok(())
 }
 
@@ -410,7 +581,7 @@ fn a_device_closes_and_others_go_on(rt: HostRuntime) -> Result<(), Fail> {
         &[
             ALL_CONNECTED,
             "bus 3 front 5\nclosed 3 asked 5\nbus 3 back 6\ngrant 1 0 ended\ngrant 1 2 busy 25\n",
-            "request 1 0 0 0\nreply 1 0 0 -95\n",
+            "request 1 0 0 0\nreply 1 0 0 -22\n",
         ],
     )?;
     assert_eq!(rt; outcome.status, Status::Ok);

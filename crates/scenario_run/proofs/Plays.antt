@@ -115,12 +115,13 @@ none_begun (Serve dev ∷ ss) = tt
 -- whatever was played
 pub true_journal : (s : Scenario) (m : List Item) (es : List Entry) → entries m ≡ es → IsHistory (frames_by s.sizes) (grants_by s.sizes) s.devices m → IsTrueJournal s m es
 true_journal s m es e h =
-    let both = histories_are_runs (frames_by s.sizes) (grants_by s.sizes) s.devices m h in
+    let all = histories_are_runs (frames_by s.sizes) (grants_by s.sizes) s.devices m h in
     record {
       entered = e;
       history = h;
-      machine_run = both.0;
-      kept = both.1;
+      machine_run = all.0;
+      answered = all.1;
+      kept = all.2;
     }
 
 none_explained : (frames grants : ℕ → ℕ) (devices : List DeviceSetup) → AllByRecursion (IsExplainedIn frames grants []) devices

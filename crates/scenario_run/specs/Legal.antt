@@ -5,15 +5,17 @@ use Rattle.pv_words.specs.declared.entry.Entry.{Entry}
 use Rattle.pv_words.specs.Sizes.{frames_by, grants_by}
 use Rattle.scenario_text.specs.Scenario.{Scenario}
 use Rattle.pv_world.specs.Marked.{Item, entries}
-use Rattle.pv_world.specs.History.{IsHistory, IsMachineRunIn, KeepsIn}
+use Rattle.pv_world.specs.History.{AnswersIn, IsHistory, IsMachineRunIn, KeepsIn}
 use Rattle.scenario_run.specs.Follows.{Follows, FollowsTo}
 
 -- Whatever was played: the journal is lawful and explained; what each device says and hears is a run of the display
--- machine, and its accesses stay in the pages that it mapped and hasn't unmapped.
+-- machine, whose accepted requests are answered, and its accesses stay in the pages that it mapped and hasn't unmapped.
 pub record IsTrueJournal (s : Scenario) (m : List Item) (es : List Entry) : Type 0 where
   pub entered : entries m ≡ es
   pub history : IsHistory (frames_by s.sizes) (grants_by s.sizes) s.devices m
   pub machine_run : AllByRecursion (IsMachineRunIn (frames_by s.sizes) (grants_by s.sizes) m) s.devices
+  pub answered : AllByRecursion (AnswersIn (frames_by s.sizes) (grants_by s.sizes) m) s.devices
+  -- no access comes after its page is gone
   pub kept : AllByRecursion (KeepsIn (frames_by s.sizes) (grants_by s.sizes) m) s.devices
 
 -- the journal is the scenario's, to its end

@@ -8,6 +8,7 @@ use Rattle.display_backend.specs.Work.{choice, Left, Renewed, close, with_action
 use Rattle.display_backend.proofs.Choices.{closing_is, kept_is, action_is, connected_is, apart_is, begins_entering, left_entering, renew_entering, begins_as, may_choose_as}
 use Rattle.display_backend.proofs.Serving.{begins_rest}
 use Rattle.display_backend.proofs.Works.{stands_between}
+use Rattle.display_backend.specs.Store.{stock_of}
 use Rattle.display_backend.proofs.display.Display.begin.Goals as goal
 
 pub returns-then-self-clause-begins : goal.returns-then-self-clause-begins
@@ -94,7 +95,7 @@ serve-requires-clause-may g c =
     let site = (site_of (g.W.Words.frames_of c.args.words.now) (g.W.Words.grants_of c.args.words.now) d) in
     let none : d.kept ≡ None = c.in_default.is in
     let is = connected_is site w c.if-self.false none (sym c.action.ensures ∙ c.in-Stay.is) (sym c.back.ensures ∙ c.in-Connected.is) in
-    may_choose_as (g.W.Words.may c.args.words.now) (choice site w) (with_hand w (hand_of d.hand d.at)) is c.requires.may
+    may_choose_as (g.W.Words.may c.args.words.now) (choice site w) (with_hand site w (hand_of d.hand d.at)) is c.requires.may
 
 pub returns-in-Connected-clause-begins : goal.returns-in-Connected-clause-begins
 unfolding work_of
@@ -104,7 +105,7 @@ returns-in-Connected-clause-begins g c =
     let site = (site_of (g.W.Words.frames_of c.args.words.now) (g.W.Words.grants_of c.args.words.now) d) in
     let none : d.kept ≡ None = c.in_default.is in
     let is = connected_is site w c.if-self.false none (sym c.action.ensures ∙ c.in-Stay.is) (sym c.back.ensures ∙ c.in-Connected.is) in
-    begins_as site (choice site w) (with_hand w (hand_of d.hand d.at)) _ _ _ is c.serve.ensures.begins
+    begins_as site (choice site w) (with_hand site w (hand_of d.hand d.at)) _ _ _ is c.serve.ensures.begins
 
 pub returns-in_default-back-clause-begins : goal.returns-in_default-back-clause-begins
 unfolding work_of stand_of
@@ -114,7 +115,7 @@ returns-in_default-back-clause-begins g c =
     let site = (site_of (g.W.Words.frames_of c.args.words.now) (g.W.Words.grants_of c.args.words.now) d) in
     let none : d.kept ≡ None = c.in_default.is in
     let is = apart_is site w c.if-self.false none (sym c.action.ensures ∙ c.in-Stay.is) (λ e. c.in_default-back.not-Connected (c.back.ensures ∙ e)) in
-    begins_rest site (choice site w) w _ is (stands_between site w d.read d.links.items d.reply d.at d.activity c.requires.between)
+    begins_rest site (choice site w) w _ is (stands_between site w d.read (stock_of d.store) d.walk d.links.items d.reply d.at d.activity c.requires.between)
 
 pub returns-in-Some-clause-stays : goal.returns-in-Some-clause-stays
 returns-in-Some-clause-stays g c = c.close.ensures.stays _

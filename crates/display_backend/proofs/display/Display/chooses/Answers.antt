@@ -29,7 +29,7 @@ unfolding work_of
 returns-in-Connected c = λ site.
     let d = c.args.self.now in
     let none = none_of d.kept (sym c.is_some.ensures ∙ c.if-is_some.false) in
-    c.is_busy.ensures ∙ order_busy site (work_of d) _ (connected_is site (work_of d) c.if-self.false none (sym c.action.ensures ∙ c.in-Stay.is) (sym c.back.ensures ∙ c.in-Connected.is))
+    c.is_busy.ensures site ∙ order_busy site (work_of d) _ (connected_is site (work_of d) c.if-self.false none (sym c.action.ensures ∙ c.in-Stay.is) (sym c.back.ensures ∙ c.in-Connected.is))
 
 pub returns-in_default-back : goal.returns-in_default-back
 unfolding work_of

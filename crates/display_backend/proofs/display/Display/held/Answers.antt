@@ -1,41 +1,20 @@
-use Rattle.std.proofs.Common.{◌≡◌, ◌+◌, ◌*◌, ◌<◌, ◌≤◌, List, length, drop, ap, ◌∙◌, length-append, arith}
-use Rattle.link_core.specs.declared.link.Link.{Link}
-use Rattle.link_core.specs.Link.{held_of as link_held}
-use Rattle.link_core.proofs.Links.{holds_at_most}
-use Rattle.display_backend.specs.Display.{held_of, all_held}
-use Rattle.display_backend.proofs.Lists.{drop_get, drop_past}
-use Rattle.display_backend.proofs.Serve.{here}
+use Rattle.std.proofs.Common.{arith}
+use Rattle.display_backend.specs.Stock.{pages_of}
+use Rattle.display_backend.specs.Store.{stock_of}
+use Rattle.display_backend.specs.Display.{all_held, held_of, walk_pages}
+use Rattle.display_backend.proofs.HeldAll.{all_long, few_linked}
 use Rattle.display_backend.proofs.display.Display.held.Goals as goal
 
-pub overflow_add-count : goal.overflow_add-count
-overflow_add-count c =
-    let d = c.args.self.now in
-    let most = holds_at_most c.index.result.now in
-    let few = d.whole.few in
-    let before : c.loop-part.count ≤ 2 * c.loop-part.part = c.loop-part.invariant.1 in
-    omega (arith, most, few, before, c.held-count.ensures)
+pub overflow_add-result : goal.overflow_add-result
+overflow_add-result c = omega (arith, c.walked.ensures.few, c.held.ensures.few)
 
-pub loop-part-init : goal.loop-part-init
-loop-part-init c = (omega arith, omega arith)
-
-pub loop-part-preserved : goal.loop-part-preserved
-loop-part-preserved c =
+pub overflow_add-result-2 : goal.overflow_add-result-2
+overflow_add-result-2 c =
     let d = c.args.self.now in
-    let part = c.loop-part.part in
-    let l = c.index.result.now in
-    let short : part < length d.links.items = omega arith in
-    let at = here d.links.items part l _ short c.index.ensures in
-    let split : length (all_held (drop part d.links.items)) ≡ length (link_held l) + length (all_held (drop (part + 1) d.links.items)) =
-    ap (λ (ls : List Link). length (all_held ls)) (drop_get d.links.items part l at) ∙ length-append (link_held l) (all_held (drop (part + 1) d.links.items)) in
-    let whole = c.loop-part.invariant.0 in
-    let before = c.loop-part.invariant.1 in
-    let most = holds_at_most l in
-    (omega (arith, split, whole, c.held-count.ensures), omega (arith, before, most, c.held-count.ensures))
+    omega (arith, c.walked.ensures.few, c.held.ensures.few, c.linked.ensures, few_linked d.links.items, d.whole.few)
 
 pub returns : goal.returns
 unfolding held_of
 returns c =
     let d = c.args.self.now in
-    let rest : length (all_held (drop c.loop-part.part d.links.items)) ≡ 0 = ap (λ (ls : List Link). length (all_held ls)) (drop_past d.links.items c.loop-part.part (omega arith)) in
-    let whole = c.loop-part.invariant.0 in
-    omega (arith, rest, whole)
+    omega (arith, c.walked.ensures.count, c.held.ensures.count, c.linked.ensures, all_long (walk_pages d.walk) (pages_of (stock_of d.store)) (all_held d.links.items))

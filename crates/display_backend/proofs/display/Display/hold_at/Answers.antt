@@ -1,49 +1,32 @@
-use Rattle.std.proofs.Common.{◌≡◌, ◌+◌, ◌-◌, ◌<◌, ◌≤◌, List, length, drop, slice_get, refl, sym, ap, ◌∙◌, length-append, arith}
-use Rattle.link_core.specs.declared.link.Link.{Link}
-use Rattle.link_core.specs.Link.{held_of as link_held}
-use Rattle.display_backend.specs.Display.{held_of, all_held}
-use Rattle.display_backend.proofs.Lists.{drop_get, drop_past, get_left, get_right}
-use Rattle.display_backend.proofs.Serve.{here}
+use Rattle.std.proofs.Common.{◌<◌, ◌++◌, length, arith}
+use Rattle.display_backend.specs.Stock.{pages_of}
+use Rattle.display_backend.specs.Store.{stock_of}
+use Rattle.display_backend.specs.Display.{all_held, held_of, walk_pages}
+use Rattle.display_backend.proofs.HeldAll.{all_long, at_walk, at_store, at_link}
 use Rattle.display_backend.proofs.display.Display.hold_at.Goals as goal
 
-pub loop-part-init : goal.loop-part-init
+pub returns-then-i-walked : goal.returns-then-i-walked
 unfolding held_of
-loop-part-init c = (c.requires, refl)
-
-pub loop-part-preserved : goal.loop-part-preserved
-loop-part-preserved c =
+returns-then-i-walked c =
     let d = c.args.self.now in
-    let part = c.loop-part.part in
-    let l = c.index.result.now in
-    let place = c.loop-part.place in
-    let rest = all_held (drop (part + 1) d.links.items) in
-    let short : part < length d.links.items = omega arith in
-    let at = here d.links.items part l _ short c.index.ensures in
-    let pages = ap (λ (ls : List Link). all_held ls) (drop_get d.links.items part l at) in
-    let long = ap (λ hs. length hs) pages ∙ length-append (link_held l) rest in
-    let lt = c.loop-part.invariant.0 in
-    let past : length (link_held l) ≤ place = omega (arith, c.held-here.ensures, c.if-place-here.false) in (
-      omega (arith, long, lt, c.held-here.ensures, past),
-      ap (λ n. slice_get rest (place - n)) c.held-here.ensures
-          ∙ (sym (get_right (link_held l) rest place past) ∙ (ap (λ hs. slice_get hs place) (sym pages) ∙ c.loop-part.invariant.1)),
-    )
+    at_walk (walk_pages d.walk) (pages_of (stock_of d.store)) (all_held d.links.items) c.args.i c.walked_at.result c.walked_at.ensures
 
-pub returns-then-place-here : goal.returns-then-place-here
+pub returns-then-place-stored : goal.returns-then-place-stored
 unfolding held_of
-returns-then-place-here c =
+returns-then-place-stored c =
     let d = c.args.self.now in
-    let part = c.loop-part.part in
-    let l = c.index-then-place-here.result.now in
-    let place = c.loop-part.place in
-    let short : part < length d.links.items = omega arith in
-    let at = here d.links.items part l _ short c.index-then-place-here.ensures in
-    sym c.loop-part.invariant.1
-    ∙ (ap (λ (ls : List Link). slice_get (all_held ls) place) (drop_get d.links.items part l at)
-    ∙ get_left (link_held l) (all_held (drop (part + 1) d.links.items)) place c.hold_at.result c.hold_at.ensures)
+    at_store (walk_pages d.walk) (pages_of (stock_of d.store)) (all_held d.links.items) c.args.i c.walked-walked.result c.hold_at.result c.walked-walked.ensures.count c.if-i-walked.false c.hold_at.ensures
 
-pub unreachable-requires : goal.unreachable-requires
-unreachable-requires c =
+pub linked_at-requires : goal.linked_at-requires
+unfolding held_of
+linked_at-requires c =
     let d = c.args.self.now in
-    let rest : length (all_held (drop c.loop-part.part d.links.items)) ≡ 0 = ap (λ (ls : List Link). length (all_held ls)) (drop_past d.links.items c.loop-part.part (omega arith)) in
-    let lt = c.loop-part.invariant.0 in
-    omega (arith, rest, lt)
+    let long = all_long (walk_pages d.walk) (pages_of (stock_of d.store)) (all_held d.links.items) in
+    let within : c.args.i < length (walk_pages d.walk ++ pages_of (stock_of d.store) ++ all_held d.links.items) = c.requires in
+    omega (arith, long, within, c.walked-walked.ensures.count, c.held-stored.ensures.count, c.if-i-walked.false, c.if-place-stored.false)
+
+pub returns : goal.returns
+unfolding held_of
+returns c =
+    let d = c.args.self.now in
+    at_link (walk_pages d.walk) (pages_of (stock_of d.store)) (all_held d.links.items) c.args.i c.walked-walked.result c.held-stored.result c.linked_at.result c.walked-walked.ensures.count c.held-stored.ensures.count c.if-i-walked.false c.if-place-stored.false c.linked_at.ensures

@@ -1,4 +1,4 @@
-use Rattle.std.proofs.Common.{◌≡◌, ◌<◌, not, length, map, sym, ap, subst, ◌∙◌, arith}
+use Rattle.std.proofs.Common.{◌≡◌, ◌<◌, not, length, slice_get, map, sym, ap, subst, ◌∙◌, arith}
 use Rattle.link_core.specs.Link.{joined_of}
 use Rattle.link_core.specs.Order.{Order, rests_next}
 use Rattle.display_backend.specs.declared.display.Round.{Round}
@@ -6,9 +6,10 @@ use Rattle.display_backend.specs.declared.display.Round.TheVariants as round
 use Rattle.display_backend.specs.Activity.{is_open}
 use Rattle.display_backend.specs.Display.{work_of, parts_in}
 use Rattle.display_backend.specs.Work.{Work, End, part_in}
-use Rattle.display_backend.proofs.Choices.{all_both, answers_is, takes_is, looks_is}
-use Rattle.display_backend.proofs.Lists.{got}
-use Rattle.display_backend.proofs.Serving.{hand_is, left_is, round_is}
+use Rattle.display_backend.proofs.Choices.{all_both, takes_is, looks_is}
+use Rattle.display_backend.proofs.Leaving.{none_of}
+use Rattle.display_backend.proofs.Lists.{got, get_map}
+use Rattle.display_backend.proofs.Serving.{hand_busy, left_is, round_is}
 use Rattle.display_backend.proofs.Works.{some_of}
 use Rattle.display_backend.proofs.display.Display.is_busy.Goals as goal
 
@@ -19,13 +20,12 @@ returns-then-is_some c =
     let ls = d.links.items in
     let w = d.whole in
     let o = is_open d.activity d.closing d.connection.back in
-    let both = all_both d.dom.0 o d.hand d.reply d.at d.round d.activity ls c.requires.between w c.requires.opened in
+    let both = all_both d.dom.0 o d.at d.round d.activity ls c.requires.between w c.requires.opened in
     let parts : parts_in o ls ≡ map joined_of ls = ap (λ b. parts_in b ls) c.requires.opened in
     let some = sym c.is_some.ensures ∙ c.if-is_some.true in
     let q = some_of d.hand some in
     let l = got ls d.at w.at_in in
-    let is = hand_is (work_of d) d.hand q.0 d.at q.1 ∙ answers_is (work_of d) ls d.at l.0 parts l.1 (both d.at l.0 l.1).0 (both d.at l.0 l.1).1 q.0 d.reply (w.ready q.0 q.1) in
-    ap (λ (x : Order Work End). not (rests_next x)) (sym is)
+    λ site. hand_busy site (work_of d) d.hand q.0 d.at (joined_of l.0) q.1 (ap (λ js. slice_get js d.at) parts ∙ get_map joined_of ls d.at l.0 l.1)
 
 pub returns-then-self-gt0 : goal.returns-then-self-gt0
 unfolding work_of
@@ -34,11 +34,12 @@ returns-then-self-gt0 c =
     let ls = d.links.items in
     let w = d.whole in
     let o = is_open d.activity d.closing d.connection.back in
-    let both = all_both d.dom.0 o d.hand d.reply d.at d.round d.activity ls c.requires.between w c.requires.opened in
+    let both = all_both d.dom.0 o d.at d.round d.activity ls c.requires.between w c.requires.opened in
     let parts : parts_in o ls ≡ map joined_of ls = ap (λ b. parts_in b ls) c.requires.opened in
-    let some = sym c.is_some.ensures ∙ c.if-is_some.false in
+    let none = none_of d.hand (sym c.is_some.ensures ∙ c.if-is_some.false) in
     let l = got ls d.at w.at_in in
-    let is = left_is (work_of d) d.hand d.at some c.if-self-gt0.true ∙ takes_is (work_of d) ls d.at l.0 parts l.1 (both d.at l.0 l.1).0 (both d.at l.0 l.1).1 in
+    λ site.
+    let is = left_is site (work_of d) d.hand d.at none c.if-self-gt0.true ∙ takes_is (work_of d) ls d.at l.0 parts l.1 (both d.at l.0 l.1).0 (both d.at l.0 l.1).1 in
     ap (λ (x : Order Work End). not (rests_next x)) (sym is)
 
 pub returns-in-Looks : goal.returns-in-Looks
@@ -48,25 +49,26 @@ returns-in-Looks c =
     let ls = d.links.items in
     let w = d.whole in
     let o = is_open d.activity d.closing d.connection.back in
-    let both = all_both d.dom.0 o d.hand d.reply d.at d.round d.activity ls c.requires.between w c.requires.opened in
+    let both = all_both d.dom.0 o d.at d.round d.activity ls c.requires.between w c.requires.opened in
     let parts : parts_in o ls ≡ map joined_of ls = ap (λ b. parts_in b ls) c.requires.opened in
-    let some = sym c.is_some.ensures ∙ c.if-is_some.false in
+    let none = none_of d.hand (sym c.is_some.ensures ∙ c.if-is_some.false) in
     let k = c.in-Looks.part in
     let lt : k < length ls = subst (λ (r : Round). part_in r < length ls) c.in-Looks.is w.round_in in
     let l = got ls k lt in
-    let is = round_is (work_of d) d.hand d.at some (omega arith) (round.Looks k c.in-Looks.served) c.in-Looks.is ∙ looks_is (work_of d) ls k l.0 parts l.1 (both k l.0 l.1).0 (both k l.0 l.1).1 in
+    λ site.
+    let is = round_is site (work_of d) d.hand d.at none (omega arith) (round.Looks k c.in-Looks.served) c.in-Looks.is ∙ looks_is (work_of d) ls k l.0 parts l.1 (both k l.0 l.1).0 (both k l.0 l.1).1 in
     ap (λ (x : Order Work End). not (rests_next x)) (sym is)
 
 pub returns-in-Sleeps : goal.returns-in-Sleeps
 unfolding work_of
 returns-in-Sleeps c =
     let d = c.args.self.now in
-    let some = sym c.is_some.ensures ∙ c.if-is_some.false in
-    ap (λ (x : Order Work End). not (rests_next x)) (sym (round_is (work_of d) d.hand d.at some (omega arith) round.Sleeps c.in-Sleeps.is))
+    let none = none_of d.hand (sym c.is_some.ensures ∙ c.if-is_some.false) in
+    λ site. ap (λ (x : Order Work End). not (rests_next x)) (sym (round_is site (work_of d) d.hand d.at none (omega arith) round.Sleeps c.in-Sleeps.is))
 
 pub returns-in-Idles : goal.returns-in-Idles
 unfolding work_of
 returns-in-Idles c =
     let d = c.args.self.now in
-    let some = sym c.is_some.ensures ∙ c.if-is_some.false in
-    ap (λ (x : Order Work End). not (rests_next x)) (sym (round_is (work_of d) d.hand d.at some (omega arith) round.Idles c.in-Idles.is))
+    let none = none_of d.hand (sym c.is_some.ensures ∙ c.if-is_some.false) in
+    λ site. ap (λ (x : Order Work End). not (rests_next x)) (sym (round_is site (work_of d) d.hand d.at none (omega arith) round.Idles c.in-Idles.is))

@@ -1,4 +1,4 @@
-use Rattle.std.proofs.Common.{◌≡◌, inl, inr, length-append, ◌+◌, true, false, ◌∷◌, [], length, slice_get, None, refl, sym, ap, subst, ◌∙◌, arith}
+use Rattle.std.proofs.Common.{◌≡◌, inl, inr, length-append, ◌+◌, true, false, ◌∷◌, [], ◌++◌, length, slice_get, None, refl, sym, ap, subst, ◌∙◌, arith}
 use Rattle.xenbus_states.specs.Connection.{Connection, first_connection}
 use Rattle.xenbus_states.specs.Nodes.{no_nodes}
 use Rattle.link_core.specs.Order.{Between}
@@ -8,8 +8,12 @@ use Rattle.link_core.specs.declared.link.Link.{Link}
 use Rattle.link_core.specs.Link.{dom_of as link_dom, held_of as link_held, idle}
 use Rattle.display_backend.specs.declared.display.Activity.TheVariants as activity
 use Rattle.display_backend.specs.Activity.{is_open}
-use Rattle.display_backend.specs.Display.{dom_of, parts_of, held_of, stand_of, work_of, parts_in}
+use Rattle.display_backend.specs.Display.{dom_of, parts_of, held_of, all_held, stand_of, work_of, parts_in}
+use Rattle.display_backend.specs.Stock.{Stock, pages_of}
+use Rattle.display_backend.specs.Store.{stock_of}
+use Rattle.display_backend.specs.declared.display.Progress.TheVariants as progress
 use Rattle.display_backend.proofs.Held.{bare_held}
+use Rattle.display_backend.proofs.Stores.{stored_apart}
 use Rattle.display_backend.proofs.Lists.{get_push}
 use Rattle.display_backend.proofs.Wholes.{whole_new}
 use Rattle.display_backend.proofs.display.Display.new.Goals as goal
@@ -30,17 +34,22 @@ loop-part-preserved c =
 pub invariant_of-result : goal.invariant_of-result
 invariant_of-result c =
     let before = c.loop-part.invariant in
-    let shut : is_open activity.Between false c.new-2.result.back ≡ false = ap (λ (k : Connection). is_open activity.Between false k.back) c.new-2.ensures in
-    record { whole = whole_new c.args.dom.0 _ _ c.loop-part.links.items c.args.connectors (before.0 ∙ omega arith) c.requires.some c.requires.few shut before.1 }
+    let shut : is_open activity.Between false c.new-3.result.back ≡ false = ap (λ (k : Connection). is_open activity.Between false k.back) c.new-3.ensures in
+    record {
+      whole = whole_new c.args.dom.0 _ c.loop-part.links.items c.args.connectors (before.0 ∙ omega arith) c.requires.some c.requires.few shut before.1;
+      stored = stored_apart shut refl (λ _. ap pages_of c.in_ok-store.ensures.empty);
+    }
 
 pub returns-clause-between : goal.returns-clause-between
 unfolding stand_of work_of
 returns-clause-between c = λ site.
     let items = c.loop-part.links.items in
+    let s = stock_of c.in_ok-store.store in
     ap (λ w. Between w)
-    (ap (λ (x : Connection). work x c.new-3.result c.new-4.result false false (parts_in (is_open activity.Between false x.back) items) None None 0 0 (round.Looks 0 false)) c.new-2.ensures
-    ∙ (ap (λ s. work first_connection s c.new-4.result false false [] None None 0 0 (round.Looks 0 false)) c.new-3.ensures
-    ∙ ap (λ s. work first_connection no_nodes s false false [] None None 0 0 (round.Looks 0 false)) c.new-4.ensures))
+    (ap (λ (x : Connection). work x c.new-4.result c.new-5.result false false (parts_in (is_open activity.Between false x.back) items) None None progress.Decided 0 0 (round.Looks 0 false) s) c.new-3.ensures
+    ∙ (ap (λ ns. work first_connection ns c.new-5.result false false [] None None progress.Decided 0 0 (round.Looks 0 false) s) c.new-4.ensures
+    ∙ (ap (λ ns. work first_connection no_nodes ns false false [] None None progress.Decided 0 0 (round.Looks 0 false) s) c.new-5.ensures
+    ∙ ap (work first_connection no_nodes no_nodes false false [] None None progress.Decided 0 0 (round.Looks 0 false)) c.in_ok-store.ensures.empty)))
 
 pub returns-clause-dom : goal.returns-clause-dom
 unfolding dom_of
@@ -52,4 +61,6 @@ returns-clause-parts c = c.loop-part.invariant.0 ∙ omega arith
 
 pub returns-clause-bare : goal.returns-clause-bare
 unfolding held_of
-returns-clause-bare c = bare_held _ (λ i l e. (c.loop-part.invariant.1 i l e).1)
+returns-clause-bare c =
+    ap (λ (x : Stock). pages_of x ++ all_held c.loop-part.links.items) c.in_ok-store.ensures.empty
+    ∙ bare_held _ (λ i l e. (c.loop-part.invariant.1 i l e).1)

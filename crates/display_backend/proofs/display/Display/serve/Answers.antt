@@ -1,16 +1,51 @@
-use Rattle.std.proofs.Common.{◌≡◌, ◌<◌, inl, false, length, map, slice_get, refl, sym, ap, subst, ◌∙◌, arith}
+use Rattle.std.proofs.Common.{◌≡◌, ◌<◌, inl, Option, false, length, map, slice_get, refl, sym, ap, subst, ◌∙◌, arith}
 use Rattle.link_core.specs.Link.{joined_of}
+use Rattle.displ_wire.specs.declared.Request.{Request}
+use Rattle.display_backend.specs.Stock.{Stock}
+use Rattle.display_backend.specs.declared.display.Activity.{Activity}
 use Rattle.display_backend.specs.declared.display.Round.{Round}
 use Rattle.display_backend.specs.declared.display.Round.TheVariants as round
 use Rattle.display_backend.specs.Activity.{is_open}
-use Rattle.display_backend.specs.Display.{dom_of, parts_of, site_of, stand_of, work_of, parts_in, hand_of, take_from, answer_from, look_from, sleeping}
+use Rattle.display_backend.specs.Display.{dom_of, parts_of, site_of, stand_of, work_of, parts_in, hand_of, stock_in, take_from, answer_from, look_from, sleeping}
+use Rattle.display_backend.specs.Machine.{verdict}
+use Rattle.display_backend.specs.Reply.{reply_to, status_in}
+use Rattle.display_backend.specs.Whole.{IsDue}
 use Rattle.display_backend.specs.Work.{Saw, Took, Answered, Slept, with_hand, part_in}
-use Rattle.display_backend.proofs.Choices.{all_both, answers_is, takes_is, looks_is, sleeps_is}
+use Rattle.display_backend.proofs.Choices.{all_both, begins_as, may_choose_as, answers_is, takes_is, looks_is, sleeps_is}
 use Rattle.display_backend.proofs.Lists.{got}
-use Rattle.display_backend.proofs.Serving.{hand_is, left_is, round_is, may_act, begins_act, begins_rest}
-use Rattle.display_backend.proofs.Works.{stands_between, some_of}
-use Rattle.display_backend.proofs.Leaving.{none_of}
+use Rattle.display_backend.proofs.Serving.{hand_is, decided_is, undecided_is, left_is, round_is, may_act, begins_act, begins_rest}
+use Rattle.display_backend.proofs.Stores.{due_undecided}
+use Rattle.display_backend.proofs.Works.{stands_between}
+use Rattle.display_backend.specs.Store.{stock_of}
 use Rattle.display_backend.proofs.display.Display.serve.Goals as goal
+
+pub decide-requires-clause-may : goal.decide-requires-clause-may
+unfolding work_of
+decide-requires-clause-may g c =
+    let d = c.args.self.now in
+    let q = c.in-Some.request in
+    let site = (site_of (g.W.Words.frames_of c.args.words.now) (g.W.Words.grants_of c.args.words.now) d) in
+    let before = sym (ap (λ (a : Activity). stock_in a (stock_of d.store)) c.requires.between) in
+    let told = d.stored.told c.requires.opened q c.in-Some.is ∙ ap (λ (x : Stock). status_in d.progress (verdict x.buffers q.asked)) before in
+    let is = hand_is site (work_of d) d.hand q d.at c.in-Some.is ∙ decided_is site (work_of d) (record { part = d.at; request = q }) d.status c.in-Decided.is told in
+    may_choose_as (g.W.Words.may c.args.words.now) _ _ is c.requires.may
+
+pub returns-in-Decided-clause-begins : goal.returns-in-Decided-clause-begins
+unfolding work_of
+returns-in-Decided-clause-begins g c =
+    let d = c.args.self.now in
+    let q = c.in-Some.request in
+    let site = (site_of (g.W.Words.frames_of c.args.words.now) (g.W.Words.grants_of c.args.words.now) d) in
+    let before = sym (ap (λ (a : Activity). stock_in a (stock_of d.store)) c.requires.between) in
+    let told = d.stored.told c.requires.opened q c.in-Some.is ∙ ap (λ (x : Stock). status_in d.progress (verdict x.buffers q.asked)) before in
+    let is = hand_is site (work_of d) d.hand q d.at c.in-Some.is ∙ decided_is site (work_of d) (record { part = d.at; request = q }) d.status c.in-Decided.is told in
+    begins_as site _ _ _ _ _ is c.decide.ensures.begins
+
+pub answer-requires-clause-due : goal.answer-requires-clause-due
+answer-requires-clause-due g c =
+    let d = c.args.self.now in
+    let q = c.in-Some.request in
+    subst (λ (x : Option Request). IsDue x d.progress d.status) (sym c.in-Some.is) (due_undecided d.progress q.asked d.status c.in_default-progress.not-Decided)
 
 pub answer-requires-clause-may : goal.answer-requires-clause-may
 unfolding work_of
@@ -19,32 +54,38 @@ answer-requires-clause-may g c =
     let ls = d.links.items in
     let w = d.whole in
     let o = is_open d.activity d.closing d.connection.back in
-    let both = all_both d.dom.0 o d.hand d.reply d.at d.round d.activity ls c.requires.between w c.requires.opened in
+    let both = all_both d.dom.0 o d.at d.round d.activity ls c.requires.between w c.requires.opened in
     let parts : parts_in o ls ≡ map joined_of ls = ap (λ b. parts_in b ls) c.requires.opened in
-    let some = sym c.is_some.ensures ∙ c.if-is_some.true in
-    let q = some_of d.hand some in
+    let q = c.in-Some.request in
     let l = got ls d.at w.at_in in
-    let is = hand_is (work_of d) d.hand q.0 d.at q.1 ∙ answers_is (work_of d) ls d.at l.0 parts l.1 (both d.at l.0 l.1).0 (both d.at l.0 l.1).1 q.0 d.reply (w.ready q.0 q.1) in
-    may_act (λ x. Answered x) _ (with_hand (work_of d) (hand_of d.hand d.at)) (work_of d) (answer_from d.reply (slice_get ls d.at)) is c.requires.may
+    let site = (site_of (g.W.Words.frames_of c.args.words.now) (g.W.Words.grants_of c.args.words.now) d) in
+    let before = sym (ap (λ (a : Activity). stock_in a (stock_of d.store)) c.requires.between) in
+    let told = d.stored.told c.requires.opened q c.in-Some.is ∙ ap (λ (x : Stock). status_in d.progress (verdict x.buffers q.asked)) before in
+    let ready = d.stored.ready q c.in-Some.is ∙ ap (reply_to q) told in
+    let is = undecided_is site (work_of d) d.hand q d.at c.in-Some.is c.in_default-progress.not-Decided ∙ answers_is (work_of d) ls d.at l.0 parts l.1 (both d.at l.0 l.1).0 (both d.at l.0 l.1).1 q d.reply ready in
+    may_act (λ x. Answered x) _ (with_hand site (work_of d) (hand_of d.hand d.at)) (work_of d) (answer_from d.reply (slice_get ls d.at)) is c.requires.may
 
 pub answer-requires-clause-serving : goal.answer-requires-clause-serving
 answer-requires-clause-serving g c =
     inl c.requires.between
 
-pub returns-then-is_some-clause-begins : goal.returns-then-is_some-clause-begins
+pub returns-in_default-progress-clause-begins : goal.returns-in_default-progress-clause-begins
 unfolding work_of
-returns-then-is_some-clause-begins g c =
+returns-in_default-progress-clause-begins g c =
     let d = c.args.self.now in
     let ls = d.links.items in
     let w = d.whole in
     let o = is_open d.activity d.closing d.connection.back in
-    let both = all_both d.dom.0 o d.hand d.reply d.at d.round d.activity ls c.requires.between w c.requires.opened in
+    let both = all_both d.dom.0 o d.at d.round d.activity ls c.requires.between w c.requires.opened in
     let parts : parts_in o ls ≡ map joined_of ls = ap (λ b. parts_in b ls) c.requires.opened in
-    let some = sym c.is_some.ensures ∙ c.if-is_some.true in
-    let q = some_of d.hand some in
+    let q = c.in-Some.request in
     let l = got ls d.at w.at_in in
-    let is = hand_is (work_of d) d.hand q.0 d.at q.1 ∙ answers_is (work_of d) ls d.at l.0 parts l.1 (both d.at l.0 l.1).0 (both d.at l.0 l.1).1 q.0 d.reply (w.ready q.0 q.1) in
-    begins_act (λ x. Answered x) (site_of (g.W.Words.frames_of c.args.words.now) (g.W.Words.grants_of c.args.words.now) d) (with_hand (work_of d) (hand_of d.hand d.at)) (work_of d) (answer_from d.reply (slice_get ls d.at)) c.answer.result.access c.answer.result.said _ is (c.answer.ensures.goes (site_of (g.W.Words.frames_of c.args.words.now) (g.W.Words.grants_of c.args.words.now) d))
+    let site = (site_of (g.W.Words.frames_of c.args.words.now) (g.W.Words.grants_of c.args.words.now) d) in
+    let before = sym (ap (λ (a : Activity). stock_in a (stock_of d.store)) c.requires.between) in
+    let told = d.stored.told c.requires.opened q c.in-Some.is ∙ ap (λ (x : Stock). status_in d.progress (verdict x.buffers q.asked)) before in
+    let ready = d.stored.ready q c.in-Some.is ∙ ap (reply_to q) told in
+    let is = undecided_is site (work_of d) d.hand q d.at c.in-Some.is c.in_default-progress.not-Decided ∙ answers_is (work_of d) ls d.at l.0 parts l.1 (both d.at l.0 l.1).0 (both d.at l.0 l.1).1 q d.reply ready in
+    begins_act (λ x. Answered x) site (with_hand site (work_of d) (hand_of d.hand d.at)) (work_of d) (answer_from d.reply (slice_get ls d.at)) c.answer.result.access c.answer.result.said _ is (c.answer.ensures.goes site)
 
 pub take-requires-clause-may : goal.take-requires-clause-may
 unfolding work_of
@@ -53,12 +94,12 @@ take-requires-clause-may g c =
     let ls = d.links.items in
     let w = d.whole in
     let o = is_open d.activity d.closing d.connection.back in
-    let both = all_both d.dom.0 o d.hand d.reply d.at d.round d.activity ls c.requires.between w c.requires.opened in
+    let both = all_both d.dom.0 o d.at d.round d.activity ls c.requires.between w c.requires.opened in
     let parts : parts_in o ls ≡ map joined_of ls = ap (λ b. parts_in b ls) c.requires.opened in
-    let some = sym c.is_some.ensures ∙ c.if-is_some.false in
+    let none = c.in_default.is in
     let l = got ls d.at w.at_in in
-    let is = left_is (work_of d) d.hand d.at some c.if-self-gt0.true ∙ takes_is (work_of d) ls d.at l.0 parts l.1 (both d.at l.0 l.1).0 (both d.at l.0 l.1).1 in
-    may_act (λ x. Took x) _ (with_hand (work_of d) (hand_of d.hand d.at)) (work_of d) (take_from (slice_get ls d.at)) is c.requires.may
+    let is = left_is (site_of (g.W.Words.frames_of c.args.words.now) (g.W.Words.grants_of c.args.words.now) d) (work_of d) d.hand d.at none c.if-self-gt0.true ∙ takes_is (work_of d) ls d.at l.0 parts l.1 (both d.at l.0 l.1).0 (both d.at l.0 l.1).1 in
+    may_act (λ x. Took x) _ (with_hand (site_of (g.W.Words.frames_of c.args.words.now) (g.W.Words.grants_of c.args.words.now) d) (work_of d) (hand_of d.hand d.at)) (work_of d) (take_from (slice_get ls d.at)) is c.requires.may
 
 pub take-requires-clause-serving : goal.take-requires-clause-serving
 take-requires-clause-serving g c =
@@ -71,12 +112,12 @@ returns-then-self-gt0-clause-begins g c =
     let ls = d.links.items in
     let w = d.whole in
     let o = is_open d.activity d.closing d.connection.back in
-    let both = all_both d.dom.0 o d.hand d.reply d.at d.round d.activity ls c.requires.between w c.requires.opened in
+    let both = all_both d.dom.0 o d.at d.round d.activity ls c.requires.between w c.requires.opened in
     let parts : parts_in o ls ≡ map joined_of ls = ap (λ b. parts_in b ls) c.requires.opened in
-    let some = sym c.is_some.ensures ∙ c.if-is_some.false in
+    let none = c.in_default.is in
     let l = got ls d.at w.at_in in
-    let is = left_is (work_of d) d.hand d.at some c.if-self-gt0.true ∙ takes_is (work_of d) ls d.at l.0 parts l.1 (both d.at l.0 l.1).0 (both d.at l.0 l.1).1 in
-    begins_act (λ x. Took x) (site_of (g.W.Words.frames_of c.args.words.now) (g.W.Words.grants_of c.args.words.now) d) (with_hand (work_of d) (hand_of d.hand d.at)) (work_of d) (take_from (slice_get ls d.at)) c.take.result.access c.take.result.said _ is (c.take.ensures.goes (site_of (g.W.Words.frames_of c.args.words.now) (g.W.Words.grants_of c.args.words.now) d))
+    let is = left_is (site_of (g.W.Words.frames_of c.args.words.now) (g.W.Words.grants_of c.args.words.now) d) (work_of d) d.hand d.at none c.if-self-gt0.true ∙ takes_is (work_of d) ls d.at l.0 parts l.1 (both d.at l.0 l.1).0 (both d.at l.0 l.1).1 in
+    begins_act (λ x. Took x) (site_of (g.W.Words.frames_of c.args.words.now) (g.W.Words.grants_of c.args.words.now) d) (with_hand (site_of (g.W.Words.frames_of c.args.words.now) (g.W.Words.grants_of c.args.words.now) d) (work_of d) (hand_of d.hand d.at)) (work_of d) (take_from (slice_get ls d.at)) c.take.result.access c.take.result.said _ is (c.take.ensures.goes (site_of (g.W.Words.frames_of c.args.words.now) (g.W.Words.grants_of c.args.words.now) d))
 
 pub look-requires-clause-may : goal.look-requires-clause-may
 unfolding work_of
@@ -85,18 +126,18 @@ look-requires-clause-may g c =
     let ls = d.links.items in
     let w = d.whole in
     let o = is_open d.activity d.closing d.connection.back in
-    let both = all_both d.dom.0 o d.hand d.reply d.at d.round d.activity ls c.requires.between w c.requires.opened in
+    let both = all_both d.dom.0 o d.at d.round d.activity ls c.requires.between w c.requires.opened in
     let parts : parts_in o ls ≡ map joined_of ls = ap (λ b. parts_in b ls) c.requires.opened in
-    let some = sym c.is_some.ensures ∙ c.if-is_some.false in
+    let none = c.in_default.is in
     let k = c.in-Looks.part in
     let lt : k < length ls = subst (λ (r : Round). part_in r < length ls) c.in-Looks.is w.round_in in
     let l = got ls k lt in
-    let is = round_is (work_of d) d.hand d.at some (omega arith) (round.Looks k c.in-Looks.served) c.in-Looks.is ∙ looks_is (work_of d) ls k l.0 parts l.1 (both k l.0 l.1).0 (both k l.0 l.1).1 in
-    may_act (λ x. Saw x) _ (with_hand (work_of d) (hand_of d.hand d.at)) (work_of d) (look_from (slice_get ls k)) is c.requires.may
+    let is = round_is (site_of (g.W.Words.frames_of c.args.words.now) (g.W.Words.grants_of c.args.words.now) d) (work_of d) d.hand d.at none (omega arith) (round.Looks k c.in-Looks.served) c.in-Looks.is ∙ looks_is (work_of d) ls k l.0 parts l.1 (both k l.0 l.1).0 (both k l.0 l.1).1 in
+    may_act (λ x. Saw x) _ (with_hand (site_of (g.W.Words.frames_of c.args.words.now) (g.W.Words.grants_of c.args.words.now) d) (work_of d) (hand_of d.hand d.at)) (work_of d) (look_from (slice_get ls k)) is c.requires.may
 
 pub look-requires-clause-hand : goal.look-requires-clause-hand
 look-requires-clause-hand g c =
-    none_of c.args.self.now.hand (sym c.is_some.ensures ∙ c.if-is_some.false)
+    c.in_default.is
 
 pub returns-in-Looks-clause-begins : goal.returns-in-Looks-clause-begins
 unfolding work_of
@@ -105,14 +146,14 @@ returns-in-Looks-clause-begins g c =
     let ls = d.links.items in
     let w = d.whole in
     let o = is_open d.activity d.closing d.connection.back in
-    let both = all_both d.dom.0 o d.hand d.reply d.at d.round d.activity ls c.requires.between w c.requires.opened in
+    let both = all_both d.dom.0 o d.at d.round d.activity ls c.requires.between w c.requires.opened in
     let parts : parts_in o ls ≡ map joined_of ls = ap (λ b. parts_in b ls) c.requires.opened in
-    let some = sym c.is_some.ensures ∙ c.if-is_some.false in
+    let none = c.in_default.is in
     let k = c.in-Looks.part in
     let lt : k < length ls = subst (λ (r : Round). part_in r < length ls) c.in-Looks.is w.round_in in
     let l = got ls k lt in
-    let is = round_is (work_of d) d.hand d.at some (omega arith) (round.Looks k c.in-Looks.served) c.in-Looks.is ∙ looks_is (work_of d) ls k l.0 parts l.1 (both k l.0 l.1).0 (both k l.0 l.1).1 in
-    begins_act (λ x. Saw x) (site_of (g.W.Words.frames_of c.args.words.now) (g.W.Words.grants_of c.args.words.now) d) (with_hand (work_of d) (hand_of d.hand d.at)) (work_of d) (look_from (slice_get ls k)) c.look.result.access c.look.result.said _ is (c.look.ensures.goes (site_of (g.W.Words.frames_of c.args.words.now) (g.W.Words.grants_of c.args.words.now) d) refl)
+    let is = round_is (site_of (g.W.Words.frames_of c.args.words.now) (g.W.Words.grants_of c.args.words.now) d) (work_of d) d.hand d.at none (omega arith) (round.Looks k c.in-Looks.served) c.in-Looks.is ∙ looks_is (work_of d) ls k l.0 parts l.1 (both k l.0 l.1).0 (both k l.0 l.1).1 in
+    begins_act (λ x. Saw x) (site_of (g.W.Words.frames_of c.args.words.now) (g.W.Words.grants_of c.args.words.now) d) (with_hand (site_of (g.W.Words.frames_of c.args.words.now) (g.W.Words.grants_of c.args.words.now) d) (work_of d) (hand_of d.hand d.at)) (work_of d) (look_from (slice_get ls k)) c.look.result.access c.look.result.said _ is (c.look.ensures.goes (site_of (g.W.Words.frames_of c.args.words.now) (g.W.Words.grants_of c.args.words.now) d) refl)
 
 pub sleep-requires-clause-part : goal.sleep-requires-clause-part
 sleep-requires-clause-part g c =
@@ -125,12 +166,12 @@ sleep-requires-clause-may g c =
     let ls = d.links.items in
     let w = d.whole in
     let o = is_open d.activity d.closing d.connection.back in
-    let both = all_both d.dom.0 o d.hand d.reply d.at d.round d.activity ls c.requires.between w c.requires.opened in
+    let both = all_both d.dom.0 o d.at d.round d.activity ls c.requires.between w c.requires.opened in
     let parts : parts_in o ls ≡ map joined_of ls = ap (λ b. parts_in b ls) c.requires.opened in
-    let some = sym c.is_some.ensures ∙ c.if-is_some.false in
+    let none = c.in_default.is in
     let l = got ls 0 w.some in
-    let is = round_is (work_of d) d.hand d.at some (omega arith) round.Sleeps c.in-Sleeps.is ∙ sleeps_is (work_of d) ls l.0 parts l.1 (both 0 l.0 l.1).0 (both 0 l.0 l.1).1 in
-    may_act (λ x. Slept x) _ (with_hand (work_of d) (hand_of d.hand d.at)) (work_of d) (sleeping 0 ls) is c.requires.may
+    let is = round_is (site_of (g.W.Words.frames_of c.args.words.now) (g.W.Words.grants_of c.args.words.now) d) (work_of d) d.hand d.at none (omega arith) round.Sleeps c.in-Sleeps.is ∙ sleeps_is (work_of d) ls l.0 parts l.1 (both 0 l.0 l.1).0 (both 0 l.0 l.1).1 in
+    may_act (λ x. Slept x) _ (with_hand (site_of (g.W.Words.frames_of c.args.words.now) (g.W.Words.grants_of c.args.words.now) d) (work_of d) (hand_of d.hand d.at)) (work_of d) (sleeping 0 ls) is c.requires.may
 
 pub sleep-requires-clause-serving : goal.sleep-requires-clause-serving
 sleep-requires-clause-serving g c =
@@ -143,20 +184,20 @@ returns-in-Sleeps-clause-begins g c =
     let ls = d.links.items in
     let w = d.whole in
     let o = is_open d.activity d.closing d.connection.back in
-    let both = all_both d.dom.0 o d.hand d.reply d.at d.round d.activity ls c.requires.between w c.requires.opened in
+    let both = all_both d.dom.0 o d.at d.round d.activity ls c.requires.between w c.requires.opened in
     let parts : parts_in o ls ≡ map joined_of ls = ap (λ b. parts_in b ls) c.requires.opened in
-    let some = sym c.is_some.ensures ∙ c.if-is_some.false in
+    let none = c.in_default.is in
     let l = got ls 0 w.some in
-    let is = round_is (work_of d) d.hand d.at some (omega arith) round.Sleeps c.in-Sleeps.is ∙ sleeps_is (work_of d) ls l.0 parts l.1 (both 0 l.0 l.1).0 (both 0 l.0 l.1).1 in
-    begins_act (λ x. Slept x) (site_of (g.W.Words.frames_of c.args.words.now) (g.W.Words.grants_of c.args.words.now) d) (with_hand (work_of d) (hand_of d.hand d.at)) (work_of d) (sleeping 0 ls) c.sleep.result.access c.sleep.result.said _ is (c.sleep.ensures.goes (site_of (g.W.Words.frames_of c.args.words.now) (g.W.Words.grants_of c.args.words.now) d))
+    let is = round_is (site_of (g.W.Words.frames_of c.args.words.now) (g.W.Words.grants_of c.args.words.now) d) (work_of d) d.hand d.at none (omega arith) round.Sleeps c.in-Sleeps.is ∙ sleeps_is (work_of d) ls l.0 parts l.1 (both 0 l.0 l.1).0 (both 0 l.0 l.1).1 in
+    begins_act (λ x. Slept x) (site_of (g.W.Words.frames_of c.args.words.now) (g.W.Words.grants_of c.args.words.now) d) (with_hand (site_of (g.W.Words.frames_of c.args.words.now) (g.W.Words.grants_of c.args.words.now) d) (work_of d) (hand_of d.hand d.at)) (work_of d) (sleeping 0 ls) c.sleep.result.access c.sleep.result.said _ is (c.sleep.ensures.goes (site_of (g.W.Words.frames_of c.args.words.now) (g.W.Words.grants_of c.args.words.now) d))
 
 pub returns-in-Idles-clause-begins : goal.returns-in-Idles-clause-begins
 unfolding work_of stand_of
 returns-in-Idles-clause-begins g c =
     let d = c.args.self.now in
-    let some = sym c.is_some.ensures ∙ c.if-is_some.false in
-    let is = round_is (work_of d) d.hand d.at some (omega arith) round.Idles c.in-Idles.is in
-    begins_rest (site_of (g.W.Words.frames_of c.args.words.now) (g.W.Words.grants_of c.args.words.now) d) (with_hand (work_of d) (hand_of d.hand d.at)) (record (work_of d) { round = round.Looks 0 false }) _ is (stands_between (site_of (g.W.Words.frames_of c.args.words.now) (g.W.Words.grants_of c.args.words.now) d) _ d.read d.links.items d.reply d.at d.activity c.requires.between)
+    let none = c.in_default.is in
+    let is = round_is (site_of (g.W.Words.frames_of c.args.words.now) (g.W.Words.grants_of c.args.words.now) d) (work_of d) d.hand d.at none (omega arith) round.Idles c.in-Idles.is in
+    begins_rest (site_of (g.W.Words.frames_of c.args.words.now) (g.W.Words.grants_of c.args.words.now) d) (with_hand (site_of (g.W.Words.frames_of c.args.words.now) (g.W.Words.grants_of c.args.words.now) d) (work_of d) (hand_of d.hand d.at)) (record (work_of d) { round = round.Looks 0 false }) _ is (stands_between (site_of (g.W.Words.frames_of c.args.words.now) (g.W.Words.grants_of c.args.words.now) d) _ d.read (stock_of d.store) d.walk d.links.items d.reply d.at d.activity c.requires.between)
 
 pub returns-in-Idles-clause-same : goal.returns-in-Idles-clause-same
 unfolding dom_of parts_of

@@ -1,55 +1,59 @@
-use Rattle.std.proofs.Common.{inr, ◌<◌, length, slice_get, refl, sym, ap, subst}
+use Rattle.std.proofs.Common.{inr, ◌<◌, ◌++◌, length, slice_get, refl, sym, ap, subst, ◌∙◌}
 use Rattle.pv_words.specs.Plan.{mapped}
 use Rattle.link_core.specs.Order.{MayStep, Steps}
 use Rattle.link_core.proofs.Steps.{steps_during}
+use Rattle.display_backend.specs.Stock.{pages_of}
+use Rattle.display_backend.proofs.Order.{none_left}
 use Rattle.display_backend.specs.declared.display.Activity.{Activity}
-use Rattle.display_backend.specs.Activity.{is_answering, uses_ring, part_of}
-use Rattle.display_backend.specs.Display.{held_of, site_of, stand_of, stand_in, work_of, connecting, leaving_plan, take_from, answer_from, sleeping, all_held}
-use Rattle.display_backend.specs.Work.{display, Took, Answered, Slept, choice}
+use Rattle.display_backend.specs.Activity.{uses_ring, part_of}
+use Rattle.display_backend.specs.Display.{given_up, stock_in, walk_from, freeing_plan, site_of, stand_of, stand_in, work_of, connecting, leaving_plan, take_from, answer_from, sleeping, all_held}
+use Rattle.display_backend.specs.Work.{display, Took, Listed, Answered, Slept, choice}
 use Rattle.display_backend.proofs.Choices.{steps_begin}
 use Rattle.display_backend.proofs.Out.{steps_out, may_out, may_mapped}
+use Rattle.display_backend.specs.Store.{stock_of}
+use Rattle.display_backend.proofs.Stores.{bare_connecting, due_answering, none_taking}
 use Rattle.display_backend.proofs.display.Display.step.Goals as goal
 
 pub begin-requires-clause-may : goal.begin-requires-clause-may
 unfolding stand_of
 begin-requires-clause-may g c =
     let d = c.args.self.now in
-    let may = subst (λ (a : Activity). MayStep (g.W.Words.may c.args.words.now) (display (site_of (g.W.Words.frames_of c.args.words.now) (g.W.Words.grants_of c.args.words.now) d)) (stand_in (site_of (g.W.Words.frames_of c.args.words.now) (g.W.Words.grants_of c.args.words.now) d) (work_of d) d.read d.links.items d.reply d.at a)) c.in-Between.is c.requires in
+    let may = subst (λ (a : Activity). MayStep (g.W.Words.may c.args.words.now) (display (site_of (g.W.Words.frames_of c.args.words.now) (g.W.Words.grants_of c.args.words.now) d)) (stand_in (site_of (g.W.Words.frames_of c.args.words.now) (g.W.Words.grants_of c.args.words.now) d) (work_of d) d.read (stock_of d.store) d.walk d.links.items d.reply d.at a)) c.in-Between.is c.requires in
     may
 
 pub connect-requires-clause-may : goal.connect-requires-clause-may
 unfolding stand_of
 connect-requires-clause-may g c =
     let d = c.args.self.now in
-    let may = subst (λ (a : Activity). MayStep (g.W.Words.may c.args.words.now) (display (site_of (g.W.Words.frames_of c.args.words.now) (g.W.Words.grants_of c.args.words.now) d)) (stand_in (site_of (g.W.Words.frames_of c.args.words.now) (g.W.Words.grants_of c.args.words.now) d) (work_of d) d.read d.links.items d.reply d.at a)) c.in-Connecting.is c.requires in
+    let may = subst (λ (a : Activity). MayStep (g.W.Words.may c.args.words.now) (display (site_of (g.W.Words.frames_of c.args.words.now) (g.W.Words.grants_of c.args.words.now) d)) (stand_in (site_of (g.W.Words.frames_of c.args.words.now) (g.W.Words.grants_of c.args.words.now) d) (work_of d) d.read (stock_of d.store) d.walk d.links.items d.reply d.at a)) c.in-Connecting.is c.requires in
     may_out (site_of (g.W.Words.frames_of c.args.words.now) (g.W.Words.grants_of c.args.words.now) d) (g.W.Words.may c.args.words.now) (work_of d) (connecting (site_of (g.W.Words.frames_of c.args.words.now) (g.W.Words.grants_of c.args.words.now) d) d.read c.in-Connecting.part d.links.items) may
 
 pub leave-requires-clause-may : goal.leave-requires-clause-may
-unfolding stand_of held_of
+unfolding stand_of given_up
 leave-requires-clause-may g c =
     let d = c.args.self.now in
-    let may = subst (λ (a : Activity). MayStep (g.W.Words.may c.args.words.now) (display (site_of (g.W.Words.frames_of c.args.words.now) (g.W.Words.grants_of c.args.words.now) d)) (stand_in (site_of (g.W.Words.frames_of c.args.words.now) (g.W.Words.grants_of c.args.words.now) d) (work_of d) d.read d.links.items d.reply d.at a)) c.in-Leaving.is c.requires in
-    may_out (site_of (g.W.Words.frames_of c.args.words.now) (g.W.Words.grants_of c.args.words.now) d) (g.W.Words.may c.args.words.now) (work_of d) (leaving_plan c.in-Leaving.end (all_held d.links.items)) may
+    let may = subst (λ (a : Activity). MayStep (g.W.Words.may c.args.words.now) (display (site_of (g.W.Words.frames_of c.args.words.now) (g.W.Words.grants_of c.args.words.now) d)) (stand_in (site_of (g.W.Words.frames_of c.args.words.now) (g.W.Words.grants_of c.args.words.now) d) (work_of d) d.read (stock_of d.store) d.walk d.links.items d.reply d.at a)) c.in-Leaving.is c.requires in
+    may_out (site_of (g.W.Words.frames_of c.args.words.now) (g.W.Words.grants_of c.args.words.now) d) (g.W.Words.may c.args.words.now) (work_of d) (leaving_plan c.in-Leaving.end (pages_of (stock_of d.store) ++ all_held d.links.items)) may
 
 pub take-requires-clause-may : goal.take-requires-clause-may
 unfolding stand_of
 take-requires-clause-may g c =
     let d = c.args.self.now in
-    let may = subst (λ (a : Activity). MayStep (g.W.Words.may c.args.words.now) (display (site_of (g.W.Words.frames_of c.args.words.now) (g.W.Words.grants_of c.args.words.now) d)) (stand_in (site_of (g.W.Words.frames_of c.args.words.now) (g.W.Words.grants_of c.args.words.now) d) (work_of d) d.read d.links.items d.reply d.at a)) c.in-Taking.is c.requires in
+    let may = subst (λ (a : Activity). MayStep (g.W.Words.may c.args.words.now) (display (site_of (g.W.Words.frames_of c.args.words.now) (g.W.Words.grants_of c.args.words.now) d)) (stand_in (site_of (g.W.Words.frames_of c.args.words.now) (g.W.Words.grants_of c.args.words.now) d) (work_of d) d.read (stock_of d.store) d.walk d.links.items d.reply d.at a)) c.in-Taking.is c.requires in
     may_mapped (g.W.Words.may c.args.words.now) (take_from (slice_get d.links.items d.at)) (λ x. Took x) may
 
 pub answer-requires-clause-may : goal.answer-requires-clause-may
 unfolding stand_of
 answer-requires-clause-may g c =
     let d = c.args.self.now in
-    let may = subst (λ (a : Activity). MayStep (g.W.Words.may c.args.words.now) (display (site_of (g.W.Words.frames_of c.args.words.now) (g.W.Words.grants_of c.args.words.now) d)) (stand_in (site_of (g.W.Words.frames_of c.args.words.now) (g.W.Words.grants_of c.args.words.now) d) (work_of d) d.read d.links.items d.reply d.at a)) c.in-Answering.is c.requires in
+    let may = subst (λ (a : Activity). MayStep (g.W.Words.may c.args.words.now) (display (site_of (g.W.Words.frames_of c.args.words.now) (g.W.Words.grants_of c.args.words.now) d)) (stand_in (site_of (g.W.Words.frames_of c.args.words.now) (g.W.Words.grants_of c.args.words.now) d) (work_of d) d.read (stock_of d.store) d.walk d.links.items d.reply d.at a)) c.in-Answering.is c.requires in
     may_mapped (g.W.Words.may c.args.words.now) (answer_from d.reply (slice_get d.links.items d.at)) (λ x. Answered x) may
 
 pub sleep-requires-clause-may : goal.sleep-requires-clause-may
 unfolding stand_of
 sleep-requires-clause-may g c =
     let d = c.args.self.now in
-    let may = subst (λ (a : Activity). MayStep (g.W.Words.may c.args.words.now) (display (site_of (g.W.Words.frames_of c.args.words.now) (g.W.Words.grants_of c.args.words.now) d)) (stand_in (site_of (g.W.Words.frames_of c.args.words.now) (g.W.Words.grants_of c.args.words.now) d) (work_of d) d.read d.links.items d.reply d.at a)) c.in-Sleeping.is c.requires in
+    let may = subst (λ (a : Activity). MayStep (g.W.Words.may c.args.words.now) (display (site_of (g.W.Words.frames_of c.args.words.now) (g.W.Words.grants_of c.args.words.now) d)) (stand_in (site_of (g.W.Words.frames_of c.args.words.now) (g.W.Words.grants_of c.args.words.now) d) (work_of d) d.read (stock_of d.store) d.walk d.links.items d.reply d.at a)) c.in-Sleeping.is c.requires in
     may_mapped (g.W.Words.may c.args.words.now) (sleeping c.in-Sleeping.part d.links.items) (λ x. Slept x) may
 
 pub take-requires-clause-serving : goal.take-requires-clause-serving
@@ -58,8 +62,15 @@ take-requires-clause-serving g c = inr c.in-Taking.is
 pub answer-requires-clause-serving : goal.answer-requires-clause-serving
 answer-requires-clause-serving g c = inr c.in-Answering.is
 
-pub answer-requires-clause-hand : goal.answer-requires-clause-hand
-answer-requires-clause-hand g c = c.args.self.now.whole.answers (ap is_answering c.in-Answering.is)
+pub answer-requires-clause-due : goal.answer-requires-clause-due
+answer-requires-clause-due g c =
+    let d = c.args.self.now in
+    due_answering (d.whole.uses (ap uses_ring c.in-Answering.is)) c.in-Answering.is d.stored
+
+pub take-requires-clause-hand : goal.take-requires-clause-hand
+take-requires-clause-hand g c =
+    let d = c.args.self.now in
+    none_taking (d.whole.uses (ap uses_ring c.in-Taking.is)) c.in-Taking.is d.stored
 
 pub sleep-requires-clause-serving : goal.sleep-requires-clause-serving
 sleep-requires-clause-serving g c = inr c.in-Sleeping.is
@@ -75,31 +86,31 @@ unfolding stand_of
 returns-in-Between-clause-steps g c =
     let d = c.args.self.now in
     let there = stand_of (site_of (g.W.Words.frames_of c.args.words.now) (g.W.Words.grants_of c.args.words.now) d) c.begin.new.self in
-    subst (λ (a : Activity). Steps (display (site_of (g.W.Words.frames_of c.args.words.now) (g.W.Words.grants_of c.args.words.now) d)) (stand_in (site_of (g.W.Words.frames_of c.args.words.now) (g.W.Words.grants_of c.args.words.now) d) (work_of d) d.read d.links.items d.reply d.at a) c.begin.result.access c.begin.result.said there) (sym c.in-Between.is)
+    subst (λ (a : Activity). Steps (display (site_of (g.W.Words.frames_of c.args.words.now) (g.W.Words.grants_of c.args.words.now) d)) (stand_in (site_of (g.W.Words.frames_of c.args.words.now) (g.W.Words.grants_of c.args.words.now) d) (work_of d) d.read (stock_of d.store) d.walk d.links.items d.reply d.at a) c.begin.result.access c.begin.result.said there) (sym c.in-Between.is)
     (steps_begin (site_of (g.W.Words.frames_of c.args.words.now) (g.W.Words.grants_of c.args.words.now) d) (work_of d) (choice (site_of (g.W.Words.frames_of c.args.words.now) (g.W.Words.grants_of c.args.words.now) d) (work_of d)) c.begin.result.access c.begin.result.said there refl c.begin.ensures.begins)
 
 pub returns-in-Connecting-clause-steps : goal.returns-in-Connecting-clause-steps
-unfolding stand_of
+unfolding stand_of work_of
 returns-in-Connecting-clause-steps g c =
     let d = c.args.self.now in
     let there = stand_of (site_of (g.W.Words.frames_of c.args.words.now) (g.W.Words.grants_of c.args.words.now) d) c.connect.new.self in
-    subst (λ (a : Activity). Steps (display (site_of (g.W.Words.frames_of c.args.words.now) (g.W.Words.grants_of c.args.words.now) d)) (stand_in (site_of (g.W.Words.frames_of c.args.words.now) (g.W.Words.grants_of c.args.words.now) d) (work_of d) d.read d.links.items d.reply d.at a) c.connect.result.access c.connect.result.said there) (sym c.in-Connecting.is)
-    (steps_out (site_of (g.W.Words.frames_of c.args.words.now) (g.W.Words.grants_of c.args.words.now) d) (work_of d) (connecting (site_of (g.W.Words.frames_of c.args.words.now) (g.W.Words.grants_of c.args.words.now) d) d.read c.in-Connecting.part d.links.items) c.connect.result.access c.connect.result.said there c.connect.ensures.goes)
+    subst (λ (a : Activity). Steps (display (site_of (g.W.Words.frames_of c.args.words.now) (g.W.Words.grants_of c.args.words.now) d)) (stand_in (site_of (g.W.Words.frames_of c.args.words.now) (g.W.Words.grants_of c.args.words.now) d) (work_of d) d.read (stock_of d.store) d.walk d.links.items d.reply d.at a) c.connect.result.access c.connect.result.said there) (sym c.in-Connecting.is)
+    (steps_out (site_of (g.W.Words.frames_of c.args.words.now) (g.W.Words.grants_of c.args.words.now) d) (work_of d) (connecting (site_of (g.W.Words.frames_of c.args.words.now) (g.W.Words.grants_of c.args.words.now) d) d.read c.in-Connecting.part d.links.items) c.connect.result.access c.connect.result.said there (ap (λ (a : Activity). pages_of (stock_in a (stock_of d.store))) c.in-Connecting.is ∙ bare_connecting d.closing d.connection.back c.in-Connecting.is d.stored) c.connect.ensures.goes)
 
 pub returns-in-Leaving-clause-steps : goal.returns-in-Leaving-clause-steps
-unfolding stand_of held_of
+unfolding stand_of given_up work_of
 returns-in-Leaving-clause-steps g c =
     let d = c.args.self.now in
     let there = stand_of (site_of (g.W.Words.frames_of c.args.words.now) (g.W.Words.grants_of c.args.words.now) d) c.leave.new.self in
-    subst (λ (a : Activity). Steps (display (site_of (g.W.Words.frames_of c.args.words.now) (g.W.Words.grants_of c.args.words.now) d)) (stand_in (site_of (g.W.Words.frames_of c.args.words.now) (g.W.Words.grants_of c.args.words.now) d) (work_of d) d.read d.links.items d.reply d.at a) c.leave.result.access c.leave.result.said there) (sym c.in-Leaving.is)
-    (steps_out (site_of (g.W.Words.frames_of c.args.words.now) (g.W.Words.grants_of c.args.words.now) d) (work_of d) (leaving_plan c.in-Leaving.end (all_held d.links.items)) c.leave.result.access c.leave.result.said there (c.leave.ensures.goes (site_of (g.W.Words.frames_of c.args.words.now) (g.W.Words.grants_of c.args.words.now) d)))
+    subst (λ (a : Activity). Steps (display (site_of (g.W.Words.frames_of c.args.words.now) (g.W.Words.grants_of c.args.words.now) d)) (stand_in (site_of (g.W.Words.frames_of c.args.words.now) (g.W.Words.grants_of c.args.words.now) d) (work_of d) d.read (stock_of d.store) d.walk d.links.items d.reply d.at a) c.leave.result.access c.leave.result.said there) (sym c.in-Leaving.is)
+    (steps_out (site_of (g.W.Words.frames_of c.args.words.now) (g.W.Words.grants_of c.args.words.now) d) (work_of d) (leaving_plan c.in-Leaving.end (pages_of (stock_of d.store) ++ all_held d.links.items)) c.leave.result.access c.leave.result.said there (ap (λ (a : Activity). pages_of (stock_in a (stock_of d.store))) c.in-Leaving.is ∙ none_left (stock_of d.store)) (c.leave.ensures.goes (site_of (g.W.Words.frames_of c.args.words.now) (g.W.Words.grants_of c.args.words.now) d)))
 
 pub returns-in-Taking-clause-steps : goal.returns-in-Taking-clause-steps
 unfolding stand_of
 returns-in-Taking-clause-steps g c =
     let d = c.args.self.now in
     let there = stand_of (site_of (g.W.Words.frames_of c.args.words.now) (g.W.Words.grants_of c.args.words.now) d) c.take.new.self in
-    subst (λ (a : Activity). Steps (display (site_of (g.W.Words.frames_of c.args.words.now) (g.W.Words.grants_of c.args.words.now) d)) (stand_in (site_of (g.W.Words.frames_of c.args.words.now) (g.W.Words.grants_of c.args.words.now) d) (work_of d) d.read d.links.items d.reply d.at a) c.take.result.access c.take.result.said there) (sym c.in-Taking.is)
+    subst (λ (a : Activity). Steps (display (site_of (g.W.Words.frames_of c.args.words.now) (g.W.Words.grants_of c.args.words.now) d)) (stand_in (site_of (g.W.Words.frames_of c.args.words.now) (g.W.Words.grants_of c.args.words.now) d) (work_of d) d.read (stock_of d.store) d.walk d.links.items d.reply d.at a) c.take.result.access c.take.result.said there) (sym c.in-Taking.is)
     (steps_during (display (site_of (g.W.Words.frames_of c.args.words.now) (g.W.Words.grants_of c.args.words.now) d)) (work_of d) (mapped (λ x. Took x) (take_from (slice_get d.links.items d.at))) c.take.result.access c.take.result.said there (c.take.ensures.goes (site_of (g.W.Words.frames_of c.args.words.now) (g.W.Words.grants_of c.args.words.now) d)))
 
 pub returns-in-Answering-clause-steps : goal.returns-in-Answering-clause-steps
@@ -107,7 +118,7 @@ unfolding stand_of
 returns-in-Answering-clause-steps g c =
     let d = c.args.self.now in
     let there = stand_of (site_of (g.W.Words.frames_of c.args.words.now) (g.W.Words.grants_of c.args.words.now) d) c.answer.new.self in
-    subst (λ (a : Activity). Steps (display (site_of (g.W.Words.frames_of c.args.words.now) (g.W.Words.grants_of c.args.words.now) d)) (stand_in (site_of (g.W.Words.frames_of c.args.words.now) (g.W.Words.grants_of c.args.words.now) d) (work_of d) d.read d.links.items d.reply d.at a) c.answer.result.access c.answer.result.said there) (sym c.in-Answering.is)
+    subst (λ (a : Activity). Steps (display (site_of (g.W.Words.frames_of c.args.words.now) (g.W.Words.grants_of c.args.words.now) d)) (stand_in (site_of (g.W.Words.frames_of c.args.words.now) (g.W.Words.grants_of c.args.words.now) d) (work_of d) d.read (stock_of d.store) d.walk d.links.items d.reply d.at a) c.answer.result.access c.answer.result.said there) (sym c.in-Answering.is)
     (steps_during (display (site_of (g.W.Words.frames_of c.args.words.now) (g.W.Words.grants_of c.args.words.now) d)) (work_of d) (mapped (λ x. Answered x) (answer_from d.reply (slice_get d.links.items d.at))) c.answer.result.access c.answer.result.said there (c.answer.ensures.goes (site_of (g.W.Words.frames_of c.args.words.now) (g.W.Words.grants_of c.args.words.now) d)))
 
 pub returns-in-Sleeping-clause-steps : goal.returns-in-Sleeping-clause-steps
@@ -115,7 +126,7 @@ unfolding stand_of
 returns-in-Sleeping-clause-steps g c =
     let d = c.args.self.now in
     let there = stand_of (site_of (g.W.Words.frames_of c.args.words.now) (g.W.Words.grants_of c.args.words.now) d) c.sleep.new.self in
-    subst (λ (a : Activity). Steps (display (site_of (g.W.Words.frames_of c.args.words.now) (g.W.Words.grants_of c.args.words.now) d)) (stand_in (site_of (g.W.Words.frames_of c.args.words.now) (g.W.Words.grants_of c.args.words.now) d) (work_of d) d.read d.links.items d.reply d.at a) c.sleep.result.access c.sleep.result.said there) (sym c.in-Sleeping.is)
+    subst (λ (a : Activity). Steps (display (site_of (g.W.Words.frames_of c.args.words.now) (g.W.Words.grants_of c.args.words.now) d)) (stand_in (site_of (g.W.Words.frames_of c.args.words.now) (g.W.Words.grants_of c.args.words.now) d) (work_of d) d.read (stock_of d.store) d.walk d.links.items d.reply d.at a) c.sleep.result.access c.sleep.result.said there) (sym c.in-Sleeping.is)
     (steps_during (display (site_of (g.W.Words.frames_of c.args.words.now) (g.W.Words.grants_of c.args.words.now) d)) (work_of d) (mapped (λ x. Slept x) (sleeping c.in-Sleeping.part d.links.items)) c.sleep.result.access c.sleep.result.said there (c.sleep.ensures.goes (site_of (g.W.Words.frames_of c.args.words.now) (g.W.Words.grants_of c.args.words.now) d)))
 
 pub returns-in-Between-clause-dom : goal.returns-in-Between-clause-dom
@@ -162,3 +173,50 @@ answer-requires-clause-opened g c = c.args.self.now.whole.uses (ap uses_ring c.i
 
 pub returns-in-Leaving-clause-stays : goal.returns-in-Leaving-clause-stays
 returns-in-Leaving-clause-stays g c = c.leave.ensures.stays _
+
+pub walk_on-requires-clause-may : goal.walk_on-requires-clause-may
+unfolding stand_of
+walk_on-requires-clause-may g c =
+    let d = c.args.self.now in
+    let may = subst (λ (a : Activity). MayStep (g.W.Words.may c.args.words.now) (display (site_of (g.W.Words.frames_of c.args.words.now) (g.W.Words.grants_of c.args.words.now) d)) (stand_in (site_of (g.W.Words.frames_of c.args.words.now) (g.W.Words.grants_of c.args.words.now) d) (work_of d) d.read (stock_of d.store) d.walk d.links.items d.reply d.at a)) c.in-Walking.is c.requires in
+    may_mapped (g.W.Words.may c.args.words.now) (walk_from (site_of (g.W.Words.frames_of c.args.words.now) (g.W.Words.grants_of c.args.words.now) d) d.walk) (λ x. Listed x) may
+
+pub free-requires-clause-may : goal.free-requires-clause-may
+unfolding stand_of
+free-requires-clause-may g c =
+    let d = c.args.self.now in
+    let may = subst (λ (a : Activity). MayStep (g.W.Words.may c.args.words.now) (display (site_of (g.W.Words.frames_of c.args.words.now) (g.W.Words.grants_of c.args.words.now) d)) (stand_in (site_of (g.W.Words.frames_of c.args.words.now) (g.W.Words.grants_of c.args.words.now) d) (work_of d) d.read (stock_of d.store) d.walk d.links.items d.reply d.at a)) c.in-Freeing.is c.requires in
+    may
+
+pub returns-in-Walking-clause-steps : goal.returns-in-Walking-clause-steps
+unfolding stand_of
+returns-in-Walking-clause-steps g c =
+    let d = c.args.self.now in
+    let site = (site_of (g.W.Words.frames_of c.args.words.now) (g.W.Words.grants_of c.args.words.now) d) in
+    let there = stand_of site c.walk_on.new.self in
+    subst (λ (a : Activity). Steps (display site) (stand_in site (work_of d) d.read (stock_of d.store) d.walk d.links.items d.reply d.at a) c.walk_on.result.access c.walk_on.result.said there) (sym c.in-Walking.is)
+    (steps_during (display site) (work_of d) (mapped (λ x. Listed x) (walk_from site d.walk)) c.walk_on.result.access c.walk_on.result.said there c.walk_on.ensures.goes)
+
+pub returns-in-Freeing-clause-steps : goal.returns-in-Freeing-clause-steps
+unfolding stand_of
+returns-in-Freeing-clause-steps g c =
+    let d = c.args.self.now in
+    let site = (site_of (g.W.Words.frames_of c.args.words.now) (g.W.Words.grants_of c.args.words.now) d) in
+    let there = stand_of site c.free.new.self in
+    subst (λ (a : Activity). Steps (display site) (stand_in site (work_of d) d.read (stock_of d.store) d.walk d.links.items d.reply d.at a) c.free.result.access c.free.result.said there) (sym c.in-Freeing.is)
+    (steps_during (display site) (work_of d) (freeing_plan c.in-Freeing.cookie (stock_of d.store)) c.free.result.access c.free.result.said there (c.free.ensures.goes site))
+
+pub returns-in-Freeing-clause-stays : goal.returns-in-Freeing-clause-stays
+returns-in-Freeing-clause-stays g c = c.free.ensures.stays _
+
+pub returns-in-Walking-clause-dom : goal.returns-in-Walking-clause-dom
+returns-in-Walking-clause-dom g c = c.walk_on.ensures.same.0
+
+pub returns-in-Walking-clause-parts : goal.returns-in-Walking-clause-parts
+returns-in-Walking-clause-parts g c = c.walk_on.ensures.same.1
+
+pub returns-in-Freeing-clause-dom : goal.returns-in-Freeing-clause-dom
+returns-in-Freeing-clause-dom g c = c.free.ensures.same.0
+
+pub returns-in-Freeing-clause-parts : goal.returns-in-Freeing-clause-parts
+returns-in-Freeing-clause-parts g c = c.free.ensures.same.1

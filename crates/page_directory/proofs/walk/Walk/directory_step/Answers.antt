@@ -1,6 +1,7 @@
 use Rattle.std.proofs.Common.{◌++◌, ◌∷◌, [], sym, arith}
 use Rattle.std.specs.List.{insert}
 use Rattle.page_directory.specs.WalkLeft.{held_by, held_in}
+use Rattle.page_directory.proofs.Begun.{map_begun, begun_directory}
 use Rattle.page_directory.proofs.Changing.{map_keeps, map_stands, map_gains, insert_last}
 use Rattle.std.proofs.Common.{Some, Err, refl, ap, ◌∙◌, arith}
 use Rattle.grant_table.specs.MapLeft.{dom_of as map_dom}
@@ -80,3 +81,8 @@ returns-in-Err-clause-steps g c =
     let is = ap (left w.map w.more w.begins w.pages.items) c.requires.mapping in
     let next = with_map w.pages.items (entered (frames w.dom.0) (grants w.dom.0) w.dom.0 w.mode w.more w.pages.items) in
     c.refuse.ensures.steps (frames w.dom.0) (grants w.dom.0) (held_by w) (walk_left (frames w.dom.0) (grants w.dom.0) w) (map_leads frames grants (map_dom w.map) w.dom.0 w.same_dom w.map next (walk_left (frames w.dom.0) (grants w.dom.0) w) is c.step-turn.result.access c.step-turn.result.done c.step-turn.new.self (Err c.in-Err.refusal) (undo_plan w.pages.items c.in-Err.refusal) c.step-turn.ensures.advances (c.in-Some.is ∙ ap Some c.in-Err.is) refl) (map_stands frames grants (map_dom w.map) w.dom.0 w.same_dom w.map next (walk_left (frames w.dom.0) (grants w.dom.0) w) is c.step-turn.result.access c.step-turn.result.done c.step-turn.new.self c.in-Err.refusal (held_by w) w.pages.items c.step-turn.ensures.advances (c.in-Some.is ∙ ap Some c.in-Err.is) (ap (held_in w.begins w.pages.items) c.requires.mapping))
+
+pub returns-in_default-clause-begun : goal.returns-in_default-clause-begun
+returns-in_default-clause-begun g c =
+    let w = c.args.self.now in
+    λ _. begun_directory c.step-turn.new.self w.pages.items w.stage c.requires.mapping (map_begun _ _ w.map c.step-turn.new.self c.step-turn.result.access c.step-turn.result.done c.in_default.is c.step-turn.ensures.advances)

@@ -1,6 +1,6 @@
 use Rattle.std.proofs.Common.{◌+◌, ◌/◌, ◌<◌, refl, arith}
 use Rattle.grant_table.specs.MapLeft.{map_left}
-use Rattle.page_directory.specs.WalkLeft.{walk_left, dom_of, is_over, held_by}
+use Rattle.page_directory.specs.WalkLeft.{walk_left, dom_of, count_of, is_over, held_by}
 use Rattle.page_directory.proofs.Transitions.{starts}
 use Rattle.page_directory.proofs.walk.Walk.new.Goals as goal
 
@@ -22,3 +22,7 @@ returns-clause-begins c = refl
 pub returns-clause-holds : goal.returns-clause-holds
 unfolding held_by
 returns-clause-holds c = c.in_ok-pages.ensures.items
+
+pub returns-clause-count : goal.returns-clause-count
+unfolding count_of
+returns-clause-count c = refl

@@ -1,5 +1,7 @@
-use Rattle.page_directory.specs.WalkLeft.{walk_left, dom_of, is_over, held_by, held_in}
+use Rattle.page_directory.specs.WalkLeft.{walk_left, dom_of, count_of, is_over, held_by, held_in}
+use Rattle.page_directory.proofs.Begun.{goes_on}
 use Rattle.page_directory.proofs.Heads.{by_access, first_lies, no_pages, lies_next}
+use Rattle.std.proofs.Common.{arith}
 use Rattle.page_directory.proofs.walk.Walk.step.Goals as goal
 
 pub returns-clause-turns : goal.returns-clause-turns
@@ -32,3 +34,17 @@ returns-clause-holds g c = c.advance.ensures.steps.holds
 
 pub returns-clause-rests : goal.returns-clause-rests
 returns-clause-rests g c = c.advance.ensures.steps.rests
+
+pub returns-clause-count : goal.returns-clause-count
+unfolding count_of
+returns-clause-count g c = c.advance.ensures.count
+
+pub returns-clause-number : goal.returns-clause-number
+unfolding count_of
+returns-clause-number g c = c.advance.ensures.number
+
+pub returns-clause-goes_on : goal.returns-clause-goes_on
+unfolding walk_left
+returns-clause-goes_on g c =
+    let w = c.advance.new.self in
+    λ none frames grants. goes_on frames grants w.dom.0 w.mode w.map w.more w.begins w.pages.items w.stage (c.advance.ensures.begun none) w.maps (λ u. omega (arith, w.undoes u, w.pages.ok))

@@ -5,7 +5,7 @@ use Rattle.pv_words.specs.declared.place.Who.TheVariants.{Dev}
 use Rattle.link_core.specs.Order.{Steps}
 use Rattle.display_backend.specs.Machine.{Site}
 use Rattle.display_backend.specs.Work.{display}
-use Rattle.display_backend.specs.Display as backend
+use Rattle.backend_core.specs.Device as backend
 use Rattle.pv_world.specs.declared.world.Placed.{Placed}
 use Rattle.pv_world.specs.World.{IsPlaced, Stands, sight}
 use Rattle.pv_world.proofs.Devices.{at_index, is_at_set, read_is, setups_set}
@@ -36,14 +36,14 @@ returns-clause-advanced g c = λ frames grants m st e.
     let hands : Hands sees (Dev c.args.dev) w.memory c.turn.new.self = record { turned = c.turn.ensures.turned; words = c.turn.ensures.words; frames = c.turn.ensures.frames; grants = c.turn.ensures.grants; whole = c.turn.ensures.whole; devices = c.turn.ensures.devices; domains = c.turn.ensures.domains } in
     let x = c.requires.at in
     let p = c.index_mut.result.now in
-    let r : Placed = record { setup = p.setup; display = c.step-step.new.self; nodes = p.nodes } in
+    let r : Placed = record { setup = p.setup; device = c.step-step.new.self; nodes = p.nodes } in
     let read = read_is w.devices.items c.args.i x.0 p x.1 c.index_mut.ensures.value in
     let at = subst (λ (q : Placed). slice_get w.devices.items c.args.i ≡ Some q) (sym read) x.1 in
     let dev = ap (λ (q : Placed). q.setup.dev) read ∙ x.2 in
     let turned = turned_stands sees frames grants (Dev c.args.dev) w.memory c.turn.new.self w.devices.items m hands st in
     let placed = at_index (IsPlaced sees frames grants c.turn.new.self m) w.devices.items c.args.i p at turned.placed in
     let is = site_is sees frames grants c.turn.new.self m p turned.frames_are turned.grants_are placed in
-    let steps = subst (λ (site : Site). Steps (display site) (backend.stand_of site p.display) c.step-step.result.access c.step-step.result.said (backend.stand_of site r.display)) is c.step-step.ensures.steps in
+    let steps = subst (λ (site : Site). Steps (display site) (backend.stand_of site p.device) c.step-step.result.access c.step-step.result.said (backend.stand_of site r.device)) is c.step-step.ensures.steps in
     let later = step_stands sees frames grants g.W.Words.makes behaves c.turn.new.self c.step-step.new.words w.devices.items c.args.i p r m c.step-step.result.access c.step-step.result.said at c.step-step.ensures.made (c.turn.ensures.turned.device ∙ ap (λ (d : DevId). Some d.0) (sym dev)) steps refl c.step-step.ensures.dom c.step-step.ensures.parts refl turned in
     recorded sees frames grants c.step-step.new.words (slice_set w.devices.items c.args.i r) c.args.dev c.step-step.result.access c.step-step.result.said c.args.journal.now.entries c.record.new.journal.entries m c.record.result
     (subst (λ (d : DevId). Stands sees frames grants c.step-step.new.words (slice_set w.devices.items c.args.i r) (m ++ items_of d c.step-step.result.access c.step-step.result.said)) dev later) e c.record.ensures.records
@@ -53,7 +53,7 @@ returns-clause-at g c =
     let w = c.args.self.now in
     let x = c.requires.at in
     let p = c.index_mut.result.now in
-    let r : Placed = record { setup = p.setup; display = c.step-step.new.self; nodes = p.nodes } in
+    let r : Placed = record { setup = p.setup; device = c.step-step.new.self; nodes = p.nodes } in
     let read = read_is w.devices.items c.args.i x.0 p x.1 c.index_mut.ensures.value in
     (r, is_at_set w.devices.items c.args.i x.0 r x.1, ap (λ (q : Placed). q.setup.dev) read ∙ x.2)
 
@@ -62,6 +62,6 @@ returns-clause-devices g c =
     let w = c.args.self.now in
     let x = c.requires.at in
     let p = c.index_mut.result.now in
-    let r : Placed = record { setup = p.setup; display = c.step-step.new.self; nodes = p.nodes } in
+    let r : Placed = record { setup = p.setup; device = c.step-step.new.self; nodes = p.nodes } in
     let read = read_is w.devices.items c.args.i x.0 p x.1 c.index_mut.ensures.value in
     setups_set w.devices.items c.args.i x.0 r x.1 (ap (λ (q : Placed). q.setup) read)

@@ -7,7 +7,7 @@ use Rattle.pv_words.specs.declared.place.DevId.{DevId}
 use Rattle.pv_world.specs.declared.world.Placed.{Placed}
 use Rattle.pv_world.specs.Marked.{Entered}
 use Rattle.pv_words.specs.declared.entry.End.TheVariants as end
-use Rattle.display_backend.proofs.Hears.{hears_always}
+use Rattle.backend_core.proofs.Hears.{hears_always}
 use Rattle.pv_world.specs.History.{IsHistory, site_of}
 use Rattle.pv_world.specs.World.{Stands, setups, sight}
 use Rattle.pv_world.proofs.Buses.{bus_history, bus_stands}
@@ -21,7 +21,7 @@ returns-in_err-enter-clause-heard g c = λ frames grants m st e.
     let w = c.args.self.now in
     let x = c.position-i.ensures in
     let p = err_from_is_err_and c.from_residual.result c.from_residual.ensures.1 in
-    let history = bus_history sees frames grants w.memory w.devices.items c.position-i.result x.0 m c.args.s x.1 (hears_always (site_of frames grants x.0.setup) x.0.display c.args.s x.0.nodes) st in
+    let history = bus_history sees frames grants w.memory w.devices.items c.position-i.result x.0 m c.args.s x.1 (hears_always (site_of frames grants x.0.setup) x.0.device c.args.s x.0.nodes) st in
     rw (p.1, p.2) (subst (λ (d : DevId). IsHistory frames grants (setups w.devices.items) (m ++ Entered (entry.Bus d end.Front c.args.s) ∷ [])) x.2 history, (e ∙ sym c.in_err-enter.ensures.err, c.in_err-enter.ensures.cause))
 
 pub index_mut-placed-requires : goal.index_mut-placed-requires
@@ -34,13 +34,13 @@ returns-clause-heard g c = λ frames grants m st e.
     let x = c.position-i.ensures in
     let i = c.position-i.result in
     let p = c.index_mut-placed.result.now in
-    let r : Placed = record { setup = p.setup; display = c.bus.new.self; nodes = p.nodes } in
+    let r : Placed = record { setup = p.setup; device = c.bus.new.self; nodes = p.nodes } in
     let read = read_is w.devices.items i x.0 p x.1 c.index_mut-placed.ensures.value in
     let at = subst (λ (q : Placed). slice_get w.devices.items i ≡ Some q) (sym read) x.1 in
     let dev = ap (λ (q : Placed). q.setup.dev) read ∙ x.2 in
     let site = site_of frames grants p.setup in
     let ok : c.enter.new.journal.entries ≡ c.args.journal.now.entries ++ entry.Bus c.args.dev end.Front c.args.s ∷ [] = c.in_ok-enter.ensures.ok in (
-      subst (λ (d : DevId). Stands sees frames grants w.memory (slice_set w.devices.items i r) (m ++ Entered (entry.Bus d end.Front c.args.s) ∷ [])) dev (bus_stands sees frames grants w.memory w.devices.items i p r m c.args.s at (hears_always site p.display c.args.s p.nodes) refl (c.bus.ensures.hears site) c.bus.ensures.dom c.bus.ensures.parts refl st),
+      subst (λ (d : DevId). Stands sees frames grants w.memory (slice_set w.devices.items i r) (m ++ Entered (entry.Bus d end.Front c.args.s) ∷ [])) dev (bus_stands sees frames grants w.memory w.devices.items i p r m c.args.s at (hears_always site p.device c.args.s p.nodes) refl (c.bus.ensures.hears site) c.bus.ensures.dom c.bus.ensures.parts refl st),
       entries_append m (Entered (entry.Bus c.args.dev end.Front c.args.s) ∷ []) ∙ (ap (λ (es : List Entry). es ++ entry.Bus c.args.dev end.Front c.args.s ∷ []) e ∙ sym ok),
     )
 
@@ -49,6 +49,6 @@ returns-clause-devices g c =
     let w = c.args.self.now in
     let x = c.position-i.ensures in
     let p = c.index_mut-placed.result.now in
-    let r : Placed = record { setup = p.setup; display = c.bus.new.self; nodes = p.nodes } in
+    let r : Placed = record { setup = p.setup; device = c.bus.new.self; nodes = p.nodes } in
     let read = read_is w.devices.items c.position-i.result x.0 p x.1 c.index_mut-placed.ensures.value in
     setups_set w.devices.items c.position-i.result x.0 r x.1 (ap (λ (q : Placed). q.setup) read)

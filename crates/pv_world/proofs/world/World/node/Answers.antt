@@ -30,7 +30,7 @@ returns-clause-set g c = λ frames grants m st e.
     let x = c.position-i.ensures in
     let i = c.position-i.result in
     let p = c.index_mut.result.now in
-    let r : Placed = record { setup = p.setup; display = p.display; nodes = c.set.new.self } in
+    let r : Placed = record { setup = p.setup; device = p.device; nodes = c.set.new.self } in
     let read = read_is w.devices.items i x.0 p x.1 c.index_mut.ensures.value in
     let at = subst (λ (q : Placed). slice_get w.devices.items i ≡ Some q) (sym read) x.1 in
     let dev = ap (λ (q : Placed). q.setup.dev) read ∙ x.2 in
@@ -45,6 +45,6 @@ returns-clause-devices g c =
     let w = c.args.self.now in
     let x = c.position-i.ensures in
     let p = c.index_mut.result.now in
-    let r : Placed = record { setup = p.setup; display = p.display; nodes = c.set.new.self } in
+    let r : Placed = record { setup = p.setup; device = p.device; nodes = c.set.new.self } in
     let read = read_is w.devices.items c.position-i.result x.0 p x.1 c.index_mut.ensures.value in
     setups_set w.devices.items c.position-i.result x.0 r x.1 (ap (λ (q : Placed). q.setup) read)

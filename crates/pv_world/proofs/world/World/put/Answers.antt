@@ -8,7 +8,7 @@ use Rattle.pv_words.specs.declared.place.Who.TheVariants.{Dom}
 use Rattle.pv_words.specs.Plan as plan
 use Rattle.pv_words.proofs.Listing.{port_may_own}
 use Rattle.pv_world.specs.Marked.{entries}
-use Rattle.pv_world.specs.World.{setups, front_store, sight}
+use Rattle.pv_world.specs.World.{front_store, sight}
 use Rattle.pv_world.proofs.Histories.{in_range_from}
 use Rattle.pv_world.proofs.Items.{entries_append}
 use Rattle.pv_world.proofs.Standings.{Behaves, Hands, front_history, front_stands, turned_stands}
@@ -20,7 +20,7 @@ returns-in_err-enter-clause-stored g c = λ frames grants m st e.
     let w = c.args.self.now in
     let p = err_from_is_err_and c.from_residual.result c.from_residual.ensures.1 in
     let range = in_range_from (g.W.Words.frames_of w.memory) frames (g.W.Words.grants_of w.memory) grants st.frames_are st.grants_are c.args.place c.requires.range in
-    rw (p.1, p.2) (front_history sees frames grants (setups w.devices.items) m (access.Store c.args.place c.args.v) (range, tt) st.so_far, (e ∙ sym c.in_err-enter.ensures.err, c.in_err-enter.ensures.cause))
+    rw (p.1, p.2) (front_history sees frames grants w.memory w.devices.items m (access.Store c.args.place c.args.v) (range, tt) st, (e ∙ sym c.in_err-enter.ensures.err, c.in_err-enter.ensures.cause))
 
 pub store-requires : goal.store-requires
 store-requires g c =

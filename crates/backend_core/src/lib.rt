@@ -1,0 +1,6 @@
+//! A device of any kind, one step at a time.
+#![tactic(auto)]
+
+mod device;
+
+pub use device::Device;

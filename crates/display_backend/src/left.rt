@@ -1,0 +1,204 @@
+// The live buffers of a display, with what is left of the pages of each.
+
+ghost use Rattle.std.specs.Prelude.{◌≡◌, ◌<◌, ◌≤◌, ◌*◌, [], length, slice_get, is_some, Some, Ok, IfOk};
+ghost use Rattle.display_buffers.specs.Buffers.{AreDistinct, buffer_of, check_of, cookies, has_cookie, with_buffer, without_buffer};
+ghost use Rattle.display_buffers.specs.Pixels.{page_count};
+ghost use Rattle.display_backend.specs.Stock.{buffer_pages, without_first_in};
+ghost use Rattle.display_backend.specs.Left.{Finds, has_pages, less_at, pages_at};
+
+use displ_wire::{Create, Refused};
+use display_buffers::Buffers;
+use page_directory::Pages;
+use pv_words::Hold;
+use std::alloc::{AllocError, Global};
+use std::marker::Model;
+
+// How many buffers there may be at one time.
+const BUFFER_LIMIT: usize = 64;
+
+// How many pages a buffer may have.
+const PAGE_LIMIT: u32 = 8192;
+
+// The live buffers of a display, in order of creation. A contract sees each with the pages that are left of it.
+#[derive(Drop)]
+pub(crate) struct LeftBuffers {
+    buffers: Buffers<Pages>,
+    // How many pages of each buffer were given up, in order of creation.
+    gone: Vec<u32>,
+}
+
+impl Model for LeftBuffers {
+    ghost use Rattle.std.specs.Prelude.{◌≡◌, ◌≤◌, List, length, vec_len, vec_capacity};
+    ghost use Rattle.display_backend.specs.Stock.{Held};
+    ghost use Rattle.display_backend.specs.Left.{left_in};
+
+    ghost Value = { List Held };
+
+    ghost view = { λ b. left_in b.buffers b.gone.items };
+
+    ghost invariant = { λ b. (vec_len b.gone ≡ length b.buffers) × (64 ≤ vec_capacity b.gone) };
+}
+
+impl LeftBuffers {
+    // No buffer, and the room for 64.
+    pub(crate) fn new(alloc: Global) -> Result<LeftBuffers, AllocError>
+        ensures { IfOk result (λ b. b ≡ []) }
+    {
+        let buffers = Buffers::new(alloc)?;
+        let gone = Vec::with_capacity(alloc, BUFFER_LIMIT)?;
+        Ok(LeftBuffers { buffers, gone })
+    }
+
+    // The first check of a CREATE that fails, of those that need no memory and no page.
+    pub(crate) fn check(&self, c: &Create) -> Result<(), Refused>
+        ensures { result ≡ check_of self.now c.now }
+    {
+        self.buffers.check(c)
+    }
+
+    // Whether a buffer of this cookie is live.
+    pub(crate) fn is_live(&self, cookie: u64) -> bool
+        ensures { result ≡ is_some (buffer_of cookie self.now) }
+    {
+        self.buffers.get(cookie).is_some()
+    }
+
+    // Makes the buffer that a CREATE asks for, of these pages.
+    pub(crate) fn create(&mut self, c: &Create, pages: Pages)
+        requires checked { check_of self.old c.now ≡ Ok tt }
+        requires count { length pages ≡ page_count c.now.buffer_sz }
+        ensures { self.new ≡ with_buffer self.old c.now pages }
+    {
+        self.buffers.create(c, pages);
+        self.gone.push_reserved(0);
+    }
+
+    // Takes away the buffer of a cookie.
+    pub(crate) fn destroy(&mut self, cookie: u64)
+        ensures { self.new ≡ without_buffer cookie self.old }
+    {
+        let Some(at) = self.place_of(cookie) else {
+            return;
+        };
+        let _ = self.buffers.destroy(cookie);
+        let _ = self.gone.remove(at as usize);
+    }
+
+    // Takes away all buffers.
+    pub(crate) fn clear(&mut self)
+        ensures { self.new ≡ [] }
+    {
+        remove_all(&mut self.buffers);
+        self.gone.clear();
+    }
+
+    // How many buffers there are, under different cookies.
+    fn count(&self) -> u32
+        ensures count { result ≡ length self.now }
+        ensures few { result ≤ 64 }
+        ensures distinct { AreDistinct (cookies self.now) }
+    {
+        self.buffers.live()
+    }
+
+    // How many pages are left of the buffer at this place.
+    pub(crate) fn held_at(&self, k: u32) -> u32
+        requires { k < length self.now }
+        ensures count { result ≡ length (pages_at self.now k) }
+        ensures few { result ≤ 8192 }
+    {
+        let pages = self.buffers.pages_at(k);
+        pages.len().saturating_sub(self.gone[k as usize])
+    }
+
+    // The page of this number of those that are left of the buffer at this place.
+    pub(crate) fn hold_at(&self, k: u32, i: u32) -> Hold
+        requires { i < length (pages_at self.now k) }
+        ensures { slice_get (pages_at self.now k) i ≡ Some result }
+    {
+        let pages = self.buffers.pages_at(k);
+        prove!(pages.len() <= PAGE_LIMIT);
+        pages.get(self.gone[k as usize] + i)
+    }
+
+    // Where the buffer of a cookie stands. No other has this cookie.
+    pub(crate) fn place_of(&self, cookie: u64) -> Option<u32>
+        ensures place { Finds (has_cookie cookie) self.now result }
+        ensures distinct { AreDistinct (cookies self.now) }
+    {
+        for k in 0..self.count() {
+            if self.buffers.cookie_at(k) == cookie {
+                return Some(k);
+            }
+        }
+        None
+    }
+
+    // Where the first buffer that has a page stands.
+    fn first(&self) -> Option<u32>
+        ensures { Finds has_pages self.now result }
+    {
+        for k in 0..self.count() {
+            if self.held_at(k) > 0 {
+                return Some(k);
+            }
+        }
+        None
+    }
+
+    // How many pages are left of all buffers.
+    pub(crate) fn held(&self) -> u32
+        ensures count { result ≡ length (buffer_pages self.now) }
+        ensures few { result ≤ 64 * 8192 }
+    {
+        let mut held = 0;
+        for k in 0..self.count() {
+            held += self.held_at(k);
+        }
+        held
+    }
+
+    // The page of this number of those that are left of all buffers.
+    pub(crate) fn hold(&self, i: u32) -> Hold
+        requires { i < length (buffer_pages self.now) }
+        ensures { slice_get (buffer_pages self.now) i ≡ Some result }
+    {
+        let mut rest = i;
+        for k in 0..self.count() {
+            let held = self.held_at(k);
+            if rest < held {
+                return self.hold_at(k, rest);
+            }
+            rest -= held;
+        }
+        unreachable!()
+    }
+
+    // Gives up the first page of the buffer at this place.
+    pub(crate) fn give_up_at(&mut self, k: u32)
+        requires { 0 < length (pages_at self.old k) }
+        ensures { self.new ≡ less_at self.old k }
+    {
+        prove!(self.gone[k as usize] < self.buffers.pages_at(k).len());
+        self.gone[k as usize] += 1;
+    }
+
+    // Gives up the first page of the first buffer that has one.
+    pub(crate) fn give_up_first(&mut self)
+        ensures { self.new ≡ without_first_in self.old }
+    {
+        if let Some(k) = self.first() {
+            self.give_up_at(k);
+        }
+    }
+}
+
+// Takes away all buffers of a table.
+fn remove_all(buffers: &mut Buffers<Pages>)
+    ensures { buffers.new ≡ [] }
+{
+    while buffers.live() > 0 {
+        let cookie = buffers.cookie_at(0);
+        let _ = buffers.destroy(cookie);
+    }
+}

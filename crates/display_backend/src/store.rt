@@ -1,0 +1,188 @@
+//! The live buffers of a display, and the pages that are held for buffers.
+
+ghost use Rattle.std.specs.Prelude.{◌≡◌, ◌+◌, ◌<◌, ◌≤◌, ◌==◌, [], true, length, slice_get, Some, Ok, IfOk, is_some};
+ghost use Rattle.display_buffers.specs.Buffers.{buffer_of, check_of};
+ghost use Rattle.display_buffers.specs.Pixels.{page_count};
+
+use crate::left::LeftBuffers;
+use displ_wire::{Create, Refused};
+use grant_table::unmap;
+use page_directory::Pages;
+use pv_words::{Access, Hold, Words};
+use std::alloc::{AllocError, Global};
+
+/// The live buffers of a display, in order of creation, and the pages that are held for buffers. The room for all buffers
+/// is taken when it is made.
+#[derive(Drop)]
+pub struct Store {
+    buffers: LeftBuffers,
+    // The pages that were mapped for a CREATE that isn't answered, and how many of them were given up.
+    mapped: Option<Pages>,
+    mapped_gone: u32,
+}
+
+#[tactic(auto, unfolding(crate::specs::Store::is_whole, crate::specs::Store::stock_of))]
+impl Store {
+    ghost use Rattle.std.specs.Prelude.{List};
+    ghost use Rattle.pv_words.specs.declared.grant.Hold.{Hold};
+    ghost use Rattle.pv_words.specs.Plan.{wanted};
+    ghost use Rattle.grant_table.specs.Mapping.{unmap_want};
+    ghost use Rattle.display_backend.specs.Stock.{Stock, no_stock, pages_of, pages_under, less_one, without_first, created, destroyed};
+    ghost use Rattle.display_backend.specs.Store.{stock_of, is_whole};
+
+    /// No buffer and no page.
+    pub fn new(alloc: Global) -> Result<Store, AllocError>
+        ensures empty { IfOk result (λ s. stock_of s ≡ no_stock) }
+        ensures whole { IfOk result (λ s. is_whole s ≡ true) }
+    {
+        Ok(Store {
+            buffers: LeftBuffers::new(alloc)?,
+            mapped: None,
+            mapped_gone: 0,
+        })
+    }
+
+    /// The first check of a CREATE that fails, of those that need no memory and no page.
+    pub fn check(&self, c: &Create) -> Result<(), Refused>
+        ensures { result ≡ check_of (stock_of self.now).buffers c.now }
+    {
+        self.buffers.check(c)
+    }
+
+    /// Whether a buffer of this cookie is live.
+    pub fn is_live(&self, cookie: u64) -> bool
+        ensures { result ≡ is_some (buffer_of cookie (stock_of self.now).buffers) }
+    {
+        self.buffers.is_live(cookie)
+    }
+
+    /// Keeps the pages that were mapped for a CREATE.
+    pub fn keep(&mut self, pages: Pages)
+        requires { (stock_of self.old).mapped ≡ [] }
+        ensures stock { stock_of self.new ≡ record { mapped = pages; buffers = (stock_of self.old).buffers } }
+        ensures whole { is_whole self.new ≡ true }
+    {
+        self.mapped = Some(pages);
+        self.mapped_gone = 0;
+    }
+
+    /// Makes the buffer that a CREATE asks for, of the pages that were mapped for it.
+    pub fn create(&mut self, c: &Create)
+        requires checked { check_of (stock_of self.old).buffers c.now ≡ Ok tt }
+        requires count { length (stock_of self.old).mapped ≡ page_count c.now.buffer_sz }
+        requires whole { is_whole self.old ≡ true }
+        ensures stock { stock_of self.new ≡ created (stock_of self.old) c.now }
+        ensures still { is_whole self.new ≡ true }
+    {
+        let Some(pages) = self.mapped.take() else {
+            unreachable!();
+        };
+        self.buffers.create(c, pages);
+    }
+
+    /// Takes away the buffer of a cookie, whose pages are given up.
+    pub fn destroy(&mut self, cookie: u64)
+        requires bare { pages_under cookie (stock_of self.old).buffers ≡ [] }
+        ensures stock { stock_of self.new ≡ destroyed (stock_of self.old) cookie }
+        ensures whole { is_whole self.new ≡ is_whole self.old }
+    {
+        self.buffers.destroy(cookie);
+    }
+
+    /// Takes away all buffers, once all pages are given up.
+    pub fn clear(&mut self)
+        requires { pages_of (stock_of self.old) ≡ [] }
+        ensures stock { stock_of self.new ≡ no_stock }
+        ensures whole { is_whole self.new ≡ true }
+    {
+        self.buffers.clear();
+        self.mapped = None;
+        self.mapped_gone = 0;
+    }
+
+    // How many pages are left that were mapped for a CREATE.
+    fn mapped_held(&self) -> u32
+        ensures count { result ≡ length (stock_of self.now).mapped }
+        ensures few { result ≤ 8192 }
+        ensures place { 0 < result → self.now.mapped_gone + result ≤ 8192 }
+    {
+        match &self.mapped {
+            Some(pages) => pages.len().saturating_sub(self.mapped_gone),
+            None => 0,
+        }
+    }
+
+    /// How many pages are held, at most 532480 (65 times 8192).
+    pub fn held(&self) -> u32
+        ensures count { result ≡ length (pages_of (stock_of self.now)) }
+        ensures few { result ≤ 532480 }
+    {
+        self.mapped_held() + self.buffers.held()
+    }
+
+    /// Whether no page is held.
+    pub fn is_bare(&self) -> bool
+        ensures { result ≡ (length (pages_of (stock_of self.now)) == 0) }
+    {
+        self.held() == 0
+    }
+
+    /// The page of this number of those that are held, in the order in which they are given up.
+    pub fn hold_at(&self, i: u32) -> Hold
+        requires { i < length (pages_of (stock_of self.now)) }
+        ensures { slice_get (pages_of (stock_of self.now)) i ≡ Some result }
+    {
+        let held = self.mapped_held();
+        if i >= held {
+            return self.buffers.hold(i - held);
+        }
+        let Some(pages) = &self.mapped else {
+            unreachable!();
+        };
+        pages.get(self.mapped_gone + i)
+    }
+
+    /// How many pages are held of the buffer of this cookie.
+    pub fn held_of(&self, cookie: u64) -> u32
+        ensures { result ≡ length (pages_under cookie (stock_of self.now).buffers) }
+    {
+        match self.buffers.place_of(cookie) {
+            Some(k) => self.buffers.held_at(k),
+            None => 0,
+        }
+    }
+
+    /// Unmaps the first of all pages.
+    pub fn unmap_first<W: Words>(&mut self, words: &mut W) -> Access
+        requires some { 0 < length (pages_of (stock_of self.old)) }
+        requires may { (h : Hold) → slice_get (pages_of (stock_of self.old)) 0 ≡ Some h → W.may words.old (unmap_want h) }
+        ensures access { (h : Hold) → slice_get (pages_of (stock_of self.old)) 0 ≡ Some h → wanted result ≡ unmap_want h }
+        ensures made { W.makes words.old result words.new }
+        ensures stock { stock_of self.new ≡ without_first (stock_of self.old) }
+    {
+        let hold = self.hold_at(0);
+        if self.mapped_held() > 0 {
+            self.mapped_gone += 1;
+        } else {
+            self.buffers.give_up_first();
+        }
+        unmap(&hold, words)
+    }
+
+    /// Unmaps the first page of the buffer of this cookie.
+    pub fn unmap_of<W: Words>(&mut self, cookie: u64, words: &mut W) -> Access
+        requires some { 0 < length (pages_under cookie (stock_of self.old).buffers) }
+        requires may { (h : Hold) → slice_get (pages_under cookie (stock_of self.old).buffers) 0 ≡ Some h → W.may words.old (unmap_want h) }
+        ensures access { (h : Hold) → slice_get (pages_under cookie (stock_of self.old).buffers) 0 ≡ Some h → wanted result ≡ unmap_want h }
+        ensures made { W.makes words.old result words.new }
+        ensures stock { stock_of self.new ≡ record { mapped = (stock_of self.old).mapped; buffers = less_one cookie (stock_of self.old).buffers } }
+        ensures whole { is_whole self.new ≡ is_whole self.old }
+    {
+        let Some(k) = self.buffers.place_of(cookie) else {
+            unreachable!();
+        };
+        let hold = self.buffers.hold_at(k, 0);
+        self.buffers.give_up_at(k);
+        unmap(&hold, words)
+    }
+}

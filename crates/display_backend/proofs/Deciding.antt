@@ -6,7 +6,7 @@ use Rattle.pv_words.specs.declared.grant.GrantRefusal.TheVariants.{NoEntry}
 use Rattle.pv_words.specs.declared.grant.Hold.{Hold}
 use Rattle.pv_words.specs.declared.grant.Mode.TheVariants.{Read}
 use Rattle.pv_words.specs.Memory.{place_of}
-use Rattle.pv_words.specs.Plan.{Plan, Finished, Make, Want, aim_of, wanted, Goes, MayGo, mapped, joined}
+use Rattle.pv_words.specs.Plan.{Plan, Finished, Want, Goes, MayGo, mapped, joined}
 use Rattle.grant_table.specs.Mapping.{flags_plan}
 use Rattle.displ_wire.specs.declared.Asked.{Asked}
 use Rattle.displ_wire.specs.declared.Asked.TheVariants as asked
@@ -16,13 +16,11 @@ use Rattle.displ_wire.specs.declared.Request.{Request}
 use Rattle.display_buffers.specs.Buffers.{check_of}
 use Rattle.display_buffers.specs.Pixels.{page_count}
 use Rattle.display_backend.specs.Stock.{Stock, bared}
-use Rattle.page_directory.specs.declared.walk.Walk.{Walk}
 use Rattle.page_directory.specs.declared.walk.Walked.{Walked}
-use Rattle.page_directory.specs.Walking.{walk_plan, enter_plan, entry_plan, rest_plan, with_map, pages_of}
-use Rattle.page_directory.specs.WalkLeft.{entered, walk_left, count_of}
+use Rattle.page_directory.specs.Walking.{walk_plan, entry_plan, rest_plan, with_map, pages_of}
 use Rattle.link_core.specs.declared.link.Link.{Link}
 use Rattle.link_core.specs.Activities.{Joined, Page, stores, answer_plan, publish_plan, slot_place}
-use Rattle.link_core.specs.Link.{answer_left, held_of, idle, joined_of, page_of, rsp_of}
+use Rattle.link_core.specs.Link.{held_of, idle, joined_of, page_of, rsp_of}
 use Rattle.link_core.specs.Order.{Order, Act, Either, Stand, GoesOn, MayChoose, is_in_page}
 use Rattle.link_core.proofs.Links.{whole_answer}
 use Rattle.link_core.proofs.Steps.{place_wanted}
@@ -35,7 +33,7 @@ use Rattle.display_backend.specs.Goes.{Comes, Begins}
 use Rattle.display_backend.specs.Machine.{Site, Hand, is_accepted, no_memory}
 use Rattle.display_backend.specs.Reply.{reply_to}
 use Rattle.display_backend.specs.Whole.{ComesTo, InHand, Settled, Creates}
-use Rattle.display_backend.specs.Work.{Work, End, Listed, Answered, display, answers, answer_of, decides, frees, freeing, maps, part_of, starved, status_of}
+use Rattle.display_backend.specs.Work.{Work, End, Listed, Answered, display, answers, answer_of, decides, frees, freeing, maps, part_of, starved}
 use Rattle.display_backend.proofs.Choices.{answers_is}
 use Rattle.display_backend.proofs.Lists.{get_map}
 

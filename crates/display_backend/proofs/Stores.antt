@@ -1,8 +1,7 @@
 -- What stays true of the request in hand, and of the pages that are held for buffers.
-use Rattle.std.proofs.Common.{◌≡◌, inl, inr, ℕ, ◌<◌, ℤ, pos, negsuc, Bool, true, false, not, List, [], Option, Some, None, Result, Ok, Err, length, is_some, refl, sym, ap, subst, ◌∙◌, arith, if◌then◌else◌}
+use Rattle.std.proofs.Common.{◌≡◌, inl, inr, ℕ, ◌<◌, ℤ, pos, Bool, true, false, not, List, [], Option, Some, None, Result, Ok, Err, length, is_some, refl, sym, ap, subst, ◌∙◌, arith, if◌then◌else◌}
 use Rattle.std.proofs.lemmas.Bool.{false≢true}
 use Rattle.pv_words.specs.declared.device.State.{State}
-use Rattle.pv_words.specs.declared.grant.Hold.{Hold}
 use Rattle.displ_wire.specs.declared.Asked.{Asked}
 use Rattle.displ_wire.specs.declared.Asked.TheVariants as asked
 use Rattle.displ_wire.specs.declared.Create.{Create}
@@ -11,21 +10,19 @@ use Rattle.displ_wire.specs.declared.buffer.Refused.TheVariants.{NotSupported, E
 use Rattle.displ_wire.specs.declared.buffer.Refused.{Refused}
 use Rattle.displ_wire.specs.Refused.{status_of}
 use Rattle.display_buffers.specs.Buffers.{buffer_of, check_of}
-use Rattle.display_buffers.specs.Pixels.{page_count}
-use Rattle.display_backend.specs.Stock.{Stock, Held, no_stock, pages_of, pages_under, less_one}
+use Rattle.display_backend.specs.Stock.{Stock, Held, no_stock, pages_of, less_one}
 use Rattle.page_directory.specs.declared.walk.Walk.{Walk}
-use Rattle.page_directory.specs.WalkLeft.{count_of}
 use Rattle.display_backend.specs.declared.display.Activity.{Activity}
 use Rattle.display_backend.specs.declared.display.Activity.TheVariants as activity
 use Rattle.display_backend.specs.declared.display.Ending.{Ending}
 use Rattle.display_backend.specs.declared.display.Progress.{Progress}
 use Rattle.display_backend.specs.declared.display.Progress.TheVariants as progress
 use Rattle.display_backend.specs.Activity.{is_open, is_walking, may_hold, MayServe}
-use Rattle.display_backend.specs.Machine.{checked, verdict, is_accepted, no_memory, no_access}
+use Rattle.display_backend.specs.Machine.{checked, verdict, is_accepted}
 use Rattle.display_backend.specs.Reply.{reply_to, status_in}
-use Rattle.display_backend.specs.Whole.{HavePages, HavePagesBut, Settled, IsReady, ComesTo, InHand, is_due, IsDue, Creates, Walks, IsFreeing, Stands, Stored}
+use Rattle.display_backend.specs.Whole.{Settled, IsReady, ComesTo, InHand, is_due, IsDue, IsFreeing, Stands, Stored}
 use Rattle.display_backend.specs.Work.{stock_after}
-use Rattle.display_backend.proofs.Stocks.{have_but, have_less, have_none, have_with, have_without, live_less, some_pages}
+use Rattle.display_backend.proofs.Stocks.{have_but, have_none, have_with, have_without, live_less, some_pages}
 
 may_hold_open : (a : Activity) (o : Bool) → o ≡ true → may_hold a o ≡ true
 may_hold_open activity.Between o e = e

@@ -1,5 +1,5 @@
 -- The walk of a CREATE.
-use Rattle.std.proofs.Common.{◌≡◌, inl, ℕ, ◌<◌, ℤ, Bool, true, false, List, Option, Some, None, Ok, length, is_some, refl, sym, ap, subst, ◌∙◌}
+use Rattle.std.proofs.Common.{◌≡◌, ℕ, ℤ, Bool, true, List, Option, Some, None, length, refl, sym, ap, subst, ◌∙◌}
 use Rattle.std.proofs.lemmas.Bool.{false≢true}
 use Rattle.pv_words.specs.declared.access.Access.{Access}
 use Rattle.pv_words.specs.declared.device.Said.{Said}
@@ -17,7 +17,6 @@ use Rattle.page_directory.specs.declared.walk.Walked.{Walked}
 use Rattle.page_directory.specs.declared.walk.Walked.TheVariants as walked
 use Rattle.page_directory.specs.Joins.{TurnsOrEnds}
 use Rattle.page_directory.specs.WalkLeft.{walk_left, count_of, Counts, PagesByAccess}
-use Rattle.page_directory.specs.WalkLeft as walk
 use Rattle.link_core.specs.declared.link.Link.{Link}
 use Rattle.link_core.specs.Order.{Stand, Between, During, GoesOn}
 use Rattle.link_core.proofs.Steps.{turn_ends, turn_goes_on}
@@ -26,9 +25,9 @@ use Rattle.display_backend.specs.declared.display.Activity.TheVariants as activi
 use Rattle.display_backend.specs.declared.display.Progress.{Progress}
 use Rattle.display_backend.specs.declared.display.Progress.TheVariants as progress
 use Rattle.display_backend.specs.declared.display.Round.{Round}
-use Rattle.display_backend.specs.Activity.{is_open, is_walking}
-use Rattle.display_backend.specs.Display.{stock_in, walk_from}
-use Rattle.display_backend.specs.Goes.{Told, Comes}
+use Rattle.display_backend.specs.Activity.{is_open}
+use Rattle.display_backend.specs.Display.{stock_in}
+use Rattle.display_backend.specs.Goes.{Comes}
 use Rattle.display_backend.specs.Machine.{Site, verdict}
 use Rattle.display_backend.specs.Reply.{reply_to, status_in}
 use Rattle.display_backend.specs.Whole.{Whole, Settled, ComesTo, IsMapped, Creates, Walks, IsWalking, Stands, Stored}

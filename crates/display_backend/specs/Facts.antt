@@ -1,18 +1,17 @@
 -- What is always true of the request in hand, and of the pages that are held for buffers, are facts.
-use Rattle.std.proofs.Common.{◌≡◌, ℕ, ◌<◌, ℤ, Bool, true, List, [], Option, Some, None, length, is_some}
+use Rattle.std.proofs.Common.{ℕ, ℤ, Bool, Option, Some, None}
 use Rattle.std.proofs.Props.{props}
 use Rattle.pv_words.specs.Plan.{Plan, Finished, Make, IsUnfinished}
 use Rattle.displ_wire.specs.declared.Asked.{Asked}
 use Rattle.displ_wire.specs.declared.Asked.TheVariants as asked
 use Rattle.displ_wire.specs.declared.Request.{Request}
-use Rattle.display_backend.specs.Stock.{Stock, Held}
+use Rattle.display_backend.specs.Stock.{Stock}
 use Rattle.page_directory.specs.declared.walk.Walk.{Walk}
-use Rattle.page_directory.specs.WalkLeft.{walk_left, count_of}
 use Rattle.display_backend.specs.declared.display.Activity.{Activity}
 use Rattle.display_backend.specs.declared.display.Activity.TheVariants as activity
 use Rattle.display_backend.specs.declared.display.Progress.{Progress}
 use Rattle.display_backend.specs.declared.display.Progress.TheVariants as progress
-use Rattle.display_backend.specs.Whole.{Settled, IsReady, IsMapped, IsReleased, ComesTo, InHand, IsDue, Creates, Walks, IsWalking, IsFreeing, Stands}
+use Rattle.display_backend.specs.Whole.{IsReady, IsMapped, IsReleased, ComesTo, InHand, IsDue, Creates, Walks, IsWalking, IsFreeing, Stands}
 
 further_prop : {A : Type 0} (p : Plan A) → IsProp (IsUnfinished p)
 further_prop (Finished x) = hlevel props

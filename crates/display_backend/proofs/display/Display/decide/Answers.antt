@@ -1,24 +1,20 @@
-use Rattle.std.proofs.Common.{rules, ◌≡◌, inl, ℕ, ℤ, pos, true, false, map, slice_get, refl, sym, ap, subst, ◌∙◌}
+use Rattle.std.proofs.Common.{rules, ◌≡◌, inl, ℕ, pos, slice_get, refl, sym, ap, subst, ◌∙◌}
 use mir.Syntax.{w32}
 use mir.Val.{SFits, of_z, to_z}
 use Rattle.std.proofs.lemmas.Int.{to_z-of_z}
-use Rattle.pv_words.specs.Plan.{mapped}
-use Rattle.displ_wire.specs.declared.Asked.TheVariants as asked
 use Rattle.displ_wire.specs.declared.Request.{Request}
 use Rattle.display_backend.specs.Stock.{Stock}
 use Rattle.display_backend.specs.Store.{stock_of, is_whole}
 use Rattle.link_core.specs.Link.{joined_of}
-use Rattle.link_core.specs.Order.{Act, MayChoose, GoesOn}
-use Rattle.display_backend.specs.declared.display.Activity.{Activity}
+use Rattle.link_core.specs.Order.{Act, GoesOn}
 use Rattle.display_backend.specs.declared.display.Activity.TheVariants as activity
-use Rattle.display_backend.specs.declared.display.Progress.TheVariants as progress
 use Rattle.display_backend.specs.Activity.{is_open}
 use Rattle.display_backend.specs.Display.{dom_of, parts_of, held_of, parts_in, site_of, stand_of, work_of, answer_from, freeing_plan}
 use Rattle.display_backend.specs.Machine.{Hand, verdict, is_accepted}
 use Rattle.display_backend.specs.Reply.{reply_to, status_in}
-use Rattle.display_backend.specs.Work.{Answered, answers, decides, freeing, display, Work}
+use Rattle.display_backend.specs.Work.{Answered, decides, freeing, display, Work}
 use Rattle.display_backend.proofs.Choices.{all_both, answers_is, comes_on, begins_as, may_choose_as}
-use Rattle.display_backend.proofs.Deciding.{joined_here, decides_refused, decides_plain, decides_maps, decides_frees, frees_stock, accepted_zero, not_accepted}
+use Rattle.display_backend.proofs.Deciding.{joined_here, decides_refused, decides_plain, decides_frees, frees_stock, accepted_zero, not_accepted}
 use Rattle.display_backend.proofs.Freeing.{stored_frees, whole_frees}
 use Rattle.display_backend.proofs.Lists.{got}
 use Rattle.display_backend.proofs.Serving.{may_act, begins_act}

@@ -1,4 +1,4 @@
-use Rattle.std.proofs.Common.{◌≡◌, ◌+◌, ◌<◌, ◌==◌, ◌++◌, Bool, true, false, List, [], Some, None, length, length-append, sym, ap, subst, ◌∙◌, arith}
+use Rattle.std.proofs.Common.{◌≡◌, ◌<◌, ◌==◌, ◌++◌, true, false, List, [], Some, None, length, length-append, sym, ap, subst, ◌∙◌, arith}
 use Rattle.std.proofs.lemmas.Bool.Decides.{nat_tests}
 use Rattle.pv_words.specs.declared.device.Said.{Said}
 use Rattle.pv_words.specs.declared.device.Said.TheVariants as said
@@ -6,7 +6,6 @@ use Rattle.pv_words.specs.declared.grant.Hold.{Hold}
 use Rattle.pv_words.specs.Plan.{Finished}
 use Rattle.display_backend.specs.Stock.{pages_of}
 use Rattle.display_backend.specs.Store.{stock_of}
-use Rattle.link_core.specs.Link.{held_of as link_held}
 use Rattle.link_core.specs.Order.{Stand, Went}
 use Rattle.display_backend.specs.declared.display.Activity.{Activity}
 use Rattle.display_backend.specs.Display.{given_up, stand_of, stand_in, work_of, all_held, leaving_plan, end_of, reason_of}

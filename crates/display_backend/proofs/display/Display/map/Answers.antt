@@ -1,14 +1,11 @@
-use Rattle.std.proofs.Common.{◌≡◌, ℕ, map, slice_get, refl, sym, ap, subst, ◌∙◌}
-use Rattle.pv_words.specs.declared.grant.Mode.TheVariants.{Read}
-use Rattle.pv_words.specs.Plan.{Plan, MayGo, mapped}
+use Rattle.std.proofs.Common.{ℕ, slice_get, refl, sym, ap, subst}
+use Rattle.pv_words.specs.Plan.{Plan, MayGo}
 use Rattle.displ_wire.specs.declared.Request.{Request}
 use Rattle.page_directory.specs.declared.walk.Walked.{Walked}
-use Rattle.page_directory.specs.Walking.{walk_plan, pages_of}
+use Rattle.page_directory.specs.Walking.{pages_of}
 use Rattle.page_directory.specs.WalkLeft.{walk_left}
-use Rattle.link_core.specs.Link.{joined_of}
-use Rattle.link_core.specs.Order.{Either}
 use Rattle.display_backend.specs.Activity.{is_open}
-use Rattle.display_backend.specs.Display.{dom_of, parts_of, held_of, parts_in, site_of, stand_of, work_of, answer_from}
+use Rattle.display_backend.specs.Display.{dom_of, parts_of, held_of, parts_in, site_of, work_of, answer_from}
 use Rattle.display_backend.specs.Machine.{Hand, no_memory}
 use Rattle.display_backend.specs.Reply.{reply_to}
 use Rattle.display_backend.specs.Work.{Listed, Answered, maps, starved}

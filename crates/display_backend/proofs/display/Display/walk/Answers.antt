@@ -1,16 +1,15 @@
-use Rattle.std.proofs.Common.{rules, ◌≡◌, inl, Some, None, is_some, refl, sym, ap, subst, ◌∙◌}
+use Rattle.std.proofs.Common.{rules, inl, is_some, refl, sym, ap, subst, ◌∙◌}
 use Rattle.display_backend.specs.Stock.{Stock}
 use Rattle.display_backend.specs.Store.{stock_of, is_whole}
-use Rattle.page_directory.specs.WalkLeft.{walk_left, held_by, count_of}
+use Rattle.page_directory.specs.WalkLeft.{walk_left}
 use Rattle.page_directory.specs.WalkLeft.{dom_of as walked_dom}
 use Rattle.link_core.specs.Order.{Between}
 use Rattle.display_backend.specs.declared.display.Activity.TheVariants as activity
 use Rattle.display_backend.specs.declared.display.Progress.TheVariants as progress
-use Rattle.display_backend.specs.Activity.{is_open, is_walking}
+use Rattle.display_backend.specs.Activity.{is_open}
 use Rattle.display_backend.specs.Display.{dom_of, parts_of, parts_in, site_of, stand_of, work_of}
 use Rattle.display_backend.specs.Whole.{Creates}
-use Rattle.display_backend.proofs.Stays.{in_walked}
-use Rattle.display_backend.proofs.Walking.{turns_at, walk_goes, walk_maps, walk_denied, all_walked, kept_stock, creates_settled, is_mapped, told_mapped, stored_hand, stored_walking, whole_walking}
+use Rattle.display_backend.proofs.Walking.{turns_at, walk_goes, walk_maps, walk_denied, kept_stock, stored_walking, whole_walking}
 use Rattle.display_backend.proofs.Works.{same_work, stock_as, open_as, connecting_as, stands_between}
 use Rattle.display_backend.proofs.display.Display.walk.Goals as goal
 

@@ -235,10 +235,6 @@ sleeps_is w ls l p g two rest =
     ap (λ js. Act w (mapped (λ y. Slept y) (sleep_all js))) p
     ∙ ap (λ (x : Plan Bool). Act w (mapped (λ y. Slept y) x)) (sym (sleeping_at ls 0 l g rest two))
 
-asked_again : (o : Option State) → asked_of o ≡ action.Renew → ⊥
-asked_again None h = let wrong : ⊥ = cc in wrong
-asked_again (Some s) h = let wrong : ⊥ = cc in wrong
-
 -- the nodes are all there: a Connect begins at the first part
 pub connect_begins : (site : Site) (nodes : List NodeValue) (ls : List Link) (l : Link) → slice_get ls 0 ≡ Some l → idle l ≡ true → dom_of l ≡ site.dom → 0 < site.parts → fault_in (all_refs nodes 0 site.parts) ≡ None → connect_all site (all_refs nodes 0 site.parts) ≡ connecting site nodes 0 ls
 connect_begins site nodes ls l g rest d some none =
@@ -329,15 +325,3 @@ left_entering site w = (refl, refl)
 pub renew_entering : (site : Site) (w : Work) → (said_at w Renewed ≡ Some (said.State state.InitWait)) × (entered w state.InitWait ≡ settled site w Renewed)
 unfolding said_at settled
 renew_entering site w = (refl, refl)
-
--- a backend that waits again isn't connected
-pub renew_apart : (s : State) (c : Connection) → action_from s c ≡ action.Renew → is_connected s ≡ false
-renew_apart state.Unknown c h = refl
-renew_apart state.Initialising c h = refl
-renew_apart state.InitWait c h = refl
-renew_apart state.Initialised c h = refl
-renew_apart state.Connected c h = absurd (asked_again c.ending h)
-renew_apart state.Closing c h = refl
-renew_apart state.Closed c h = refl
-renew_apart state.Reconfiguring c h = refl
-renew_apart state.Reconfigured c h = refl

@@ -1,5 +1,5 @@
 -- What the request in hand leads to.
-use Rattle.std.proofs.Common.{◌≡◌, ◌⊎◌, inl, inr, ℕ, zero, suc, ℤ, pos, negsuc, Bool, true, false, cond, nat_lt, List, [], ◌∷◌, Option, Some, None, Err, Ok, length, map, slice_get, refl, sym, ap, subst, ◌∙◌}
+use Rattle.std.proofs.Common.{◌≡◌, ◌⊎◌, inl, inr, ℕ, zero, suc, ℤ, pos, negsuc, Bool, true, false, cond, nat_lt, List, [], ◌∷◌, Option, Some, None, Err, length, map, slice_get, refl, sym, ap, subst, ◌∙◌}
 use Rattle.pv_words.specs.declared.access.Access.{Access}
 use Rattle.pv_words.specs.declared.device.Said.{Said}
 use Rattle.pv_words.specs.declared.grant.GrantRefusal.TheVariants.{NoEntry}
@@ -13,8 +13,6 @@ use Rattle.displ_wire.specs.declared.Asked.TheVariants as asked
 use Rattle.displ_wire.specs.declared.Config.{Config}
 use Rattle.displ_wire.specs.declared.Create.{Create}
 use Rattle.displ_wire.specs.declared.Request.{Request}
-use Rattle.display_buffers.specs.Buffers.{check_of}
-use Rattle.display_buffers.specs.Pixels.{page_count}
 use Rattle.display_backend.specs.Stock.{Stock, bared}
 use Rattle.page_directory.specs.declared.walk.Walked.{Walked}
 use Rattle.page_directory.specs.Walking.{walk_plan, entry_plan, rest_plan, with_map, pages_of}
@@ -26,13 +24,10 @@ use Rattle.link_core.proofs.Links.{whole_answer}
 use Rattle.link_core.proofs.Steps.{place_wanted}
 use Rattle.display_backend.specs.declared.display.Activity.{Activity}
 use Rattle.display_backend.specs.declared.display.Activity.TheVariants as activity
-use Rattle.display_backend.specs.declared.display.Progress.{Progress}
-use Rattle.display_backend.specs.declared.display.Progress.TheVariants as progress
 use Rattle.display_backend.specs.Display.{answer_from, freeing_plan, stock_in}
 use Rattle.display_backend.specs.Goes.{Comes, Begins}
 use Rattle.display_backend.specs.Machine.{Site, Hand, is_accepted, no_memory}
 use Rattle.display_backend.specs.Reply.{reply_to}
-use Rattle.display_backend.specs.Whole.{ComesTo, InHand, Settled, Creates}
 use Rattle.display_backend.specs.Work.{Work, End, Listed, Answered, display, answers, answer_of, decides, frees, freeing, maps, part_of, starved}
 use Rattle.display_backend.proofs.Choices.{answers_is}
 use Rattle.display_backend.proofs.Lists.{get_map}
@@ -93,13 +88,6 @@ begins_walk site o v w u gref count p (Some a) event new e f g =
     subst (λ (x : Order Work End). Begins site x (Some a) event new) (sym e)
     (inr (walk_in_grant site.frames site.grants site.dom gref count a now.0 now.1, now))
 
--- what is known of an accepted CREATE
-pub creates_now : (q : Request) (c : Create) (hand : Option Request) (p : Progress) (s : Stock) (whole : Bool) (count : ℕ) → hand ≡ Some q → q.asked ≡ asked.Create c → p ≡ progress.Decided → check_of s.buffers c ≡ Ok tt → count ≡ page_count c.buffer_sz → InHand hand p s whole → Creates q.asked p s count
-creates_now q c hand p s whole count e f d fine long h =
-    let comes : ComesTo p q.asked s whole = subst (λ (x : Option Request). InHand x p s whole) e h in
-    let rest : Settled s = subst (λ (x : Progress). ComesTo x q.asked s whole) d comes in
-    subst (λ (x : Asked). Creates x p s count) (sym f) (d, fine, long, rest)
-
 -- the order of work by what is asked
 pub decides_refused : (site : Site) (w : Work) (h : Hand) (asks : Asked) (b : Bool) → b ≡ false → decides site w h asks b ≡ answers w h (part_of w h)
 decides_refused site w h (asked.Create c) b e = ap (decides site w h (asked.Create c)) e
@@ -110,9 +98,6 @@ decides_refused site w h asked.Other b e = refl
 pub decides_plain : (site : Site) (w : Work) (h : Hand) (asks : Asked) (b : Bool) → ((x : Config) × (asks ≡ asked.Config x)) ⊎ (asks ≡ asked.Other) → decides site w h asks b ≡ answers w h (part_of w h)
 decides_plain site w h asks b (inl e) = ap (λ x. decides site w h x b) e.1
 decides_plain site w h asks b (inr e) = ap (λ x. decides site w h x b) e
-
-pub decides_maps : (site : Site) (w : Work) (h : Hand) (asks : Asked) (c : Create) (b : Bool) → asks ≡ asked.Create c → b ≡ true → decides site w h asks b ≡ maps site w h c (part_of w h)
-decides_maps site w h asks c b e f = ap (λ x. decides site w h x b) e ∙ ap (decides site w h (asked.Create c)) f
 
 pub decides_frees : (site : Site) (w : Work) (h : Hand) (asks : Asked) (cookie : ℕ) (b : Bool) (j : Joined) (s : Stock) → asks ≡ asked.Destroy cookie → b ≡ true → part_of w h ≡ Some j → w.stock ≡ s → decides site w h asks b ≡ Act (freeing w cookie) (freeing_plan cookie s)
 decides_frees site w h asks cookie b j s e f g i =

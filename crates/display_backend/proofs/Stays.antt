@@ -1,8 +1,7 @@
 -- Accesses that lie in the pages of one link lie in those of all.
-use Rattle.std.proofs.Common.{◌≡◌, inl, inr, ℕ, zero, suc, ◌<◌, ◌++◌, Bool, true, false, List, [], ◌∷◌, Option, Some, None, length, slice_get, IfSome, sym, subst, if◌then◌else◌}
+use Rattle.std.proofs.Common.{◌≡◌, inl, inr, ℕ, zero, suc, ◌<◌, ◌++◌, Bool, true, false, List, [], ◌∷◌, Option, Some, None, length, slice_get, sym, subst, if◌then◌else◌}
 use Rattle.pv_words.specs.declared.place.Place.TheVariants.{Cell, Grant}
 use Rattle.pv_words.specs.declared.access.Access.{Access}
-use Rattle.pv_words.specs.declared.access.Access.TheVariants as access
 use Rattle.pv_words.specs.declared.grant.Hold.{Hold}
 use Rattle.pv_words.specs.Held.{Has, Covers, CoversToWrite}
 use Rattle.pv_words.specs.Plan.{Want, Load, Store, Swap, Clear, wanted}
@@ -10,7 +9,6 @@ use Rattle.grant_table.specs.Mapping.{unmap_want}
 use Rattle.display_backend.specs.Stock.{Stock, pages_of}
 use Rattle.page_directory.specs.declared.walk.Walk.{Walk}
 use Rattle.page_directory.specs.WalkLeft.{held_by}
-use Rattle.page_directory.specs.WalkLeft.{LiesIn as WalkLies}
 use Rattle.link_core.specs.declared.link.Link.{Link}
 use Rattle.link_core.specs.Link.{held_of}
 use Rattle.link_core.specs.Stays.{LiesIn, AccessIn}
@@ -84,25 +82,6 @@ in_walk None k w s ls e h = tt
 in_walk (Some a) k w s ls e h =
     subst (λ (o : Option Walk). LiesIn (walk_pages o ++ pages_of s ++ all_held ls) (wanted a)) (sym e)
     (lies_left (wanted a) (held_by w ++ pages_of s) (all_held ls) (lies_left (wanted a) (held_by w) (pages_of s) h))
-
-walk_lies : (held : List Hold) (a : Access) → WalkLies held a → LiesIn held (wanted a)
-walk_lies held (access.Load (Cell d f w) v) h = h
-walk_lies held (access.Store (Cell d f w) v) h = h
-walk_lies held (access.Cas (Cell d f w) old new seen) h = h
-walk_lies held (access.Clear (Cell d f w) mask seen) h = h
-walk_lies held (access.Load (Grant d g half) v) h = tt
-walk_lies held (access.Store (Grant d g half) v) h = tt
-walk_lies held (access.Cas (Grant d g half) old new seen) h = tt
-walk_lies held (access.Clear (Grant d g half) mask seen) h = tt
-
-pub in_walked : (held : List Hold) (access : Option Access) → IfSome access (λ a. WalkLies held a) → AccessIn held access
-in_walked held None h = tt
-in_walked held (Some a) h = walk_lies held a h
-
--- where nothing is held, an access is one to a grant entry
-pub in_none : (access : Option Access) (held : List Hold) → AccessIn [] access → AccessIn held access
-in_none None held h = tt
-in_none (Some a) held h = lies_left (wanted a) [] held h
 
 -- an unmap accesses no page
 pub in_unmap : (pages : List Hold) (access : Option Access) (a : Access) (h : Hold) → access ≡ Some a → wanted a ≡ unmap_want h → AccessIn pages access

@@ -33,9 +33,6 @@ bare_stripped s e =
     ap (λ hs. stock hs (all_bared s.buffers)) (sym (left_nil s.mapped (buffer_pages s.buffers) e))
     ∙ ap (stock s.mapped) (bare_buffers s.buffers (right_nil s.mapped (buffer_pages s.buffers) e))
 
-pub bare_mapped : (s : Stock) → pages_of s ≡ [] → s.mapped ≡ []
-bare_mapped s e = left_nil s.mapped (buffer_pages s.buffers) e
-
 pub bare_freed : (cookie : ℕ) (bs : List Held) → pages_under cookie bs ≡ [] → bared cookie bs ≡ bs
 bare_freed cookie [] e = refl
 bare_freed cookie (b ∷ bs) e = by_test (has_cookie cookie b) e (bare_freed cookie bs)

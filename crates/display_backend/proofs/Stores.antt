@@ -218,11 +218,6 @@ settled_taking {dom} {o} {a} {hand} {status} {reply} {p} {k} {s} {whole} opened 
     let both = stands_at dom a activity.Taking hand status p k s whole e (st.stands opened) in
     both.1
 
--- the request that is answered
-pub hand_due : (p : Progress) (status : ℤ) (hand : Option Request) → IsDue hand p status → (q : Request) × (hand ≡ Some q) × (is_due p q.asked status ≡ true)
-hand_due p status None due = absurd due
-hand_due p status (Some q) due = (q, refl, due)
-
 -- a Close begins, and goes on
 pub stored_leaving : {dom : ℕ} {o o' : Bool} {a : Activity} {end : Ending} {hand : Option Request} {status : ℤ} {reply : List ℕ} {p : Progress} {k : Option Walk} {s t : Stock} {whole whole' : Bool} → o' ≡ false → is_walking a ≡ false → Stored dom o a hand status reply p k s whole → Stored dom o' (activity.Leaving end) hand status reply p k t whole'
 stored_leaving shut quiet st = stored_shut shut st.ready (st.walks quiet) (λ h. absurd (false≢true (sym h)))

@@ -1,5 +1,5 @@
 -- The walk of a CREATE.
-use Rattle.std.proofs.Common.{◌≡◌, ℕ, ℤ, Bool, true, List, Option, Some, None, length, refl, sym, ap, subst, ◌∙◌}
+use Rattle.std.proofs.Common.{◌≡◌, ℕ, ℤ, Bool, true, List, Option, Some, None, refl, sym, ap, subst, ◌∙◌}
 use Rattle.std.proofs.lemmas.Bool.{false≢true}
 use Rattle.pv_words.specs.declared.access.Access.{Access}
 use Rattle.pv_words.specs.declared.device.Said.{Said}
@@ -7,7 +7,7 @@ use Rattle.pv_words.specs.declared.device.Said.TheVariants as said
 use Rattle.pv_words.specs.declared.device.State.{State}
 use Rattle.pv_words.specs.declared.grant.GrantRefusal.{GrantRefusal}
 use Rattle.pv_words.specs.declared.grant.Hold.{Hold}
-use Rattle.pv_words.specs.Plan.{Plan, Finished, Want, MayGo, IsUnfinished, mapped}
+use Rattle.pv_words.specs.Plan.{Plan, Finished, IsUnfinished, mapped}
 use Rattle.displ_wire.specs.declared.Asked.{Asked}
 use Rattle.displ_wire.specs.declared.Asked.TheVariants as asked
 use Rattle.displ_wire.specs.declared.Request.{Request}
@@ -16,7 +16,7 @@ use Rattle.page_directory.specs.declared.walk.Walk.{Walk}
 use Rattle.page_directory.specs.declared.walk.Walked.{Walked}
 use Rattle.page_directory.specs.declared.walk.Walked.TheVariants as walked
 use Rattle.page_directory.specs.Joins.{TurnsOrEnds}
-use Rattle.page_directory.specs.WalkLeft.{walk_left, count_of, Counts, PagesByAccess}
+use Rattle.page_directory.specs.WalkLeft.{walk_left, count_of, PagesByAccess}
 use Rattle.link_core.specs.declared.link.Link.{Link}
 use Rattle.link_core.specs.Order.{Stand, Between, During, GoesOn}
 use Rattle.link_core.proofs.Steps.{turn_ends, turn_goes_on}
@@ -30,7 +30,7 @@ use Rattle.display_backend.specs.Display.{stock_in}
 use Rattle.display_backend.specs.Goes.{Comes}
 use Rattle.display_backend.specs.Machine.{Site, verdict}
 use Rattle.display_backend.specs.Reply.{reply_to, status_in}
-use Rattle.display_backend.specs.Whole.{Whole, Settled, ComesTo, IsMapped, Creates, Walks, IsWalking, Stands, Stored}
+use Rattle.display_backend.specs.Whole.{Whole, Settled, ComesTo, Creates, Walks, IsWalking, Stands, Stored}
 use Rattle.display_backend.specs.Work.{Work, End, Listed, display, said_at, settled, after_walk}
 use Rattle.display_backend.proofs.Out.{unfinished_mapped}
 use Rattle.display_backend.proofs.Stores.{stored_open, one_ready, one_told}
@@ -39,9 +39,6 @@ use Rattle.display_backend.proofs.Stores.{stored_open, one_ready, one_told}
 pub turns_at : (frames grants : ℕ → ℕ) (m n : ℕ) (old new : Walk) (access : Option Access) (last : Option Walked) → m ≡ n → TurnsOrEnds (walk_left (frames m) (grants m) old) access last (walk_left (frames m) (grants m) new) → TurnsOrEnds (walk_left (frames n) (grants n) old) access last (walk_left (frames n) (grants n) new)
 turns_at frames grants m n old new access last e t =
     subst (λ k. TurnsOrEnds (walk_left (frames k) (grants k) old) access last (walk_left (frames k) (grants k) new)) e t
-
-pub may_at : (may : Want → Type 0) (frames grants : ℕ → ℕ) (m n : ℕ) (w : Walk) → m ≡ n → MayGo may (walk_left (frames m) (grants m) w) → MayGo may (walk_left (frames n) (grants n) w)
-may_at may frames grants m n w e h = subst (λ k. MayGo may (walk_left (frames k) (grants k) w)) e h
 
 -- a step of a walk that isn't over then
 pub walk_goes : (site : Site) (w v : Work) (p q : Plan Walked) (access : Option Access) (last : Option Walked) → last ≡ None → v ≡ w → TurnsOrEnds p access last q → Comes site w (mapped Listed p) access None (During v (mapped Listed q))
@@ -72,11 +69,6 @@ comes_further site w v p None event new e u c =
     absurd (subst (λ (x : Plan End). IsUnfinished x) c.over (unfinished_mapped (λ x. Listed x) p u))
 comes_further site w v p (Some a) event new e u c = subst (λ (x : Work). GoesOn (display site) x (mapped Listed p) (Some a) event new) e c
 
--- all pages are mapped
-pub all_walked : (n : ℕ) (access : Option Access) (last : Option Walked) (pages : List Hold) → last ≡ Some (walked.Pages pages) → Counts n last access → PagesByAccess access last → length pages ≡ n
-all_walked n None last pages e c h = absurd (subst (λ (x : Option Walked). PagesByAccess None x) e h)
-all_walked n (Some a) last pages e c h = subst (λ (x : Option Walked). Counts n x (Some a)) e c
-
 abbrev stock : List Hold → List Held → Stock
 stock mapped buffers = record { mapped = mapped; buffers = buffers }
 
@@ -95,23 +87,6 @@ creates_decided (asked.Create c) p s count h = h.0
 creates_decided (asked.Destroy cookie) p s count h = absurd h
 creates_decided (asked.Config c) p s count h = absurd h
 creates_decided asked.Other p s count h = absurd h
-
-mapped_all : (asks : Asked) (p : Progress) (s : Stock) (count : ℕ) (pages : List Hold) (whole : Bool) → length pages ≡ count → whole ≡ true → Creates asks p s count → IsMapped asks (stock pages s.buffers) whole
-mapped_all (asked.Create c) p s count pages whole long fine h = ((h.1, long ∙ h.2, fine), h.3.1)
-mapped_all (asked.Destroy cookie) p s count pages whole long fine h = absurd h
-mapped_all (asked.Config c) p s count pages whole long fine h = absurd h
-mapped_all asked.Other p s count pages whole long fine h = absurd h
-
-pub is_mapped : (asks : Asked) (p : Progress) (s t : Stock) (count : ℕ) (pages : List Hold) (whole : Bool) → t ≡ stock pages s.buffers → length pages ≡ count → whole ≡ true → Creates asks p s count → IsMapped asks t whole
-is_mapped asks p s t count pages whole e long fine h =
-    subst (λ (x : Stock). IsMapped asks x whole) (sym e) (mapped_all asks p s count pages whole long fine h)
-
--- the verdict stands
-pub told_mapped : (asks : Asked) (p : Progress) (s t : Stock) (count : ℕ) (pages : List Hold) (status : ℤ) → t ≡ stock pages s.buffers → Creates asks p s count → status ≡ status_in p (verdict s.buffers asks) → status ≡ status_in progress.Mapped (verdict t.buffers asks)
-told_mapped asks p s t count pages status e h told =
-    told
-    ∙ (ap (λ x. status_in x (verdict s.buffers asks)) (creates_decided asks p s count h)
-    ∙ ap (λ (x : Stock). verdict x.buffers asks) (sym e))
 
 -- a request is in hand between two activities
 pub stored_hand : (dom : ℕ) (o : Bool) (a : Activity) (q : Request) (hand : Option Request) (status : ℤ) (reply : List ℕ) (p : Progress) (k : Option Walk) (s : Stock) (whole : Bool) → o ≡ true → a ≡ activity.Between → hand ≡ Some q → reply ≡ reply_to q status → k ≡ None → status ≡ status_in p (verdict s.buffers q.asked) → ComesTo p q.asked s whole → Stored dom o a hand status reply p k s whole

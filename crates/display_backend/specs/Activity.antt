@@ -7,16 +7,6 @@ use Rattle.display_backend.specs.declared.display.Activity.TheVariants as activi
 use Rattle.display_backend.specs.declared.display.Ending.{Ending}
 use Rattle.display_backend.specs.declared.display.Ending.TheVariants as ending
 
-abbrev pub is_between : Activity → Bool
-is_between activity.Between = true
-is_between (activity.Connecting part) = false
-is_between (activity.Leaving end) = false
-is_between activity.Taking = false
-is_between activity.Walking = false
-is_between (activity.Freeing cookie) = false
-is_between activity.Answering = false
-is_between (activity.Sleeping part) = false
-
 abbrev pub is_connected : State → Bool
 is_connected state.Unknown = false
 is_connected state.Initialising = false

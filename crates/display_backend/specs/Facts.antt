@@ -11,17 +11,11 @@ use Rattle.display_backend.specs.declared.display.Activity.{Activity}
 use Rattle.display_backend.specs.declared.display.Activity.TheVariants as activity
 use Rattle.display_backend.specs.declared.display.Progress.{Progress}
 use Rattle.display_backend.specs.declared.display.Progress.TheVariants as progress
-use Rattle.display_backend.specs.Whole.{IsReady, IsMapped, IsReleased, ComesTo, InHand, IsDue, Creates, Walks, IsWalking, IsFreeing, Stands}
+use Rattle.display_backend.specs.Whole.{IsMapped, IsReleased, ComesTo, InHand, IsDue, Creates, Walks, IsWalking, IsFreeing, Stands}
 
 further_prop : {A : Type 0} (p : Plan A) → IsProp (IsUnfinished p)
 further_prop (Finished x) = hlevel props
 further_prop (Make want note more) = hlevel props
-
-ready_prop : (asks : Asked) (s : Stock) (whole : Bool) → IsProp (IsReady asks s whole)
-ready_prop (asked.Create c) s whole = hlevel props
-ready_prop (asked.Destroy cookie) s whole = hlevel props
-ready_prop (asked.Config c) s whole = hlevel props
-ready_prop asked.Other s whole = hlevel props
 
 mapped_prop : (asks : Asked) (s : Stock) (whole : Bool) → IsProp (IsMapped asks s whole)
 mapped_prop (asked.Create c) s whole = hlevel props

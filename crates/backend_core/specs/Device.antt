@@ -1,11 +1,11 @@
 -- Where a device stands, by its kind.
-use Rattle.std.specs.Prelude.{ℕ, nat_lt, Bool, false, List}
+use Rattle.std.specs.Prelude.{ℕ, Bool, List}
 use Rattle.pv_words.specs.declared.device.HostEvent.{HostEvent}
-use Rattle.pv_words.specs.declared.device.HostEvent.TheVariants as host
 use Rattle.pv_words.specs.declared.grant.Hold.{Hold}
 use Rattle.link_core.specs.Order.{Stand}
 use Rattle.display_backend.specs.Display as display
 use Rattle.display_backend.specs.Machine.{Site}
+use Rattle.display_backend.specs.Waiting.{is_for}
 use Rattle.display_backend.specs.Work.{Work, End}
 use Rattle.backend_core.specs.declared.device.Device.{Device}
 use Rattle.backend_core.specs.declared.device.Device.TheVariants.{Display}
@@ -30,16 +30,6 @@ held_of (Display d) = display.held_of d
 abbrev pub stand_of : Site → Device → Stand Work End
 stand_of site (Display d) = display.stand_of site d
 
--- a host tells a display of so many connectors of a blank of one of them, or that one is to show its picture
-abbrev pub is_for_display : ℕ → HostEvent → Bool
-is_for_display connectors (host.Blank c) = nat_lt c connectors
-is_for_display connectors (host.Show c) = nat_lt c connectors
-is_for_display connectors (host.Tick s n) = false
-is_for_display connectors (host.Touch t) = false
-is_for_display connectors (host.Key code pressed) = false
-is_for_display connectors (host.Motion x y z) = false
-is_for_display connectors (host.Position x y z) = false
-
 -- the event is one of the device's kind, and the device has its part
 abbrev pub fits_to : Device → HostEvent → Bool
-fits_to (Display d) e = is_for_display (display.parts_of d) e
+fits_to (Display d) e = is_for (display.parts_of d) e

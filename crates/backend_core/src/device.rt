@@ -1,9 +1,9 @@
 //! The kinds of device.
 
-ghost use Rattle.std.specs.Prelude.{◌≡◌, ◌<◌, not, length, slice_get, Some};
+ghost use Rattle.std.specs.Prelude.{◌≡◌, ◌<◌, OnErr, not, true, length, slice_get, Some};
 
 use display_backend::{Display, Step};
-use pv_words::{Hold, HostEvent, State, Words};
+use pv_words::{Hold, HostEvent, HostRefusal, State, Words};
 use xenbus_states::Nodes;
 
 /// A device, with its connection to a frontend.
@@ -15,21 +15,38 @@ pub enum Device {
 
 impl Device {
     ghost use Rattle.pv_words.specs.Plan.{Makes};
-    ghost use Rattle.link_core.specs.Order.{Heard, MayStep, Steps, at_rest, next};
+    ghost use Rattle.link_core.specs.Order.{Heard, Hosts, Sets, MayStep, Steps, at_rest, next};
     ghost use Rattle.link_core.specs.Stays.{AccessIn};
     ghost use Rattle.display_backend.specs.Machine.{Site};
-    ghost use Rattle.display_backend.specs.Work.{display};
+    ghost use Rattle.host_events.specs.Queue.{refusal_in};
+    ghost use Rattle.display_backend.specs.Work.{display, refusal_at};
     ghost use Rattle.backend_core.specs.Device.{dom_of, fits_to, held_of, parts_of, site_of, stand_of};
 
     /// Hears that the frontend set its state, while its nodes stand so.
     pub fn bus(&mut self, front: State, nodes: &Nodes)
-        ensures hears { (site : Site) → stand_of site self.new ≡ next (display site) (stand_of site self.old) (Heard front nodes.now) }
+        ensures hears { (site : Site) → stand_of site self.new ≡ next (display site) (stand_of site self.old) (Heard (Sets front nodes.now)) }
         ensures dom { dom_of self.new ≡ dom_of self.old }
         ensures parts { parts_of self.new ≡ parts_of self.old }
         ensures held { held_of self.new ≡ held_of self.old }
     {
         match self {
             Device::Display(display) => display.bus(front, nodes),
+        }
+    }
+
+    /// Hears an event of the host, which waits until it is done; the device has its room from the beginning. The refusals are
+    /// NotConnected exactly where the backend isn't Connected, and else Full exactly where 64 wait; a refusal changes nothing.
+    pub fn host(&mut self, e: HostEvent) -> Result<(), HostRefusal>
+        requires { fits_to self.old e ≡ true }
+        ensures hears { (site : Site) → stand_of site self.new ≡ next (display site) (stand_of site self.old) (Heard (Hosts e (refusal_in result))) }
+        ensures refusal { (site : Site) → refusal_in result ≡ refusal_at (stand_of site self.old) }
+        ensures err { OnErr result (self.new ≡ self.old) }
+        ensures dom { dom_of self.new ≡ dom_of self.old }
+        ensures parts { parts_of self.new ≡ parts_of self.old }
+        ensures held { held_of self.new ≡ held_of self.old }
+    {
+        match self {
+            Device::Display(display) => display.host(e),
         }
     }
 

@@ -34,7 +34,7 @@ use Rattle.display_backend.specs.Goes.{Closes, GoesOut, Told, Comes, Begins, fau
 use Rattle.display_backend.specs.Machine.{Site, Refs, Problem, part_refs, all_refs, with_ring_ref, with_channel, with_event_ref, with_channels, added, all_with}
 use Rattle.display_backend.specs.Reply.{reply_to}
 use Rattle.display_backend.specs.Whole.{Whole}
-use Rattle.display_backend.specs.Work.{Work, End, Saw, Took, Listed, Freed, Answered, Slept, Met, Denied, Lacked, Shut, Left, Renewed, display, choice, settled, said_at, shut, entered, all_pages, sleep_all, connect_all, status_of, with_closing, with_kept, with_action, with_state, with_hand, close, answers, takes_from, looks_at}
+use Rattle.display_backend.specs.Work.{Work, End, Saw, Took, Listed, Freed, Answered, Slept, Met, Denied, Lacked, Shut, Left, Renewed, Served, display, choice, settled, said_at, shut, entered, all_pages, sleep_all, connect_all, status_of, with_closing, with_kept, with_action, with_state, with_hand, close, answers, takes_from, looks_at}
 use Rattle.display_backend.proofs.Held.{joined_held, bare_held, page_shown}
 use Rattle.display_backend.proofs.Leaving.{later_is}
 use Rattle.display_backend.proofs.Lists.{get_map, within}
@@ -70,6 +70,7 @@ closes_told site w (Met x) why h = absurd h
 closes_told site w (Lacked x) why h = absurd h
 closes_told site w Left why h = absurd h
 closes_told site w Renewed why h = absurd h
+closes_told site w (Served x) why h = absurd h
 
 pub comes_out : (site : Site) (w : Work) (p : Plan End) (access : Option Access) (event : Option Said) (new : Stand Work End) → GoesOut site w p access event new → Comes site w p access event new
 comes_out site w p None event new g =

@@ -1,20 +1,19 @@
--- A display hears its frontend, and others make accesses, whatever it does.
+-- A display hears its frontend and its host, and others make accesses, whatever it does.
 use Rattle.std.proofs.Common.{◌≡◌, ℕ, ◌++◌, List, Option, refl}
 use Rattle.pv_words.specs.declared.access.Access.{Access}
 use Rattle.pv_words.specs.declared.device.NodeValue.{NodeValue}
-use Rattle.pv_words.specs.declared.device.State.{State}
-use Rattle.pv_words.specs.Plan.{Plan, Finished, Make}
+use Rattle.pv_words.specs.Plan.{Plan, Finished, Make, MayGo}
 use Rattle.display_backend.specs.Stock.{Stock, pages_of}
 use Rattle.display_backend.specs.Store.{stock_of}
 use Rattle.page_directory.specs.declared.walk.Walk.{Walk}
 use Rattle.link_core.specs.declared.link.Link.{Link}
-use Rattle.link_core.specs.Order.{Stand, Between, During, Telling, Heard, Others, May, next}
+use Rattle.link_core.specs.Order.{News, MayHear, MayStep, MayChoose, Order, Act, Either, Rest, work_at, Stand, Between, During, Telling, Heard, Others, May, next}
 use Rattle.display_backend.specs.declared.display.Activity.{Activity}
 use Rattle.display_backend.specs.declared.display.Activity.TheVariants as activity
 use Rattle.display_backend.specs.declared.display.Display.{Display}
 use Rattle.display_backend.specs.Display.{all_held, connecting, leaving_plan, stand_at, stand_in, stand_of, work_of}
 use Rattle.display_backend.specs.Machine.{Site}
-use Rattle.display_backend.specs.Work.{End, Work, display}
+use Rattle.display_backend.specs.Work.{End, Work, choice, display}
 
 -- a stand at which no event is about to be told
 abbrev IsQuiet : {W O : Type 0} → Stand W O → Type 0
@@ -41,10 +40,10 @@ unfolding stand_of
 quiet site d = in_activity site (work_of d) d.read (stock_of d.store) d.walk d.links.items d.reply d.at d.activity
 
 module _ (site : Site) where
-  hears_at : (stand : Stand Work End) (front : State) (nodes : List NodeValue) → IsQuiet stand → May (display site) stand (Heard front nodes)
-  hears_at (Between w) front nodes q = tt
-  hears_at (During w p) front nodes q = tt
-  hears_at (Telling s w o) front nodes q = absurd q
+  hears_at : (stand : Stand Work End) (news : News) → IsQuiet stand → MayHear (display site) (work_at stand) news → May (display site) stand (Heard news)
+  hears_at (Between w) news q may = may
+  hears_at (During w p) news q may = may
+  hears_at (Telling s w o) news q may = absurd q
 
   others_at : (stand : Stand Work End) (a : Access) → IsQuiet stand → May (display site) stand (Others a)
   others_at (Between w) a q = tt
@@ -56,8 +55,8 @@ module _ (site : Site) where
   others_stay (During w p) a q = refl
   others_stay (Telling s w o) a q = absurd q
 
-pub hears_always : (site : Site) (d : Display) (front : State) (nodes : List NodeValue) → May (display site) (stand_of site d) (Heard front nodes)
-hears_always site d front nodes = hears_at site (stand_of site d) front nodes (quiet site d)
+pub hears_always : (site : Site) (d : Display) (news : News) → MayHear (display site) (work_at (stand_of site d)) news → May (display site) (stand_of site d) (Heard news)
+hears_always site d news may = hears_at site (stand_of site d) news (quiet site d) may
 
 -- an access of another domain or device may come, and leaves the stand as it is
 pub others_always : (site : Site) (d : Display) (a : Access) → May (display site) (stand_of site d) (Others a)
@@ -65,3 +64,18 @@ others_always site d a = others_at site (stand_of site d) a (quiet site d)
 
 pub others_leave : (site : Site) (d : Display) (a : Access) → next (display site) (stand_of site d) (Others a) ≡ stand_of site d
 others_leave site d a = others_stay site (stand_of site d) a (quiet site d)
+
+-- through a port where any access may be made, so may the next one
+may_go_any : (p : Plan End) → MayGo (λ want. Unit {0}) p
+may_go_any (Finished x) = tt
+may_go_any (Make want note more) = tt
+
+may_choose_any : (o : Order Work End) → MayChoose (λ want. Unit {0}) o
+may_choose_any (Act v p) = may_go_any p
+may_choose_any (Either v p u q) = (may_go_any p, may_go_any q)
+may_choose_any (Rest v) = tt
+
+pub may_step_any : (site : Site) (s : Stand Work End) → MayStep (λ want. Unit {0}) (display site) s
+may_step_any site (Between w) = may_choose_any (choice site w)
+may_step_any site (During w p) = may_go_any p
+may_step_any site (Telling s w o) = tt

@@ -20,7 +20,7 @@ use Rattle.display_backend.specs.Machine.{Site}
 use Rattle.display_backend.specs.Display.{why_of, stuck, stand_at, end_of, reason_of, refs_from, refs_at}
 use Rattle.display_backend.specs.Goes.{Closes, GoesOut}
 use Rattle.display_backend.proofs.Stocks.{bare_stripped}
-use Rattle.display_backend.specs.Work.{Work, End, Saw, Took, Listed, Freed, Answered, Slept, Met, Denied, Lacked, Shut, Left, Renewed, display, choice, leaving, settled, said_at, shut, all_pages, after_part}
+use Rattle.display_backend.specs.Work.{Work, End, Saw, Took, Listed, Freed, Answered, Slept, Met, Denied, Lacked, Shut, Left, Renewed, Served, display, choice, leaving, settled, said_at, shut, all_pages, after_part}
 
 why_is : (end : End) (why : Reason) → Closes end why → why_of end ≡ why
 why_is (Denied r) why h = sym h
@@ -35,6 +35,7 @@ why_is (Met x) why h = absurd h
 why_is (Lacked x) why h = absurd h
 why_is Left why h = absurd h
 why_is Renewed why h = absurd h
+why_is (Served x) why h = absurd h
 
 end_in : {A : Type 0} (x y : A) → Finished x ≡ Finished y → x ≡ y
 end_in x y e = cc

@@ -12,14 +12,19 @@ use Rattle.page_directory.specs.declared.walk.Walk.{Walk}
 use Rattle.link_core.specs.declared.link.Link.{Link}
 use Rattle.link_core.specs.Activities.{Page, sleep_plan}
 use Rattle.link_core.specs.Link.{idle, held_of, joined_of, rsp_of, sleep_left}
-use Rattle.link_core.specs.Order.{Stand, Between, During, Went, GoesOn, Heard, next}
+use Rattle.pv_words.specs.declared.device.Reason.{Reason}
+use Rattle.pv_words.specs.declared.device.HostRefusal.TheVariants.{NotConnected}
+use Rattle.pv_words.specs.declared.device.State.TheVariants as state
+use Rattle.display_backend.specs.declared.waiting.Waiting.{Waiting}
+use Rattle.host_events.specs.Queue.{refusal_of}
+use Rattle.link_core.specs.Order.{News, Sets, Hosts, Stand, Between, During, Went, GoesOn, Heard, next}
 use Rattle.link_core.proofs.Links.{whole_sleep, rsp_joined}
 use Rattle.link_core.proofs.Steps.{turn_ends, turn_goes_on}
 use Rattle.display_backend.specs.declared.display.Activity.{Activity}
 use Rattle.display_backend.specs.declared.display.Activity.TheVariants as activity
 use Rattle.display_backend.specs.Machine.{Site}
-use Rattle.display_backend.specs.Display.{stand_at, stand_in, sleep_from, sleeping}
-use Rattle.display_backend.specs.Work.{Work, End, Slept, display, settled, said_at, sleep_all, sleeps_on, ring_page, told}
+use Rattle.display_backend.specs.Display.{why_of, stuck, stand_at, stand_in, sleep_from, sleeping}
+use Rattle.display_backend.specs.Work.{Work, End, Slept, display, settled, said_at, sleep_all, sleeps_on, ring_page, told, refusal_at}
 use Rattle.display_backend.proofs.Held.{page_shown}
 use Rattle.display_backend.proofs.Lists.{get_set, within, drop_get, drop_past}
 use Rattle.display_backend.proofs.Out.{goes_joined, goes_mapped, unfinished_joined, unfinished_mapped}
@@ -101,21 +106,51 @@ pub last_is_quiet : (ls : List Link) (k : ℕ) (quiet : Bool) → (quiet ≡ tru
 last_is_quiet ls k true h = ap (λ (ks : List Link). sleep_all (map joined_of ks)) (drop_past ls (k + 1) (h refl))
 last_is_quiet ls k false h = refl
 
--- a state of the frontend that comes in between
-heard_at : (site : Site) (w : Work) (front : State) (nodes : List NodeValue) (p : Plan End) → stand_at (told w front nodes) p ≡ next (display site) (stand_at w p) (Heard front nodes)
-heard_at site w front nodes (Finished x) = refl
-heard_at site w front nodes (Make want note more) = refl
+-- news that come in between
+stuck_told : (w : Work) (news : News) (why : Reason) → stuck (told w news) why ≡ told (stuck w why) news
+stuck_told w (Sets front nodes) why = refl
+stuck_told w (Hosts e answer) why = refl
 
-heard_during : (site : Site) (w : Work) (front : State) (nodes : List NodeValue) (p : Plan End) → During (told w front nodes) p ≡ next (display site) (During w p) (Heard front nodes)
-heard_during site w front nodes (Finished x) = refl
-heard_during site w front nodes (Make want note more) = refl
+heard_at : (site : Site) (w : Work) (news : News) (p : Plan End) → stand_at (told w news) p ≡ next (display site) (stand_at w p) (Heard news)
+heard_at site w news (Finished x) = ap (λ v. Between v) (stuck_told w news (why_of x))
+heard_at site w news (Make want note more) = refl
 
-pub heard_in : (site : Site) (w : Work) (read : List NodeValue) (s : Stock) (k : Option Walk) (ls : List Link) (reply : List ℕ) (at : ℕ) (a : Activity) (front : State) (nodes : List NodeValue) → stand_in site (told w front nodes) read s k ls reply at a ≡ next (display site) (stand_in site w read s k ls reply at a) (Heard front nodes)
-heard_in site w read s k ls reply at activity.Between front nodes = refl
-heard_in site w read s k ls reply at (activity.Connecting part) front nodes = heard_at site w front nodes _
-heard_in site w read s k ls reply at (activity.Leaving end) front nodes = heard_at site w front nodes _
-heard_in site w read s k ls reply at activity.Taking front nodes = heard_during site w front nodes _
-heard_in site w read s k ls reply at activity.Walking front nodes = heard_during site w front nodes _
-heard_in site w read s k ls reply at (activity.Freeing cookie) front nodes = heard_during site w front nodes _
-heard_in site w read s k ls reply at activity.Answering front nodes = heard_during site w front nodes _
-heard_in site w read s k ls reply at (activity.Sleeping part) front nodes = heard_during site w front nodes _
+heard_during : (site : Site) (w : Work) (news : News) (p : Plan End) → During (told w news) p ≡ next (display site) (During w p) (Heard news)
+heard_during site w news (Finished x) = refl
+heard_during site w news (Make want note more) = refl
+
+pub heard_in : (site : Site) (w : Work) (read : List NodeValue) (s : Stock) (k : Option Walk) (ls : List Link) (reply : List ℕ) (at : ℕ) (a : Activity) (news : News) → stand_in site (told w news) read s k ls reply at a ≡ next (display site) (stand_in site w read s k ls reply at a) (Heard news)
+heard_in site w read s k ls reply at activity.Between news = refl
+heard_in site w read s k ls reply at (activity.Connecting part) news = heard_at site w news _
+heard_in site w read s k ls reply at (activity.Leaving end) news = heard_at site w news _
+heard_in site w read s k ls reply at activity.Taking news = heard_during site w news _
+heard_in site w read s k ls reply at activity.Walking news = heard_during site w news _
+heard_in site w read s k ls reply at (activity.Freeing cookie) news = heard_during site w news _
+heard_in site w read s k ls reply at activity.Answering news = heard_during site w news _
+heard_in site w read s k ls reply at (activity.Sleeping part) news = heard_during site w news _
+
+-- whether an event of the host is refused there
+refused_left : (w : Work) (p : Plan End) → refusal_at (stand_at w p) ≡ refusal_of w.connection.back w.waiting
+refused_left w (Finished x) = refl
+refused_left w (Make want note more) = refl
+
+pub refused_in : (site : Site) (w : Work) (read : List NodeValue) (s : Stock) (k : Option Walk) (ls : List Link) (reply : List ℕ) (at : ℕ) (a : Activity) → refusal_at (stand_in site w read s k ls reply at a) ≡ refusal_of w.connection.back w.waiting
+refused_in site w read s k ls reply at activity.Between = refl
+refused_in site w read s k ls reply at (activity.Connecting part) = refused_left w _
+refused_in site w read s k ls reply at (activity.Leaving end) = refused_left w _
+refused_in site w read s k ls reply at activity.Taking = refl
+refused_in site w read s k ls reply at activity.Walking = refl
+refused_in site w read s k ls reply at (activity.Freeing cookie) = refl
+refused_in site w read s k ls reply at activity.Answering = refl
+refused_in site w read s k ls reply at (activity.Sleeping part) = refl
+
+pub apart_refuses : (b : State) (ws : List Waiting) → (b ≡ state.Connected → ⊥) → refusal_of b ws ≡ Some NotConnected
+apart_refuses state.Connected ws n = absurd (n refl)
+apart_refuses state.Unknown ws n = refl
+apart_refuses state.Initialising ws n = refl
+apart_refuses state.InitWait ws n = refl
+apart_refuses state.Initialised ws n = refl
+apart_refuses state.Closing ws n = refl
+apart_refuses state.Closed ws n = refl
+apart_refuses state.Reconfiguring ws n = refl
+apart_refuses state.Reconfigured ws n = refl

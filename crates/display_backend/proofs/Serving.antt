@@ -1,8 +1,8 @@
 -- What a connected display does next, as its fields tell.
-use Rattle.std.proofs.Common.{◌≡◌, ℕ, zero, suc, ◌<◌, ℤ, Bool, true, false, not, slice_get, Option, Some, None, refl, sym, ap, subst, ◌∙◌, arith}
+use Rattle.std.proofs.Common.{◌≡◌, ℕ, zero, suc, ◌<◌, ℤ, Bool, true, false, not, List, [], ◌∷◌, slice_get, Option, Some, None, refl, sym, ap, subst, ◌∙◌, arith}
 use Rattle.pv_words.specs.declared.access.Access.{Access}
 use Rattle.pv_words.specs.declared.device.Said.{Said}
-use Rattle.pv_words.specs.Plan.{Plan, Want, MayGo, mapped}
+use Rattle.pv_words.specs.Plan.{Plan, Finished, Want, MayGo, mapped}
 use Rattle.displ_wire.specs.declared.Asked.{Asked}
 use Rattle.displ_wire.specs.declared.Asked.TheVariants as asked
 use Rattle.displ_wire.specs.declared.Create.{Create}
@@ -12,11 +12,13 @@ use Rattle.link_core.specs.Order.{Order, Act, Rest, Stand, Between, GoesOn, MayC
 use Rattle.display_backend.specs.declared.display.Progress.{Progress}
 use Rattle.display_backend.specs.declared.display.Progress.TheVariants as progress
 use Rattle.display_backend.specs.declared.display.Round.{Round}
+use Rattle.display_backend.specs.declared.waiting.Waiting.{Waiting}
+use Rattle.host_events.specs.Queue.{behind}
 use Rattle.display_backend.specs.Display.{hand_of}
 use Rattle.display_backend.specs.Goes.{Begins}
 use Rattle.display_backend.specs.Machine.{Site, Hand, verdict, is_accepted}
 use Rattle.display_backend.specs.Reply.{status_in}
-use Rattle.display_backend.specs.Work.{Work, End, display, with_hand, with_left, in_round, goes_on, decides, maps, frees, answers, part_of, takes_from}
+use Rattle.display_backend.specs.Work.{Work, End, display, with_hand, with_waiting, with_left, Served, said_of, said_at, settled, in_round, goes_on, decides, maps, frees, answers, part_of, takes_from}
 use Rattle.display_backend.proofs.Choices.{comes_on}
 use Rattle.display_backend.proofs.Out.{may_mapped}
 
@@ -46,11 +48,25 @@ undecided site w h progress.Released n = refl
 pub undecided_is : (site : Site) (w : Work) (h : Option Request) (q : Request) (at : ℕ) → h ≡ Some q → (w.progress ≡ progress.Decided → ⊥) → with_hand site w (hand_of h at) ≡ answers w (record { part = at; request = q }) (slice_get w.parts at)
 undecided_is site w h q at e n = hand_is site w h q at e ∙ undecided site w (record { part = at; request = q }) w.progress n
 
-pub left_is : (site : Site) (w : Work) (h : Option Request) (at : ℕ) → h ≡ None → 0 < w.left → with_hand site w (hand_of h at) ≡ takes_from w (slice_get w.parts w.at)
-left_is site w h at none some = let m = positive w.left some in ap (with_hand site w) (no_request h at none) ∙ ap (with_left w) m.1
+pub left_is : (site : Site) (w : Work) (h : Option Request) (at : ℕ) → h ≡ None → w.waiting ≡ [] → 0 < w.left → with_hand site w (hand_of h at) ≡ takes_from w (slice_get w.parts w.at)
+left_is site w h at none nobody some = let m = positive w.left some in ap (with_hand site w) (no_request h at none) ∙ (ap (with_waiting w) nobody ∙ ap (with_left w) m.1)
 
-pub round_is : (site : Site) (w : Work) (h : Option Request) (at : ℕ) → h ≡ None → w.left ≡ 0 → (r : Round) → w.round ≡ r → with_hand site w (hand_of h at) ≡ in_round w r
-round_is site w h at none nothing r e = ap (with_hand site w) (no_request h at none) ∙ (ap (with_left w) nothing ∙ ap (in_round w) e)
+pub round_is : (site : Site) (w : Work) (h : Option Request) (at : ℕ) → h ≡ None → w.waiting ≡ [] → w.left ≡ 0 → (r : Round) → w.round ≡ r → with_hand site w (hand_of h at) ≡ in_round w r
+round_is site w h at none nobody nothing r e =
+    ap (with_hand site w) (no_request h at none) ∙ (ap (with_waiting w) nobody ∙ (ap (with_left w) nothing ∙ ap (in_round w) e))
+
+-- what waits, as its oldest tells
+pub none_waits : (xs : List Waiting) → slice_get xs 0 ≡ None → xs ≡ []
+none_waits [] e = refl
+none_waits (x ∷ xs) e = let wrong : ⊥ = cc in absurd wrong
+
+pub some_waits : (xs : List Waiting) (x : Waiting) → slice_get xs 0 ≡ Some x → xs ≡ x ∷ behind xs
+some_waits [] x e = let wrong : ⊥ = cc in absurd wrong
+some_waits (y ∷ ys) x e = let same : y ≡ x = cc in ap (λ z. z ∷ ys) same
+
+-- an event of the host waits
+pub waiting_is : (site : Site) (w : Work) (h : Option Request) (at : ℕ) (x : Waiting) (later : List Waiting) → h ≡ None → w.waiting ≡ x ∷ later → with_hand site w (hand_of h at) ≡ Act w (Finished (Served x))
+waiting_is site w h at x later none some = ap (with_hand site w) (no_request h at none) ∙ ap (with_waiting w) some
 
 pub may_act : {A : Type 0} (f : A → End) (may : Want → Type 0) (o : Order Work End) (w : Work) (p : Plan A) → o ≡ Act w (mapped f p) → MayChoose may o → MayGo may p
 may_act f may o w p e h = may_mapped may p f (subst (λ (x : Order Work End). MayChoose may x) e h)
@@ -91,3 +107,10 @@ hand_busy site w h q at j e f =
 
 pub begins_rest : (site : Site) (o : Order Work End) (w : Work) (new : Stand Work End) → o ≡ Rest w → new ≡ Between w → Begins site o None None new
 begins_rest site o w new e n = subst (λ (x : Order Work End). Begins site x None None new) (sym e) (refl, refl, n)
+
+-- an event of the host that is done is told in a step of its own
+pub begins_served : (site : Site) (o : Order Work End) (w : Work) (x : Waiting) (told : Said) (new : Stand Work End) → o ≡ Act w (Finished (Served x)) → told ≡ said_of x → new ≡ Between (record w { waiting = behind w.waiting }) → Begins site o None (Some told) new
+unfolding said_at settled
+begins_served site o w x told new e t n =
+    subst (λ (y : Order Work End). Begins site y None (Some told) new) (sym e)
+    (record { end = Served x; told = told; over = refl; says = refl; told_is = ap Some (sym t); left = n })

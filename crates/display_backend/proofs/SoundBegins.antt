@@ -1,5 +1,5 @@
 -- An activity that may be chosen fits, and begins as the machine does.
-use Rattle.std.proofs.Common.{◌≡◌, ℕ, zero, suc, ◌<◌, Bool, true, false, [], Option, Some, None, refl, sym, ◌∙◌, subst, arith, slice_get}
+use Rattle.std.proofs.Common.{◌≡◌, ℕ, zero, suc, ◌<◌, Bool, true, false, List, [], ◌∷◌, Option, Some, None, refl, sym, ◌∙◌, subst, arith, slice_get}
 use Rattle.std.proofs.lemmas.Bool.{true≢false}
 use Rattle.std.proofs.lemmas.Option.{slice_get_within}
 use Rattle.pv_words.specs.declared.device.Reason.{Reason}
@@ -18,8 +18,9 @@ use Rattle.link_core.specs.Order.{Offers}
 use Rattle.link_core.proofs.PlanFits.{fits_mapped}
 use Rattle.display_backend.specs.declared.display.Round.{Round}
 use Rattle.display_backend.specs.declared.display.Round.TheVariants as round
+use Rattle.display_backend.specs.declared.waiting.Waiting.{Waiting}
 use Rattle.display_backend.specs.Machine.{Hand}
-use Rattle.display_backend.specs.Work.{Work, End, Saw, Took, Slept, Left, Renewed, ring_page, sleep_all, looks_at, in_round, takes_from, with_left, with_hand, with_state, with_action, with_kept, with_closing, choice, settled, entered, begins_hand, begins_state, begins_by, begins_with, begins_of}
+use Rattle.display_backend.specs.Work.{Work, End, Saw, Took, Slept, Left, Renewed, Served, ring_page, sleep_all, looks_at, in_round, takes_from, with_left, with_waiting, with_hand, with_state, with_action, with_kept, with_closing, choice, settled, entered, begins_hand, begins_state, begins_by, begins_with, begins_of}
 use Rattle.display_backend.proofs.SoundActions.{closed_apart, closes_asked, renews_again}
 use Rattle.display_backend.proofs.SoundFits.{BeginsSo, chosen, held_so, ring_own, page_held, ring_held, same_work}
 use Rattle.display_backend.proofs.SoundDecides.{begins_goes}
@@ -64,8 +65,14 @@ module _ (frames grants : ℕ → ℕ) (dom parts : ℕ) (w v : Work) (p : Plan 
   begins_left zero serving empty o = begins_round w.round serving o
   begins_left (suc n) serving empty o = begins_take (slice_get w.parts w.at) serving empty refl o
 
+  begins_waiting : (xs : List Waiting) → IsServing w → w.hand ≡ None → w.waiting ≡ xs → Offers (with_waiting w xs) v p → BeginsSo frames grants dom parts w v p (λ m. [])
+  unfolding settled
+  begins_waiting [] serving empty is o = begins_left w.left serving empty o
+  begins_waiting (x ∷ xs) serving empty is o =
+      chosen frames grants dom parts w v w p (Finished (Served x)) (λ m. []) (same_work frames grants dom parts w v p s (Finished (Served x)) (λ k t. (t, (serving, (xs, is))))) o
+
   begins_with_hand : (x : Option Hand) → IsServing w → w.hand ≡ x → Offers (with_hand (the_site frames grants dom parts) w x) v p → BeginsSo frames grants dom parts w v p (λ m. begins_hand w m x)
-  begins_with_hand None serving has o = begins_left w.left serving has o
+  begins_with_hand None serving has o = begins_waiting w.waiting serving has refl o
   begins_with_hand (Some h) serving has o = begins_goes frames grants dom parts w v p s h serving has w.progress refl o
 
   begins_in : (b : State) → w.connection.back ≡ b → w.closing ≡ false → Offers (with_state (the_site frames grants dom parts) w b) v p → BeginsSo frames grants dom parts w v p (λ m. begins_state w m b)

@@ -1,5 +1,5 @@
 -- What is known of the work stays true at an activity's end, and where the display rests.
-use Rattle.std.proofs.Common.{◌≡◌, inl, inr, ℕ, zero, suc, ◌<◌, ◌≤◌, ◌==◌, nat_le, Bool, true, false, cond, List, [], Option, Some, None, refl, sym, ◌∙◌, ap, subst, arith, length, slice_get}
+use Rattle.std.proofs.Common.{◌≡◌, inl, inr, ℕ, zero, suc, ◌<◌, ◌≤◌, ◌==◌, nat_le, Bool, true, false, cond, List, [], ◌∷◌, Option, Some, None, refl, sym, ◌∙◌, ap, subst, arith, length, slice_get}
 use Rattle.std.proofs.lemmas.Bool.{true≢false}
 use Rattle.std.proofs.lemmas.Bool.Decides.{nat_tests}
 use Rattle.pv_words.specs.declared.device.Reason.{Reason}
@@ -25,12 +25,13 @@ use Rattle.link_core.specs.Activities.{Joined}
 use Rattle.link_core.specs.Laws.{AreOf}
 use Rattle.link_core.specs.Machine.{Stays}
 use Rattle.link_core.specs.Order.{Order, Rest}
+use Rattle.display_backend.specs.declared.waiting.Waiting.{Waiting}
 use Rattle.display_backend.specs.declared.display.Progress.{Progress}
 use Rattle.display_backend.specs.declared.display.Progress.TheVariants as progress
 use Rattle.display_backend.specs.declared.display.Round.{Round}
 use Rattle.display_backend.specs.declared.display.Round.TheVariants as round
 use Rattle.display_backend.specs.Machine.{Site, Hand, is_accepted, verdict}
-use Rattle.display_backend.specs.Work.{Work, Naming, End, Saw, Took, Listed, Freed, Answered, Slept, Met, Denied, Lacked, Shut, Left, Renewed, all_pages, looks_at, in_round, takes_from, with_left, answers, maps, frees, decides, goes_on, part_of, status_of, with_hand, with_state, with_action, with_kept, with_closing, choice, reading, settled, shut, entered, after_look, after_sleep, after_answer, after_walk, stock_after}
+use Rattle.display_backend.specs.Work.{Work, Naming, End, Saw, Took, Listed, Freed, Answered, Slept, Met, Denied, Lacked, Shut, Left, Renewed, Served, all_pages, looks_at, in_round, takes_from, with_left, with_waiting, answers, maps, frees, decides, goes_on, part_of, status_of, with_hand, with_state, with_action, with_kept, with_closing, choice, reading, settled, shut, entered, after_look, after_sleep, after_answer, after_walk, stock_after}
 use Rattle.display_backend.proofs.SoundActions.{closed_apart}
 use Rattle.display_backend.proofs.SoundAnswer.{answer_same, answer_sound, answer_none, answered_done}
 use Rattle.display_backend.proofs.SoundParts.{counted_pages, counted_length}
@@ -186,6 +187,8 @@ module _ (frames grants : ℕ → ℕ) (dom parts : ℕ) where
   settles w (Shut why) s q = shut_sane w s q.2
   settles w Left s q = left_sane w s q
   settles w Renewed s q = renewed_sane w s q.1 q.3
+  settles w (Served x) s q =
+      record { own = s.own; stored = s.stored; few = s.few; buffers = s.buffers; opened = s.opened; kept = s.kept }
 
 -- a display that rests keeps all but its place in the round
 abbrev IsPaused : Work → Work → Type 0
@@ -211,6 +214,10 @@ module _ (w v : Work) where
   rests_left : (n : ℕ) → with_left w n ≡ Rest v → IsPaused w v
   rests_left zero e = rests_round w.round e
   rests_left (suc n) e = rests_take (slice_get w.parts w.at) e
+
+  rests_waiting : (xs : List Waiting) → with_waiting w xs ≡ Rest v → IsPaused w v
+  rests_waiting [] e = rests_left w.left e
+  rests_waiting (x ∷ xs) e = let wrong : ⊥ = cc in absurd wrong
 
   rests_answer : (h : Hand) (x : Option Joined) → answers w h x ≡ Rest v → IsPaused w v
   rests_answer h None e = paused e
@@ -241,7 +248,7 @@ module _ (w v : Work) where
     rests_goes h progress.Released e = rests_answer h (part_of w h) e
 
     rests_hand : (x : Option Hand) → with_hand site w x ≡ Rest v → IsPaused w v
-    rests_hand None e = rests_left w.left e
+    rests_hand None e = rests_waiting w.waiting e
     rests_hand (Some h) e = rests_goes h w.progress e
 
     rests_state : (b : State) → with_state site w b ≡ Rest v → IsPaused w v

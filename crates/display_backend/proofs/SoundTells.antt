@@ -22,9 +22,12 @@ use Rattle.ring_words.specs.declared.Looked.TheVariants as looked
 use Rattle.link_core.specs.Machine.{Moves, Stays}
 use Rattle.link_core.specs.Names.{all_drawn, words_at, with_name}
 use Rattle.display_backend.specs.declared.display.Progress.TheVariants as progress
-use Rattle.display_backend.specs.Machine.{Site, Rows, Hand, Event, Says, Enters, is_accepted}
+use Rattle.display_backend.specs.declared.waiting.Waiting.{Waiting}
+use Rattle.display_backend.specs.declared.waiting.Waiting.TheVariants as waiting
+use Rattle.host_events.specs.Queue.{behind}
+use Rattle.display_backend.specs.Machine.{Site, Rows, Hand, Event, Says, Enters, Serves, is_accepted}
 use Rattle.display_backend.specs.Machine as machine
-use Rattle.display_backend.specs.Work.{Work, Naming, End, Saw, Took, Listed, Freed, Answered, Slept, Met, Denied, Lacked, Shut, Left, Renewed, settled, said_at, shut, entered, after_look, after_sleep, after_answer, after_walk, denied_by, status_of, is_denied, replied_in, reading, rows_of, names_of, named_after, named_by, unnamed, made_at, made_by, taken_at, live_names}
+use Rattle.display_backend.specs.Work.{Work, Naming, End, Saw, Took, Listed, Freed, Answered, Slept, Met, Denied, Lacked, Shut, Left, Renewed, Served, settled, said_of, said_at, shut, entered, after_look, after_sleep, after_answer, after_walk, denied_by, status_of, is_denied, replied_in, reading, rows_of, names_of, named_after, named_by, unnamed, made_at, made_by, taken_at, live_names}
 use Rattle.display_backend.proofs.SoundActions.{closed_apart, renews_from}
 use Rattle.display_backend.proofs.SoundAnswer.{answer_all, answer_rows, answer_names}
 use Rattle.display_backend.proofs.SoundNames.{names_none}
@@ -84,6 +87,7 @@ module _ (frames grants : ℕ → ℕ) (dom parts : ℕ) where
   quiet w (Shut why) m q named e = let wrong : ⊥ = cc in absurd wrong
   quiet w Left m q named e = let wrong : ⊥ = cc in absurd wrong
   quiet w Renewed m q named e = let wrong : ⊥ = cc in absurd wrong
+  quiet w (Served x) m q named e = let wrong : ⊥ = cc in absurd wrong
 
   -- what is said is a move of the machine, and the names are those of the work that it leaves
   abbrev TellsSo : Work → Naming → Said → List ℕ → List Place → Work → Naming → Type 0
@@ -167,6 +171,16 @@ module _ (frames grants : ℕ → ℕ) (dom parts : ℕ) where
   tells_listed w (walked.Refused why) m t q named e =
       tells_as w m (said.Denied why) t [] [] (after_walk w (walked.Refused why)) m e (tells_denied w why m q.0 q.1 named)
 
+  -- an event of the host is done
+  serves : (w : Work) (x : Waiting) (m : Naming) → EndsWell frames grants dom parts w (Served x) → Serves (rows_of w m) x (rows_of (record w { waiting = behind w.waiting }) m)
+  serves w x m q =
+      record { connected = q.0.0; not_closing = q.0.1; later = q.1.0; oldest = q.1.1; done = ap (λ (xs : List Waiting). let r : Rows = record (rows_of w m) { waiting = behind xs } in r) q.1.1 }
+
+  tells_served : (w : Work) (x : Waiting) (m : Naming) → EndsWell frames grants dom parts w (Served x) → IsNamed w m → TellsSo w m (said_of x) [] [] (record w { waiting = behind w.waiting }) m
+  tells_served w (waiting.Blank part) m q named = (named, record { move = serves w (waiting.Blank part) m q; names = λ memory. refl })
+  tells_served w (waiting.Show part) m q named =
+      (named, record { move = (refl, refl, serves w (waiting.Show part) m q); names = λ memory. refl })
+
   pub tells : (w : Work) (o : End) (t : Said) (m : Naming) → IsSane frames grants dom parts w → EndsWell frames grants dom parts w o → IsNamed w m → said_at w o ≡ Some t → TellsSo w m t (taken_at o) (made_at w o) (settled (the_site frames grants dom parts) w o) (named_after w o m)
   unfolding settled said_at
   tells w (Saw l) t m s q named e = let wrong : ⊥ = cc in absurd wrong
@@ -185,3 +199,5 @@ module _ (frames grants : ℕ → ℕ) (dom parts : ℕ) where
       tells_state w (entered w state.Closed) m state.Closed t (q, refl) refl (bare_unless frames grants dom parts w s (λ serving. true≢false (sym q ∙ serving.1))).1 e
   tells w Renewed t m s q named e =
       tells_state w (entered w state.InitWait) m state.InitWait t (q.0, renews_from w.connection q.1 q.2, refl) refl (bare_unless frames grants dom parts w s (λ serving. closed_apart w.connection.back q.1 serving.0)).1 e
+  tells w (Served x) t m s q named e =
+      tells_as w m (said_of x) t [] [] (record w { waiting = behind w.waiting }) m e (tells_served w x m q named)

@@ -1,5 +1,7 @@
 -- What is known of a display's work between two activities, and of an activity's end.
-use Rattle.std.proofs.Common.{◌≡◌, ◌⊎◌, ℕ, ◌<◌, ◌≤◌, ◌||◌, pos, Bool, true, false, List, [], ◌++◌, Option, Some, None, Ok, refl, sym, ap, subst, inl, inr, length}
+use Rattle.std.proofs.Common.{◌≡◌, ◌⊎◌, ℕ, ◌<◌, ◌≤◌, ◌||◌, pos, Bool, true, false, List, [], ◌∷◌, ◌++◌, Option, Some, None, Ok, refl, sym, ap, ◌∙◌, subst, inl, inr, length}
+use Rattle.pv_words.specs.declared.device.HostEvent.{HostEvent}
+use Rattle.pv_words.specs.declared.device.HostRefusal.{HostRefusal}
 use Rattle.pv_words.specs.declared.device.NodeValue.{NodeValue}
 use Rattle.pv_words.specs.declared.device.Reason.{Reason}
 use Rattle.pv_words.specs.declared.device.Reason.TheVariants as reason
@@ -21,11 +23,16 @@ use Rattle.ring_words.specs.declared.Looked.TheVariants as looked
 use Rattle.ring_words.specs.Ring.{looked_of}
 use Rattle.xenbus_states.specs.Connection.{Connection, first_ending, heard, is_start}
 use Rattle.link_core.specs.Laws.{AreOf}
+use Rattle.link_core.specs.Machine.{Moves}
+use Rattle.link_core.specs.Order.{News, Sets, Hosts, MayHear}
 use Rattle.display_backend.specs.declared.display.Progress.{Progress}
 use Rattle.display_backend.specs.declared.display.Progress.TheVariants as progress
-use Rattle.display_backend.specs.Machine.{Site, Rows, Hand, Refs, IsReason, all_refs, IsStatus, first_rows, verdict, is_accepted}
+use Rattle.display_backend.specs.declared.waiting.Waiting.{Waiting}
+use Rattle.display_backend.specs.Waiting.{waiting_of}
+use Rattle.host_events.specs.Queue.{unless}
+use Rattle.display_backend.specs.Machine.{Hears, Site, Rows, Hand, Refs, IsReason, all_refs, IsStatus, first_rows, verdict, is_accepted}
 use Rattle.display_backend.specs.Reply.{status_in}
-use Rattle.display_backend.specs.Work.{Work, Naming, End, Saw, Took, Listed, Freed, Answered, Slept, Met, Denied, Lacked, Shut, Left, Renewed, all_pages, after_look, after_sleep, after_answer, after_walk, settled, told, rows_of, is_denied}
+use Rattle.display_backend.specs.Work.{Work, Naming, End, Saw, Took, Listed, Freed, Answered, Slept, Met, Denied, Lacked, Shut, Left, Renewed, Served, all_pages, after_look, after_sleep, after_answer, after_walk, settled, told, rows_of, is_denied, reading, display}
 use Rattle.display_backend.proofs.SoundPlans.{AllOwn}
 
 -- what the domain has, and how many parts
@@ -161,6 +168,7 @@ module _ (frames grants : ℕ → ℕ) (dom parts : ℕ) where
   EndsWell w Left = w.closing ≡ true
   EndsWell w Renewed =
       (w.closing ≡ false) × (w.connection.back ≡ state.Closed) × (w.connection.again ≡ true) × (w.kept ≡ None)
+  EndsWell w (Served x) = IsServing w × ((later : List Waiting) × (w.waiting ≡ x ∷ later))
 
   -- the pages are those that the work then tells, and the activity ends well
   abbrev pub EndsSo : Work → Holds → End → Type 0
@@ -194,70 +202,133 @@ pub sleep_pages : (w : Work) (quiet : Bool) → held_pages (after_sleep w quiet)
 sleep_pages w true = refl
 sleep_pages w false = refl
 
-module _ (frames grants : ℕ → ℕ) (dom parts : ℕ) (w : Work) (front : State) (nodes : List NodeValue) where
-  pub hears_sane : IsSane frames grants dom parts w → IsSane frames grants dom parts (told w front nodes)
-  hears_sane s =
+-- What news leave as it is: the backend's state, a reason that holds, whether the frontend started anew, and the oldest of the
+-- events that wait.
+record Hearing (site : Site) (w : Work) (c : Connection) (waits : List Waiting) : Type 0 where
+  back : c.back ≡ w.connection.back
+  due : (why : Reason) → IsDue site w why → IsReason site (reason_rows c w.connecting w.read) why
+  again : w.connection.again ≡ true → c.again ≡ true
+  oldest : (x : Waiting) (later : List Waiting) → w.waiting ≡ x ∷ later → (rest : List Waiting) × (waits ≡ x ∷ rest)
+
+module _ (frames grants : ℕ → ℕ) (dom parts : ℕ) (w : Work) (c : Connection) (nodes : List NodeValue) (waits : List Waiting) (h : Hearing (the_site frames grants dom parts) w c waits) where
+  abbrev now : Work
+  now = record w { connection = c; seen = nodes; waiting = waits }
+
+  serving_now : IsServing w → IsServing now
+  serving_now q = (h.back ∙ q.0, q.1)
+
+  sane_now : IsSane frames grants dom parts w → IsSane frames grants dom parts now
+  sane_now s =
       record {
         own = s.own;
         stored = s.stored;
         few = s.few;
         buffers = s.buffers;
-        opened = s.opened;
-        kept = λ why e. (due_heard (the_site frames grants dom parts) w.connection w.connecting w.read front why (s.kept why e).0, (s.kept why e).1);
+        opened = elim s.opened [ inl bare ↦ inl bare | inr o ↦ inr (serving_now o.0, o.1) ];
+        kept = λ why e. (h.due why (s.kept why e).0, (s.kept why e).1);
       }
 
-  shut_told : (why : Reason) → IsShut frames grants dom parts w why → IsShut frames grants dom parts (told w front nodes) why
-  shut_told why q =
-      (due_heard (the_site frames grants dom parts) w.connection w.connecting w.read front why q.0, q.1, q.2)
+  shut_now : (why : Reason) → IsShut frames grants dom parts w why → IsShut frames grants dom parts now why
+  shut_now why q = (h.due why q.0, q.1, q.2)
 
-  pub hears_well : (o : End) → EndsWell frames grants dom parts w o → EndsWell frames grants dom parts (told w front nodes) o
-  hears_well (Saw l) q = q
-  hears_well (Took words) q = q
-  hears_well (Listed came) q =
-      (record { serving = q.0.serving; hand = q.0.hand; create = q.0.create; in_hand = q.0.in_hand; creating = q.0.creating; decided = q.0.decided; none = q.0.none }, q.1)
-  hears_well Freed q =
-      record { serving = q.serving; hand = q.hand; cookie = q.cookie; in_hand = q.in_hand; destroying = q.destroying; decided = q.decided; bare = q.bare; none = q.none }
-  hears_well (Answered notified) q = q
-  hears_well (Slept quiet) q = q
-  hears_well (Met ps) q = q
-  hears_well (Denied why) q = q
-  hears_well (Lacked problem) q = q
-  hears_well (Shut why) q = shut_told why q
-  hears_well Left q = q
-  hears_well Renewed q = (q.0, q.1, ap (λ t. t || is_start front) q.2, q.3)
+  well_now : (o : End) → EndsWell frames grants dom parts w o → EndsWell frames grants dom parts now o
+  well_now (Saw l) q = (serving_now q.0, q.1)
+  well_now (Took words) q = (serving_now q.0, q.1, q.2)
+  well_now (Listed came) q =
+      (record { serving = serving_now q.0.serving; hand = q.0.hand; create = q.0.create; in_hand = q.0.in_hand; creating = q.0.creating; decided = q.0.decided; none = q.0.none }, q.1)
+  well_now Freed q =
+      record { serving = serving_now q.serving; hand = q.hand; cookie = q.cookie; in_hand = q.in_hand; destroying = q.destroying; decided = q.decided; bare = q.bare; none = q.none }
+  well_now (Answered notified) q = (serving_now q.0, q.1)
+  well_now (Slept quiet) q = q
+  well_now (Met ps) q = q
+  well_now (Denied why) q = shut_now (reason.Refused why) q
+  well_now (Lacked problem) q = shut_now (reason.Node problem.part problem.key problem.fault) q
+  well_now (Shut why) q = shut_now why q
+  well_now Left q = q
+  well_now Renewed q = (q.0, h.back ∙ q.1, h.again q.2, q.3)
+  well_now (Served x) q = (serving_now q.0, h.oldest x q.1.0 q.1.1)
 
-  look_told : (l : Looked) → held_pages (after_look (the_site frames grants dom parts) (told w front nodes) l) ≡ held_pages (after_look (the_site frames grants dom parts) w l)
-  look_told looked.Nothing = refl
-  look_told (looked.Ready n) = refl
-  look_told (looked.Overrun prod rsp) = refl
+  look_now : (l : Looked) → held_pages (after_look (the_site frames grants dom parts) now l) ≡ held_pages (after_look (the_site frames grants dom parts) w l)
+  look_now looked.Nothing = refl
+  look_now (looked.Ready n) = refl
+  look_now (looked.Overrun prod rsp) = refl
 
-  sleep_told : (quiet : Bool) → held_pages (after_sleep (told w front nodes) quiet) ≡ held_pages (after_sleep w quiet)
-  sleep_told true = refl
-  sleep_told false = refl
+  sleep_now : (quiet : Bool) → held_pages (after_sleep now quiet) ≡ held_pages (after_sleep w quiet)
+  sleep_now true = refl
+  sleep_now false = refl
 
-  walk_told : (came : Walked) → held_pages (after_walk (told w front nodes) came) ≡ held_pages (after_walk w came)
-  walk_told (walked.Pages ps) = refl
-  walk_told (walked.Refused why) = refl
+  walk_now : (came : Walked) → held_pages (after_walk now came) ≡ held_pages (after_walk w came)
+  walk_now (walked.Pages ps) = refl
+  walk_now (walked.Refused why) = refl
 
-  replied_told : (h : Option Hand) → held_pages (after_answer (told w front nodes) h) ≡ held_pages (after_answer w h)
-  replied_told None = refl
-  replied_told (Some h) = refl
+  replied_now : (x : Option Hand) → held_pages (after_answer now x) ≡ held_pages (after_answer w x)
+  replied_now None = refl
+  replied_now (Some x) = refl
 
-  hears_pages : (o : End) → held_pages (settled (the_site frames grants dom parts) (told w front nodes) o) ≡ held_pages (settled (the_site frames grants dom parts) w o)
+  pages_now : (o : End) → held_pages (settled (the_site frames grants dom parts) now o) ≡ held_pages (settled (the_site frames grants dom parts) w o)
   unfolding settled
-  hears_pages (Saw l) = look_told l
-  hears_pages (Took words) = refl
-  hears_pages (Listed came) = walk_told came
-  hears_pages Freed = refl
-  hears_pages (Answered notified) = replied_told w.hand
-  hears_pages (Slept quiet) = sleep_told quiet
-  hears_pages (Met ps) = refl
-  hears_pages (Denied why) = refl
-  hears_pages (Lacked problem) = refl
-  hears_pages (Shut why) = refl
-  hears_pages Left = refl
-  hears_pages Renewed = refl
+  pages_now (Saw l) = look_now l
+  pages_now (Took words) = refl
+  pages_now (Listed came) = walk_now came
+  pages_now Freed = refl
+  pages_now (Answered notified) = replied_now w.hand
+  pages_now (Slept quiet) = sleep_now quiet
+  pages_now (Met ps) = refl
+  pages_now (Denied why) = refl
+  pages_now (Lacked problem) = refl
+  pages_now (Shut why) = refl
+  pages_now Left = refl
+  pages_now Renewed = refl
+  pages_now (Served x) = refl
 
   -- the pages that an activity's end tells are the same
-  pub hears_told : (o : End) (h : Holds) → TellsHeld (settled (the_site frames grants dom parts) w o) h → TellsHeld (settled (the_site frames grants dom parts) (told w front nodes) o) h
-  hears_told o h t = (t.0, subst (λ x. AreSame h.held x) (sym (hears_pages o)) t.1)
+  told_now : (o : End) (k : Holds) → TellsHeld (settled (the_site frames grants dom parts) w o) k → TellsHeld (settled (the_site frames grants dom parts) now o) k
+  told_now o k t = (t.0, subst (λ x. AreSame k.held x) (sym (pages_now o)) t.1)
+
+-- the oldest event stays the oldest, however the new one is answered
+stays_oldest : (r : Option HostRefusal) (xs : List Waiting) (y : Option Waiting) (x : Waiting) (later : List Waiting) → xs ≡ x ∷ later → (rest : List Waiting) × (unless r xs y ≡ x ∷ rest)
+stays_oldest None xs None x later e = (later, e)
+stays_oldest None xs (Some y) x later e = (later ++ y ∷ [], ap (λ zs. zs ++ y ∷ []) e)
+stays_oldest (Some why) xs y x later e = (later, e)
+
+sets_hearing : (site : Site) (w : Work) (front : State) → Hearing site w (heard w.connection front) w.waiting
+sets_hearing site w front =
+    record {
+      back = refl;
+      due = λ why q. due_heard site w.connection w.connecting w.read front why q;
+      again = λ e. ap (λ t. t || is_start front) e;
+      oldest = λ x later e. (later, e);
+    }
+
+hosts_hearing : (site : Site) (w : Work) (e : HostEvent) (answer : Option HostRefusal) → Hearing site w w.connection (unless answer w.waiting (waiting_of e))
+hosts_hearing site w e answer =
+    record {
+      back = refl;
+      due = λ why q. q;
+      again = λ a. a;
+      oldest = λ x later i. stays_oldest answer w.waiting (waiting_of e) x later i;
+    }
+
+module _ (frames grants : ℕ → ℕ) (dom parts : ℕ) (w : Work) where
+  pub hears_sane : (news : News) → IsSane frames grants dom parts w → IsSane frames grants dom parts (told w news)
+  hears_sane (Sets front nodes) s =
+      sane_now frames grants dom parts w (heard w.connection front) nodes w.waiting (sets_hearing (the_site frames grants dom parts) w front) s
+  hears_sane (Hosts e answer) s =
+      sane_now frames grants dom parts w w.connection w.seen (unless answer w.waiting (waiting_of e)) (hosts_hearing (the_site frames grants dom parts) w e answer) s
+
+  pub hears_well : (news : News) (o : End) → EndsWell frames grants dom parts w o → EndsWell frames grants dom parts (told w news) o
+  hears_well (Sets front nodes) o q =
+      well_now frames grants dom parts w (heard w.connection front) nodes w.waiting (sets_hearing (the_site frames grants dom parts) w front) o q
+  hears_well (Hosts e answer) o q =
+      well_now frames grants dom parts w w.connection w.seen (unless answer w.waiting (waiting_of e)) (hosts_hearing (the_site frames grants dom parts) w e answer) o q
+
+  pub hears_told : (news : News) (o : End) (h : Holds) → TellsHeld (settled (the_site frames grants dom parts) w o) h → TellsHeld (settled (the_site frames grants dom parts) (told w news) o) h
+  hears_told (Sets front nodes) o h t =
+      told_now frames grants dom parts w (heard w.connection front) nodes w.waiting (sets_hearing (the_site frames grants dom parts) w front) o h t
+  hears_told (Hosts e answer) o h t =
+      told_now frames grants dom parts w w.connection w.seen (unless answer w.waiting (waiting_of e)) (hosts_hearing (the_site frames grants dom parts) w e answer) o h t
+
+-- what is heard is a move of the machine, and leaves the pages and the names
+pub hears_move : (site : Site) (w : Work) (news : News) → MayHear (display site) w news → ((h : Holds) → TellsHeld w h → TellsHeld (told w news) h) × ((m : Naming) → IsNamed w m → IsNamed (told w news) m × Moves (reading site) w m (Hears news) [] (told w news) m)
+hears_move site w (Sets front nodes) may = ((λ h t. t), (λ m named. (named, record { move = refl; names = λ memory. refl })))
+hears_move site w (Hosts e answer) may = ((λ h t. t), (λ m named. (named, record { move = (may, refl); names = λ memory. refl })))

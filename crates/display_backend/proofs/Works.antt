@@ -17,6 +17,7 @@ use Rattle.display_backend.specs.declared.display.Activity.TheVariants as activi
 use Rattle.display_backend.specs.declared.display.Progress.{Progress}
 use Rattle.display_backend.specs.declared.display.Progress.TheVariants as progress
 use Rattle.display_backend.specs.declared.display.Round.{Round}
+use Rattle.display_backend.specs.declared.waiting.Waiting.{Waiting}
 use Rattle.display_backend.specs.Activity.{is_open, is_connected, is_connecting, is_serving, MayServe}
 use Rattle.display_backend.specs.Display.{parts_in, hand_of, stock_in, stand_in}
 use Rattle.display_backend.specs.Machine.{Hand, Site, is_accepted}
@@ -24,17 +25,17 @@ use Rattle.display_backend.specs.Work.{Work, counted, status_of, after_answer}
 use Rattle.display_backend.specs.Work.{stock_after as after_stock}
 use Rattle.display_backend.proofs.Lists.{map_set_same, map_set, get_map}
 
-abbrev pub work : Connection → List NodeValue → List NodeValue → Bool → Bool → List Joined → Option Reason → Option Hand → Progress → ℕ → ℕ → Round → Stock → Work
-work c seen read b closing parts kept hand g at left r s =
-    record { connection = c; seen = seen; read = read; connecting = b; closing = closing; parts = parts; kept = kept; hand = hand; progress = g; at = at; left = left; round = r; stock = s }
+abbrev pub work : List Waiting → Connection → List NodeValue → List NodeValue → Bool → Bool → List Joined → Option Reason → Option Hand → Progress → ℕ → ℕ → Round → Stock → Work
+work es c seen read b closing parts kept hand g at left r s =
+    record { connection = c; seen = seen; read = read; connecting = b; closing = closing; parts = parts; kept = kept; hand = hand; progress = g; at = at; left = left; round = r; stock = s; waiting = es }
 
-pub same_work : (c : Connection) (seen read : List NodeValue) (b b' closing : Bool) (p p' : List Joined) (kept : Option Reason) (h h' : Option Hand) (g : Progress) (at n n' : ℕ) (r : Round) (s s' : Stock) → b ≡ b' → p ≡ p' → h ≡ h' → n ≡ n' → s ≡ s' → work c seen read b closing p kept h g at n r s ≡ work c seen read b' closing p' kept h' g at n' r s'
-same_work c seen read b b' closing p p' kept h h' g at n n' r s s' e f i j k =
-    ap (λ x. work c seen read x closing p kept h g at n r s) e
-    ∙ (ap (λ x. work c seen read b' closing x kept h g at n r s) f
-    ∙ (ap (λ x. work c seen read b' closing p' kept x g at n r s) i
-    ∙ (ap (λ x. work c seen read b' closing p' kept h' g at x r s) j
-    ∙ ap (work c seen read b' closing p' kept h' g at n' r) k)))
+pub same_work : (es : List Waiting) (c : Connection) (seen read : List NodeValue) (b b' closing : Bool) (p p' : List Joined) (kept : Option Reason) (h h' : Option Hand) (g : Progress) (at n n' : ℕ) (r : Round) (s s' : Stock) → b ≡ b' → p ≡ p' → h ≡ h' → n ≡ n' → s ≡ s' → work es c seen read b closing p kept h g at n r s ≡ work es c seen read b' closing p' kept h' g at n' r s'
+same_work es c seen read b b' closing p p' kept h h' g at n n' r s s' e f i j k =
+    ap (λ x. work es c seen read x closing p kept h g at n r s) e
+    ∙ (ap (λ x. work es c seen read b' closing x kept h g at n r s) f
+    ∙ (ap (λ x. work es c seen read b' closing p' kept x g at n r s) i
+    ∙ (ap (λ x. work es c seen read b' closing p' kept h' g at x r s) j
+    ∙ ap (work es c seen read b' closing p' kept h' g at n' r) k)))
 
 -- the pages that an activity gives up
 pub stock_as : (a b : Activity) (s : Stock) → stock_in b s ≡ s → MayServe a b → stock_in b s ≡ stock_in a s
@@ -120,12 +121,12 @@ some_of None h = absurd (false≢true h)
 some_of (Some x) h = (x, refl)
 
 -- after a Look
-pub same_look : (c : Connection) (seen read : List NodeValue) (b closing : Bool) (p p' : List Joined) (kept : Option Reason) (h h' : Option Hand) (g : Progress) (at at' n : ℕ) (r r' : Round) (s : Stock) → p ≡ p' → h ≡ h' → at ≡ at' → r ≡ r' → work c seen read b closing p kept h g at n r s ≡ work c seen read b closing p' kept h' g at' n r' s
-same_look c seen read b closing p p' kept h h' g at at' n r r' s e f i j =
-    ap (λ x. work c seen read b closing x kept h g at n r s) e
-    ∙ (ap (λ x. work c seen read b closing p' kept x g at n r s) f
-    ∙ (ap (λ x. work c seen read b closing p' kept h' g x n r s) i
-    ∙ ap (λ x. work c seen read b closing p' kept h' g at' n x s) j))
+pub same_look : (es : List Waiting) (c : Connection) (seen read : List NodeValue) (b closing : Bool) (p p' : List Joined) (kept : Option Reason) (h h' : Option Hand) (g : Progress) (at at' n : ℕ) (r r' : Round) (s : Stock) → p ≡ p' → h ≡ h' → at ≡ at' → r ≡ r' → work es c seen read b closing p kept h g at n r s ≡ work es c seen read b closing p' kept h' g at' n r' s
+same_look es c seen read b closing p p' kept h h' g at at' n r r' s e f i j =
+    ap (λ x. work es c seen read b closing x kept h g at n r s) e
+    ∙ (ap (λ x. work es c seen read b closing p' kept x g at n r s) f
+    ∙ (ap (λ x. work es c seen read b closing p' kept h' g x n r s) i
+    ∙ ap (λ x. work es c seen read b closing p' kept h' g at' n x s) j))
 
 pub no_hand : (h : Option Request) (at at' : ℕ) → h ≡ None → hand_of h at ≡ hand_of h at'
 no_hand h at at' e = ap (λ x. hand_of x at) e ∙ ap (λ x. hand_of x at') (sym e)

@@ -100,6 +100,7 @@ work_of d =
       left = d.left;
       round = d.round;
       stock = stock_in d.activity (stock_of d.store);
+      waiting = d.waiting;
     }
 
 -- the references of a part, once its nodes are known to be there

@@ -8,5 +8,6 @@ pub mod Machine
 pub mod Reply
 pub mod Stock
 pub mod Store
+pub mod Waiting
 pub mod Whole
 pub mod Work

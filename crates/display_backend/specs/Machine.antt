@@ -1,5 +1,5 @@
--- The display as a machine of rows: its connection, requests and replies, and its buffers (the operations of displif.h, the
--- states of xenbus.h). It knows no ring, page or access.
+-- The display as a machine of rows: its connection, requests and replies, its buffers, and the events of its host (the
+-- operations of displif.h, the states of xenbus.h). It knows no ring, page or access.
 use Rattle.std.specs.Prelude.{◌≡◌, ◌⊎◌, ℕ, zero, suc, ◌<◌, ◌+◌, ◌==◌, ◌||◌, ◌&&◌, ℤ, pos, negsuc, Bool, true, false, List, [], ◌∷◌, Option, Some, None, is_some, Result, Ok, Err, if◌then◌else◌}
 use Rattle.pv_words.specs.declared.device.NodeFault.{NodeFault}
 use Rattle.pv_words.specs.declared.device.NodeValue.{NodeValue}
@@ -19,9 +19,14 @@ use Rattle.displ_wire.specs.declared.buffer.Refused.{Refused}
 use Rattle.displ_wire.specs.declared.buffer.Refused.TheVariants.{NotSupported, Unknown}
 use Rattle.displ_wire.specs.Refused.{status_of}
 use Rattle.displ_wire.specs.Wire.{all_zero, request_of}
+use Rattle.display_backend.specs.declared.waiting.Waiting.{Waiting}
+use Rattle.display_backend.specs.declared.waiting.Waiting.TheVariants as waiting
+use Rattle.display_backend.specs.Waiting.{waiting_of}
+use Rattle.host_events.specs.Queue.{refusal_of, unless}
 use Rattle.display_buffers.specs.declared.live.Live.{Live}
 use Rattle.display_buffers.specs.Buffers.{buffer_of, check_of, with_buffer, without_buffer}
 use Rattle.grant_table.specs.Laws.{IsCause}
+use Rattle.link_core.specs.Order.{News, Sets, Hosts}
 use Rattle.page_directory.specs.Laws as walk
 use Rattle.ring_words.specs.Ring.{since}
 use Rattle.xenbus_states.specs.declared.back.Action.TheVariants as action
@@ -116,8 +121,8 @@ pub record Hand : Type 0 where
 
 -- The machine's state: the connection, the nodes as they stood when the frontend last set its state, those that the last
 -- Connect read, whether a Connect is under way, whether the connection is closed and the state is due, the request in
--- hand, and whether a page was denied to it; the live buffers in order of creation, each with the number of its name; and
--- how many requests were answered.
+-- hand, and whether a page was denied to it; the live buffers in order of creation, each with the number of its name; how
+-- many requests were answered; and the host's events that wait.
 pub record Rows : Type 0 where
   pub connection : Connection
   pub seen : List NodeValue
@@ -128,12 +133,13 @@ pub record Rows : Type 0 where
   pub denied : Bool
   pub buffers : List (Live ℕ)
   pub replies : ℕ
+  pub waiting : List Waiting
 
 -- what happens to the machine: what the device says, and the words that it had taken, if they are a request's; a state of
--- the frontend, while the nodes stand so; and a Connect that begins
+-- the frontend, while the nodes stand so, or an event of the host and whether it is refused; and a Connect that begins
 pub data Event : Type 0 where
   Says : Said → List ℕ → Event
-  Hears : State → List NodeValue → Event
+  Hears : News → Event
   Begins : Event
 
 -- this reference stands in a node that was read
@@ -158,10 +164,10 @@ Closes site old reason new =
     IsReason site old reason × (old.closing ≡ false)
     × (new ≡ record old { connecting = false; closing = true; hand = None; denied = false })
 
--- a state in which the backend has no buffer yet, or no longer
+-- a state in which the backend has no buffer yet, or no longer, and no event waits
 abbrev pub with_state : Rows → State → Rows
 with_state old s =
-    record old { connection = moved_to old.connection s; connecting = false; closing = false; hand = None; denied = false; buffers = [] }
+    record old { connection = moved_to old.connection s; connecting = false; closing = false; hand = None; denied = false; buffers = []; waiting = [] }
 
 -- A backend is Connected at the end of a Connect that found all nodes, Closed once the connection is closed, and waits
 -- again where the frontend of a closed one started anew.
@@ -221,17 +227,31 @@ pub record Replies (old : Rows) (part id : ℕ) (status : ℤ) (new : Rows) : Ty
   pub status_is : IsStatus old.denied old.buffers request.asked status
   pub done : new ≡ record old { hand = None; denied = false; buffers = replied_to old.buffers old.replies request.asked (is_accepted status); replies = suc old.replies }
 
+-- the oldest event that waits is this one, and it is done
+pub record Serves (old : Rows) (event : Waiting) (new : Rows) : Type 0 where
+  pub connected : old.connection.back ≡ state.Connected
+  pub not_closing : old.closing ≡ false
+  pub later : List Waiting
+  pub oldest : old.waiting ≡ event ∷ later
+  pub done : new ≡ record old { waiting = later }
+
+-- A blank of a connector on which no flip is pending is only told. A connector without a picture shows no pixel, whose mark
+-- is 0. No flip is ever pending yet, and no connector has a picture.
 abbrev pub Tells : Site → Rows → Said → List ℕ → Rows → Type 0
 Tells site old (said.Request part id op) taken new = Requests site old part id op (request_of taken) new
 Tells site old (said.Denied why) taken new = Denies site old why new
 Tells site old (said.Replied part id status notified) taken new = Replies old part id status new
 Tells site old (said.Closed reason) taken new = Closes site old reason new
 Tells site old (said.State s) taken new = Enters site old s new
+Tells site old (said.Blank part) taken new = Serves old (waiting.Blank part) new
+Tells site old (said.Shown part pixels mark) taken new = (pixels ≡ 0) × (mark ≡ 0) × Serves old (waiting.Show part) new
 Tells site old other taken new = ⊥
 
 abbrev pub Moves : Site → Rows → Event → Rows → Type 0
 Moves site old (Says s taken) new = Tells site old s taken new
-Moves site old (Hears front nodes) new = new ≡ record old { connection = heard old.connection front; seen = nodes }
+Moves site old (Hears (Sets front nodes)) new = new ≡ record old { connection = heard old.connection front; seen = nodes }
+Moves site old (Hears (Hosts e answer)) new =
+    (answer ≡ refusal_of old.connection.back old.waiting) × (new ≡ record old { waiting = unless answer old.waiting (waiting_of e) })
 Moves site old Begins new =
     (old.closing ≡ false) × (action_of old.connection ≡ action.Connect)
     × (new ≡ record old { connection = begun old.connection; read = old.seen; connecting = true })
@@ -245,7 +265,7 @@ abbrev pub makes : Rows → Event → Option ℕ
 makes old (Says (said.Replied part id status notified) taken) = made_at old.hand status old.replies
 makes old other = None
 
--- the machine at the beginning: nothing is set, it waits for its frontend, and has no buffer
+-- the machine at the beginning: nothing is set, it waits for its frontend, has no buffer, and no event waits
 abbrev pub first_rows : Rows
 first_rows =
-    record { connection = first_connection; seen = no_nodes; read = no_nodes; connecting = false; closing = false; hand = None; denied = false; buffers = []; replies = 0 }
+    record { connection = first_connection; seen = no_nodes; read = no_nodes; connecting = false; closing = false; hand = None; denied = false; buffers = []; replies = 0; waiting = [] }

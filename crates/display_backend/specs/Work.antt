@@ -1,5 +1,6 @@
 -- The display's order of work.
 use Rattle.std.specs.Prelude.{ℕ, zero, suc, ◌+◌, ◌-◌, ◌&&◌, nat_lt, ℤ, Bool, true, false, List, [], ◌∷◌, ◌++◌, map, Option, Some, None, Result, Ok, Err, slice_get, slice_set, if◌then◌else◌}
+use Rattle.pv_words.specs.declared.device.HostRefusal.{HostRefusal}
 use Rattle.pv_words.specs.declared.device.NodeValue.{NodeValue}
 use Rattle.pv_words.specs.declared.device.Said.{Said}
 use Rattle.pv_words.specs.declared.device.Said.TheVariants as said
@@ -34,11 +35,15 @@ use Rattle.link_core.specs.Activities.{Page, Joined, Connected, Joins, Refuses, 
 use Rattle.link_core.specs.Activities as link
 use Rattle.link_core.specs.Machine.{Reading, Happening, Row, Gone}
 use Rattle.link_core.specs.Names.{Name, cells_of}
-use Rattle.link_core.specs.Order.{Order, Act, Either, Rest, Rules}
+use Rattle.link_core.specs.Order.{News, Sets, Hosts, Order, Act, Either, Rest, Rules, Stand, work_at}
 use Rattle.display_backend.specs.declared.display.Progress.{Progress}
 use Rattle.display_backend.specs.declared.display.Progress.TheVariants as progress
 use Rattle.display_backend.specs.declared.display.Round.{Round}
 use Rattle.display_backend.specs.declared.display.Round.TheVariants as round
+use Rattle.display_backend.specs.declared.waiting.Waiting.{Waiting}
+use Rattle.display_backend.specs.declared.waiting.Waiting.TheVariants as waiting
+use Rattle.display_backend.specs.Waiting.{waiting_of}
+use Rattle.host_events.specs.Queue.{behind, refusal_of, unless}
 use Rattle.display_backend.specs.Machine.{Site, Rows, Hand, Refs, Problem, Event, Says, Hears, Begins, Moves, all_refs, verdict, is_accepted, is_creation, makes}
 use Rattle.display_backend.specs.Reply.{reply_to, replied, status_in}
 
@@ -64,6 +69,8 @@ pub record Work : Type 0 where
   pub round : Round
   -- the live buffers with their pages, and the pages that were mapped for the CREATE in hand
   pub stock : Stock
+  -- the host's events that wait
+  pub waiting : List Waiting
 
 -- how an activity ends
 pub data End : Type 0 where
@@ -84,6 +91,8 @@ pub data End : Type 0 where
   Shut : Reason → End
   Left : End
   Renewed : End
+  -- the oldest event that waits is done
+  Served : Waiting → End
 
 -- the page of a part's ring
 abbrev pub ring_hold : Hold → Option Hold → Hold
@@ -195,9 +204,14 @@ abbrev pub goes_on : Site → Work → Hand → Progress → Order Work End
 goes_on site w h progress.Decided = decides site w h h.request.asked (is_accepted (verdict w.stock.buffers h.request.asked))
 goes_on site w h other = answers w h (part_of w h)
 
+-- Blank, Show: no flip is pending and no connector has a picture, so each says its event at once
+abbrev pub with_waiting : Work → List Waiting → Order Work End
+with_waiting w (e ∷ es) = Act w (Finished (Served e))
+with_waiting w [] = with_left w w.left
+
 abbrev pub with_hand : Site → Work → Option Hand → Order Work End
 with_hand site w (Some h) = goes_on site w h w.progress
-with_hand site w None = with_left w w.left
+with_hand site w None = with_waiting w w.waiting
 
 -- a backend in another state than Connected rests
 abbrev pub with_state : Site → Work → State → Order Work End
@@ -217,7 +231,8 @@ with_kept site w None = with_action site w (action_of w.connection)
 -- The first that applies: the state of a closed connection is said; a kept reason closes the connection, or the frontend's
 -- ending state does; a closed backend whose frontend started anew waits again; one that waits for a ready frontend
 -- connects; one that isn't connected rests; a request in hand has its pages mapped or unmapped, where it was accepted and
--- asks for that, and then is answered; one that is left of the last Look is taken; then the round goes on.
+-- asks for that, and then is answered; the oldest of the host's events that wait is done; a request that is left of the
+-- last Look is taken; then the round goes on.
 abbrev pub with_closing : Site → Work → Bool → Order Work End
 with_closing site w true = Act w (Finished Left)
 with_closing site w false = with_kept site w w.kept
@@ -275,9 +290,9 @@ after_walk w (walked.Refused why) = record w { progress = progress.Denied }
 abbrev pub shut : Work → Work
 shut w = record w { connecting = false; closing = true; parts = []; kept = None; hand = None; progress = progress.Decided }
 
--- the backend's state is this, in which it has no buffer yet, or no longer
+-- the backend's state is this, in which it has no buffer yet, or no longer, and no event waits
 abbrev pub entered : Work → State → Work
-entered w s = record w { connection = moved_to w.connection s; connecting = false; closing = false; hand = None; progress = progress.Decided; stock = no_stock }
+entered w s = record w { connection = moved_to w.connection s; connecting = false; closing = false; hand = None; progress = progress.Decided; stock = no_stock; waiting = [] }
 
 unfoldable pub settled : Site → Work → End → Work
 settled site w (Saw l) = after_look site w l
@@ -292,6 +307,7 @@ settled site w (Lacked problem) = shut w
 settled site w (Shut why) = shut w
 settled site w Left = entered w state.Closed
 settled site w Renewed = entered w state.InitWait
+settled site w (Served e) = record w { waiting = behind w.waiting }
 
 -- the page that was denied, where a walk was refused
 abbrev pub denied_by : Walked → Option Said
@@ -301,6 +317,11 @@ denied_by (walked.Refused why) = Some (said.Denied why)
 abbrev pub replied_in : Work → Option Hand → Bool → Option Said
 replied_in w None notified = None
 replied_in w (Some h) notified = replied (Some h) (status_of w h.request.asked) notified
+
+-- what is said of an event of the host
+abbrev pub said_of : Waiting → Said
+said_of (waiting.Blank part) = said.Blank part
+said_of (waiting.Show part) = said.Shown part 0 0
 
 -- what is said at an activity's end
 unfoldable pub said_at : Work → End → Option Said
@@ -316,18 +337,24 @@ said_at w (Lacked problem) = Some (said.Closed (reason.Node problem.part problem
 said_at w (Shut why) = Some (said.Closed why)
 said_at w Left = Some (said.State state.Closed)
 said_at w Renewed = Some (said.State state.InitWait)
+said_at w (Served e) = Some (said_of e)
 
--- the frontend set its state, while the nodes stood so
-abbrev pub told : Work → State → List NodeValue → Work
-told w front nodes = record w { connection = heard w.connection front; seen = nodes }
+-- the frontend set its state, while the nodes stood so; or the host told an event
+abbrev pub told : Work → News → Work
+told w (Sets front nodes) = record w { connection = heard w.connection front; seen = nodes }
+told w (Hosts e answer) = record w { waiting = unless answer w.waiting (waiting_of e) }
+
+-- why an event of the host is refused there, if it is
+abbrev pub refusal_at : Stand Work End → Option HostRefusal
+refusal_at s = refusal_of (work_at s).connection.back (work_at s).waiting
 
 abbrev pub display : Site → Rules Work End
-display site = record { choice = choice site; said_at = said_at; settled = settled site; heard = told }
+display site = record { choice = choice site; said_at = said_at; settled = settled site; refuses = λ w e. refusal_of w.connection.back w.waiting; heard = told }
 
 -- the display when it is declared: it waits for its frontend
 abbrev pub first_work : Work
 first_work =
-    record { connection = first_connection; seen = no_nodes; read = no_nodes; connecting = false; closing = false; parts = []; kept = None; hand = None; progress = progress.Decided; at = 0; left = 0; round = round.Looks 0 false; stock = no_stock }
+    record { connection = first_connection; seen = no_nodes; read = no_nodes; connecting = false; closing = false; parts = []; kept = None; hand = None; progress = progress.Decided; at = 0; left = 0; round = round.Looks 0 false; stock = no_stock; waiting = [] }
 
 -- The numbers of the live buffers' names, in order of creation, and how many requests were answered. They are no part of the
 -- work: they say only which making of a buffer is which.
@@ -403,7 +430,7 @@ is_denied progress.Released = false
 -- what of the work is the machine's
 abbrev pub rows_of : Work → Naming → Rows
 rows_of w m =
-    record { connection = w.connection; seen = w.seen; read = w.read; connecting = w.connecting; closing = w.closing; hand = w.hand; denied = is_denied w.progress; buffers = numbered w.stock.buffers m.ids; replies = m.replies }
+    record { connection = w.connection; seen = w.seen; read = w.read; connecting = w.connecting; closing = w.closing; hand = w.hand; denied = is_denied w.progress; buffers = numbered w.stock.buffers m.ids; replies = m.replies; waiting = w.waiting }
 
 abbrev pub names_of : Work → Naming → List Name
 names_of w m = live_names w.stock.buffers m.ids

@@ -1,6 +1,6 @@
 //! The display device.
 
-ghost use Rattle.std.specs.Prelude.{◌≡◌, ◌<◌, ◌≤◌, ◌-◌, ◌+◌, [], IfOk, None, Ok, not, true, false, length, slice_get, Some, List, is_some, pos};
+ghost use Rattle.std.specs.Prelude.{◌≡◌, ◌<◌, ◌≤◌, ◌-◌, ◌+◌, [], IfOk, OnErr, None, Ok, not, true, false, length, slice_get, Some, List, is_some, pos};
 ghost use Rattle.display_backend.specs.Activity.{is_open, is_connected, MayServe};
 ghost use Rattle.display_backend.specs.Goes.{fault_in};
 ghost use Rattle.display_backend.specs.Machine.{verdict, is_accepted, part_refs, all_refs};
@@ -13,11 +13,14 @@ ghost use Rattle.std.proofs.Props.{props};
 ghost use Rattle.display_backend.specs.Facts.{stands_prop};
 
 use crate::store::Store;
+use crate::waiting::{Waiting, said_of, waiting_of};
 use displ_wire::{Asked, Create, Refused, Request, decode, encode_reply, is_zero};
+use host_events::Queue;
 use link_core::Link;
 use page_directory::{Walk, Walked};
 use pv_words::{
-    Access, DomId, GrantRef, GrantRefusal, Hold, Mode, NodeFault, Reason, Said, State, Words,
+    Access, DomId, GrantRef, GrantRefusal, Hold, HostEvent, HostRefusal, Mode, NodeFault, Reason,
+    Said, State, Words,
 };
 use ring_words::Looked;
 use std::alloc::{AllocError, Global};
@@ -108,6 +111,8 @@ pub struct Display {
     at: u8,
     left: u32,
     round: Round,
+    // The host's events that wait, oldest first.
+    waiting: Queue<Waiting>,
     activity: Activity,
     ghost whole: { Whole dom.0 (is_open activity closing connection.back) at round activity links.items },
     ghost stored: { Stored dom.0 (is_open activity closing connection.back) activity hand status reply progress walk (stock_of store) (is_whole store) } by { Prim.hlevel (props, stands_prop) },
@@ -208,12 +213,14 @@ impl Display {
     ghost use Rattle.link_core.specs.Stays.{AccessIn};
     ghost use Rattle.display_backend.specs.declared.display.Progress.TheVariants as progress;
     ghost use Rattle.display_backend.specs.declared.display.Round.TheVariants as round;
-    ghost use Rattle.link_core.specs.Order.{Between, GoesOn, MayChoose, MayStep, Steps, Went, Heard, next, at_rest, rests_next};
+    ghost use Rattle.link_core.specs.Order.{Between, GoesOn, MayChoose, MayStep, Steps, Went, Heard, Sets, Hosts, next, at_rest, rests_next};
     ghost use Rattle.display_backend.specs.declared.display.Activity.TheVariants as activity;
     ghost use Rattle.display_backend.specs.Display.{dom_of, parts_of, Same, held_of, given_up, all_held, walk_pages, site_of, work_of, stand_of, number_at, hand_of, connecting, leaving_plan, reason_of, look_from, take_from, walk_from, freeing_plan, answer_from, sleeping, later, met_links};
     ghost use Rattle.display_backend.specs.Goes.{GoesOut, Comes, Begins};
     ghost use Rattle.display_backend.specs.Machine.{Site};
-    ghost use Rattle.display_backend.specs.Work.{display, first_work, shut, Saw, Took, Listed, Answered, Slept, choice, close, with_action, with_hand, maps, decides, entered, next_look, part_in};
+    ghost use Rattle.display_backend.specs.Waiting.{is_for};
+    ghost use Rattle.host_events.specs.Queue.{refusal_in};
+    ghost use Rattle.display_backend.specs.Work.{display, refusal_at, first_work, shut, Saw, Took, Listed, Answered, Slept, choice, close, with_action, with_hand, maps, decides, entered, next_look, part_in};
     ghost use Rattle.xenbus_states.specs.Connection.{action_of};
     ghost use Rattle.xenbus_states.specs.declared.back.Action.TheVariants as action;
 
@@ -243,6 +250,7 @@ impl Display {
             links.push(Link::new(dom, part))?;
         }
         let store = Store::new(alloc)?;
+        let waiting = Queue::new(alloc)?;
         Ok(Display {
             dom,
             connection: Back::new(),
@@ -260,6 +268,7 @@ impl Display {
             at: 0,
             left: 0,
             round: Round::Looks(0, false),
+            waiting,
             activity: Activity::Between,
         })
     }
@@ -273,13 +282,34 @@ impl Display {
 
     /// Hears that the frontend set its state, while its nodes stand so.
     pub fn bus(&mut self, front: State, nodes: &Nodes)
-        ensures hears { (site : Site) → stand_of site self.new ≡ next (display site) (stand_of site self.old) (Heard front nodes.now) }
+        ensures hears { (site : Site) → stand_of site self.new ≡ next (display site) (stand_of site self.old) (Heard (Sets front nodes.now)) }
         ensures dom { dom_of self.new ≡ dom_of self.old }
         ensures parts { parts_of self.new ≡ parts_of self.old }
         ensures held { held_of self.new ≡ held_of self.old }
     {
         self.connection.front_set(front);
         self.seen = *nodes;
+    }
+
+    /// Hears an event of the host, which waits until it is done; room for 64 is taken with the display. The refusals are
+    /// NotConnected exactly where the backend isn't Connected, and else Full exactly where 64 wait; a refusal changes nothing.
+    pub fn host(&mut self, e: HostEvent) -> Result<(), HostRefusal>
+        requires { is_for (parts_of self.old) e ≡ true }
+        ensures hears { (site : Site) → stand_of site self.new ≡ next (display site) (stand_of site self.old) (Heard (Hosts e (refusal_in result))) }
+        ensures refusal { (site : Site) → refusal_in result ≡ refusal_at (stand_of site self.old) }
+        ensures err { OnErr result (self.new ≡ self.old) }
+        ensures dom { dom_of self.new ≡ dom_of self.old }
+        ensures parts { parts_of self.new ≡ parts_of self.old }
+        ensures held { held_of self.new ≡ held_of self.old }
+    {
+        match self.connection.back() {
+            State::Connected => {}
+            _ => return Err(HostRefusal::NotConnected),
+        }
+        let Some(event) = waiting_of(&e) else {
+            unreachable!();
+        };
+        self.waiting.push(event)
     }
 
     // How many pages the links hold.
@@ -452,6 +482,7 @@ impl Display {
         self.hand = None;
         self.progress = Progress::Decided;
         self.store.clear();
+        self.waiting.clear();
         self.left = 0;
         self.round = Round::Looks(0, false);
         self.activity = Activity::Between;
@@ -827,6 +858,7 @@ impl Display {
         self.hand = None;
         self.progress = Progress::Decided;
         self.store.clear();
+        self.waiting.clear();
         Step {
             access: None,
             said: Some(Said::State(s)),
@@ -889,6 +921,13 @@ impl Display {
                 _ => self.answer(words),
             };
         }
+        if let Some(event) = self.waiting.oldest() {
+            self.waiting.drop_oldest();
+            return Step {
+                access: None,
+                said: Some(said_of(event)),
+            };
+        }
         if self.left > 0 {
             return self.take(words);
         }
@@ -912,6 +951,9 @@ impl Display {
         ensures { (site : Site) → result ≡ not (rests_next (with_hand site (work_of self.now) (hand_of self.now.hand self.now.at))) }
     {
         if self.hand.is_some() {
+            return true;
+        }
+        if self.waiting.oldest().is_some() {
             return true;
         }
         if self.left > 0 {

@@ -5,6 +5,7 @@ mod display;
 mod laws;
 mod left;
 mod store;
+mod waiting;
 
 pub use display::{Display, Step};
 pub use laws::{frees_in_order, gives_up_in_order, keeps_pages};

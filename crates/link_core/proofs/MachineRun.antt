@@ -2,15 +2,13 @@
 use Rattle.std.proofs.Common.{◌≡◌, ℕ, Bool, true, false, List, [], ◌∷◌, Option, Some, None, if◌then◌else◌, inl, inr, refl, sym, subst, ◌∙◌, ap}
 use Rattle.pv_words.specs.declared.access.Access.{Access}
 use Rattle.pv_words.specs.declared.access.Access.TheVariants as access
-use Rattle.pv_words.specs.declared.device.NodeValue.{NodeValue}
 use Rattle.pv_words.specs.declared.device.Said.{Said}
-use Rattle.pv_words.specs.declared.device.State.{State}
 use Rattle.pv_words.specs.declared.place.Place.{Place}
 use Rattle.pv_words.specs.Along.{after, Along}
 use Rattle.pv_words.specs.Held.{Holds, Made}
 use Rattle.pv_words.specs.Memory.{Memory, place_of, written, zeros}
 use Rattle.pv_words.specs.Plan.{Plan, Finished, Make, Want, Note, FitsFrom, MayGo, wanted, seen_by, found}
-use Rattle.link_core.specs.Order.{Own, Did, Spoke, Rested, Heard, Others, Order, Act, Either, Rest, Rules, Stand, Between, During, Telling, Offers, is_in_page, picked, ended, going, begun, gone, next, May, MayBegin, MayGoOn, IsExplained, MayStep, MayChoose, note_of, note_in, note_at, made_by}
+use Rattle.link_core.specs.Order.{News, Own, Did, Spoke, Rested, Heard, Others, Order, Act, Either, Rest, Rules, MayHear, Stand, Between, During, Telling, Offers, is_in_page, picked, work_at, ended, going, begun, gone, next, May, MayBegin, MayGoOn, IsExplained, MayStep, MayChoose, note_of, note_in, note_at, made_by}
 use Rattle.link_core.specs.Names.{words_at}
 use Rattle.link_core.specs.Machine.{Reading, Snapshot, Row, HappensTo, IsRun, Stays, Moves, Sound, shown, row_of, draws, happens_first, happens_in, happens_told, happens, named_first, named_told, named_next, memory_next, history}
 use Rattle.link_core.proofs.Drawing.{draws_run}
@@ -41,7 +39,7 @@ module _ {W O : Type 0} where
   picked_offers (Either v p u q) (Did a) w x i = one_offers (is_in_page (place_of a)) v u w p q x i
   picked_offers (Either v p u q) (Spoke s) w x i = second_offers v u w p q x i
   picked_offers (Either v p u q) Rested w x i = second_offers v u w p q x i
-  picked_offers (Either v p u q) (Heard front nodes) w x i = second_offers v u w p q x i
+  picked_offers (Either v p u q) (Heard news) w x i = second_offers v u w p q x i
   picked_offers (Either v p u q) (Others a) w x i = second_offers v u w p q x i
 
   -- a device rests only where that comes next
@@ -50,15 +48,10 @@ module _ {W O : Type 0} where
   picked_rests (Rest v) w i = i
   picked_rests (Either v p u q) w i = let wrong : ⊥ = cc in absurd wrong
 
-  abbrev pub work_of : Stand W O → W
-  work_of (Between w) = w
-  work_of (During w p) = w
-  work_of (Telling s w o) = w
-
 module _ {W O N R E : Type 0} (r : Rules W O) (d : Reading W O N R E) where
   -- the machine's state that a stand shows over a memory
   abbrev pub snapshot_at : Stand W O → N → Memory → Snapshot R
-  snapshot_at s n memory = shown r d (work_of s) n memory
+  snapshot_at s n memory = shown r d (work_at s) n memory
 
   -- the numbers of the names, and the memory, after all of it
   abbrev pub named_after : Stand W O → N → List Own → N
@@ -95,14 +88,14 @@ module _ {W O N R E : Type 0} (r : Rules W O) (d : Reading W O N R E) (Proper : 
 
   -- the numbers of the names are those of the stand's work
   abbrev pub IsNamedIn : Stand W O → N → Type 0
-  IsNamedIn s n = sound.Named (work_of s) n
+  IsNamedIn s n = sound.Named (work_at s) n
 
   -- what is held after one more thing
   abbrev pub held_next : Stand W O → Holds → Own → Holds
   held_next s h (Did a) = held h (note_at r s (Did a)) a
   held_next s h (Spoke t) = h
   held_next s h Rested = h
-  held_next s h (Heard front nodes) = h
+  held_next s h (Heard news) = h
   held_next s h (Others a) = h
 
   -- an activity that comes fits, and the names are those of the work that its beginning leaves
@@ -129,8 +122,8 @@ module _ {W O N R E : Type 0} (r : Rules W O) (d : Reading W O N R E) (Proper : 
       subst (λ (x : Access). IsGood (going r w (more (seen_by a))) (held h note x)) (found_as want a m) (good_going w (more (seen_by a)) (held h note (found want (seen_by a))) s (f.1 (seen_by a)))
 
   good_begun : (w : W) (c : Order W O) (e : Own) (h : Holds) → picked (r.choice w) e ≡ c → sound.Sane w → sound.Tells w h → MayBegin r w c e → IsGood (begun r w c e) (held_next (Between w) h e)
-  good_begun w c (Heard front nodes) h e s q m =
-      let hears = sound.hears w front nodes s in (hears.0, hears.1 h q)
+  good_begun w c (Heard news) h e s q m =
+      let hears = sound.hears w news s m in (hears.0, hears.1 h q)
   good_begun w c (Others a) h e s q m = (s, q)
   good_begun w (Act v (Finished o)) (Spoke t) h e s q m =
       let b = begins_so w v (Finished o) (Spoke t) h e s q in (sound.settles v o b.0 b.1.1, b.1.0)
@@ -149,12 +142,12 @@ module _ {W O N R E : Type 0} (r : Rules W O) (d : Reading W O N R E) (Proper : 
   good_begun w (Rest v) (Spoke t) h e s q m = absurd m
 
   -- what is heard in an activity changes nothing that it relies on
-  fits_heard : (w : W) (front : State) (nodes : List NodeValue) (p : Plan O) (h : Holds) → Fits w h p → Fits (r.heard w front nodes) h p
-  fits_heard w front nodes (Finished o) h f = let x = sound.hears_end w o front nodes f.1 in (x.1 h f.0, x.0)
-  fits_heard w front nodes (Make want note more) h f = (f.0, λ v. fits_heard w front nodes (more v) (held h note (found want v)) (f.1 v))
+  fits_heard : (w : W) (news : News) (p : Plan O) (h : Holds) → Fits w h p → Fits (r.heard w news) h p
+  fits_heard w news (Finished o) h f = let x = sound.hears_end w o news f.1 in (x.1 h f.0, x.0)
+  fits_heard w news (Make want note more) h f = (f.0, λ v. fits_heard w news (more v) (held h note (found want v)) (f.1 v))
 
-  good_gone : (w : W) (p : Plan O) (e : Own) (h : Holds) → sound.Sane w → Fits w h p → MayGoOn p e → IsGood (gone r w p e) (held_next (During w p) h e)
-  good_gone w p (Heard front nodes) h s f m = ((sound.hears w front nodes s).0, fits_heard w front nodes p h f)
+  good_gone : (w : W) (p : Plan O) (e : Own) (h : Holds) → sound.Sane w → Fits w h p → MayGoOn r w p e → IsGood (gone r w p e) (held_next (During w p) h e)
+  good_gone w p (Heard news) h s f m = ((sound.hears w news s m).0, fits_heard w news p h f)
   good_gone w p (Others a) h s f m = (s, f)
   good_gone w (Finished o) (Did a) h s f m = absurd m
   good_gone w (Make want note more) (Did a) h s f m = good_access w want note more h a s f m
@@ -165,7 +158,7 @@ module _ {W O N R E : Type 0} (r : Rules W O) (d : Reading W O N R E) (Proper : 
   good_told t w o (Spoke u) h g m = (sound.settles w o g.0 g.1.1, g.1.0)
   good_told t w o (Did a) h g m = absurd m
   good_told t w o Rested h g m = absurd m
-  good_told t w o (Heard front nodes) h g m = absurd m
+  good_told t w o (Heard news) h g m = absurd m
   good_told t w o (Others a) h g m = absurd m
 
   pub good_next : (s : Stand W O) (e : Own) (h : Holds) → IsGood s h → May r s e → IsGood (next r s e) (held_next s h e)
@@ -182,7 +175,7 @@ module _ {W O N R E : Type 0} (r : Rules W O) (d : Reading W O N R E) (Proper : 
   good_after s (Did a ∷ es) h g x = good_after (next r s (Did a)) es (held h (note_at r s (Did a)) a) (good_next s (Did a) h g x.0) x.1
   good_after s (Spoke t ∷ es) h g x = good_after (next r s (Spoke t)) es h (good_next s (Spoke t) h g x.0) x.1
   good_after s (Rested ∷ es) h g x = good_after (next r s Rested) es h (good_next s Rested h g x.0) x.1
-  good_after s (Heard front nodes ∷ es) h g x = good_after (next r s (Heard front nodes)) es h (good_next s (Heard front nodes) h g x.0) x.1
+  good_after s (Heard news ∷ es) h g x = good_after (next r s (Heard news)) es h (good_next s (Heard news) h g x.0) x.1
   good_after s (Others a ∷ es) h g x = good_after (next r s (Others a)) es h (good_next s (Others a) h g x.0) x.1
 
   -- the naming, and what the machine shows, where an activity may have ended
@@ -203,7 +196,7 @@ module _ {W O N R E : Type 0} (r : Rules W O) (d : Reading W O N R E) (Proper : 
   shown_going w (Make want note more) h n memory s f i = refl
 
   named_begun : (w : W) (c : Order W O) (e : Own) (h : Holds) (n : N) → picked (r.choice w) e ≡ c → sound.Sane w → sound.Tells w h → sound.Named w n → MayBegin r w c e → IsNamedIn (begun r w c e) (named_first r d n c e)
-  named_begun w c (Heard front nodes) h n e s q i m = ((sound.hears w front nodes s).2 n i).0
+  named_begun w c (Heard news) h n e s q i m = ((sound.hears w news s m).2 n i).0
   named_begun w c (Others a) h n e s q i m = i
   named_begun w (Act v (Finished o)) (Spoke t) h n e s q i m =
       let b = begins_so w v (Finished o) (Spoke t) h e s q in
@@ -222,8 +215,8 @@ module _ {W O N R E : Type 0} (r : Rules W O) (d : Reading W O N R E) (Proper : 
   named_begun w (Rest v) (Did a) h n e s q i m = absurd m
   named_begun w (Rest v) (Spoke t) h n e s q i m = absurd m
 
-  named_gone : (w : W) (p : Plan O) (e : Own) (h : Holds) (n : N) → sound.Sane w → Fits w h p → sound.Named w n → MayGoOn p e → IsNamedIn (gone r w p e) n
-  named_gone w p (Heard front nodes) h n s f i m = ((sound.hears w front nodes s).2 n i).0
+  named_gone : (w : W) (p : Plan O) (e : Own) (h : Holds) (n : N) → sound.Sane w → Fits w h p → sound.Named w n → MayGoOn r w p e → IsNamedIn (gone r w p e) n
+  named_gone w p (Heard news) h n s f i m = ((sound.hears w news s m).2 n i).0
   named_gone w p (Others a) h n s f i m = i
   named_gone w (Finished o) (Did a) h n s f i m = absurd m
   named_gone w (Make want note more) (Did a) h n s f i m = named_going w (more (seen_by a)) (held h note (found want (seen_by a))) n s (f.1 (seen_by a)) i
@@ -234,7 +227,7 @@ module _ {W O N R E : Type 0} (r : Rules W O) (d : Reading W O N R E) (Proper : 
   named_said t w o (Spoke u) h n g i m = (sound.tells w o u n g.0 g.1.1 i (g.2 ∙ ap Some (sym m))).0
   named_said t w o (Did a) h n g i m = absurd m
   named_said t w o Rested h n g i m = absurd m
-  named_said t w o (Heard front nodes) h n g i m = absurd m
+  named_said t w o (Heard news) h n g i m = absurd m
   named_said t w o (Others a) h n g i m = absurd m
 
   -- the names stay those of the stand's work
@@ -248,10 +241,10 @@ module _ {W O N R E : Type 0} (r : Rules W O) (d : Reading W O N R E) (Proper : 
   named_in_after s (e ∷ es) h n g i x =
       named_in_after (next r s e) es (held_next s h e) (named_next r d s n e) (good_next s e h g x.0) (named_in_next s e h n g i x.0) x.1
 
-  -- a state of the frontend, an event that is said, and an access of an activity
-  heard_run : (w : W) (front : State) (nodes : List NodeValue) (n : N) (memory : Memory) → sound.Sane w → sound.Named w n → IsRun (HappensTo d.table) (shown r d w n memory) (Row (d.heard front nodes) [] ∷ []) (shown r d (r.heard w front nodes) n memory)
-  heard_run w front nodes n memory s i =
-      (shown r d (r.heard w front nodes) n memory, moves_happens r d w (r.heard w front nodes) n n memory (d.heard front nodes) [] ((sound.hears w front nodes s).2 n i).1, refl)
+  -- news, an event that is said, and an access of an activity
+  heard_run : (w : W) (news : News) (n : N) (memory : Memory) → sound.Sane w → sound.Named w n → MayHear r w news → IsRun (HappensTo d.table) (shown r d w n memory) (Row (d.heard news) [] ∷ []) (shown r d (r.heard w news) n memory)
+  heard_run w news n memory s i m =
+      (shown r d (r.heard w news) n memory, moves_happens r d w (r.heard w news) n n memory (d.heard news) [] ((sound.hears w news s m).2 n i).1, refl)
 
   tells_run : (w : W) (o : O) (t : Said) (n : N) (memory : Memory) → sound.Sane w → sound.EndsWell w o → sound.Named w n → r.said_at w o ≡ Some t → IsRun (HappensTo d.table) (shown r d w n memory) (row_of r d w o t memory ∷ []) (shown r d (r.settled w o) (d.named w o n) memory)
   tells_run w o t n memory s q i e =
@@ -262,7 +255,7 @@ module _ {W O N R E : Type 0} (r : Rules W O) (d : Reading W O N R E) (Proper : 
       subst (λ x. IsRun (HappensTo d.table) (shown r d w n memory) (draws r d (d.names w n) a) x) (sym (shown_going w p h n (written memory a) s f i)) (draws_shown r d w n memory a)
 
   run_begun : (w : W) (c : Order W O) (e : Own) (h : Holds) (n : N) (memory : Memory) → picked (r.choice w) e ≡ c → sound.Sane w → sound.Tells w h → sound.Named w n → MayBegin r w c e → IsRun (HappensTo d.table) (shown r d w n memory) (happens_first r d w n memory c e) (snapshot_at r d (begun r w c e) (named_first r d n c e) (memory_next r d memory e))
-  run_begun w c (Heard front nodes) h n memory e s q i m = heard_run w front nodes n memory s i
+  run_begun w c (Heard news) h n memory e s q i m = heard_run w news n memory s i m
   run_begun w c (Others a) h n memory e s q i m = draws_shown r d w n memory a
   run_begun w (Act v (Finished o)) (Spoke t) h n memory e s q i m =
       let b = begins_so w v (Finished o) (Spoke t) h e s q in
@@ -284,8 +277,8 @@ module _ {W O N R E : Type 0} (r : Rules W O) (d : Reading W O N R E) (Proper : 
   run_begun w (Rest v) (Did a) h n memory e s q i m = absurd m
   run_begun w (Rest v) (Spoke t) h n memory e s q i m = absurd m
 
-  run_gone : (w : W) (p : Plan O) (e : Own) (h : Holds) (n : N) (memory : Memory) → sound.Sane w → Fits w h p → sound.Named w n → MayGoOn p e → IsRun (HappensTo d.table) (shown r d w n memory) (happens_in r d w n e) (snapshot_at r d (gone r w p e) n (memory_next r d memory e))
-  run_gone w p (Heard front nodes) h n memory s f i m = heard_run w front nodes n memory s i
+  run_gone : (w : W) (p : Plan O) (e : Own) (h : Holds) (n : N) (memory : Memory) → sound.Sane w → Fits w h p → sound.Named w n → MayGoOn r w p e → IsRun (HappensTo d.table) (shown r d w n memory) (happens_in r d w n e) (snapshot_at r d (gone r w p e) n (memory_next r d memory e))
+  run_gone w p (Heard news) h n memory s f i m = heard_run w news n memory s i m
   run_gone w p (Others a) h n memory s f i m = draws_shown r d w n memory a
   run_gone w (Finished o) (Did a) h n memory s f i m = absurd m
   run_gone w (Make want note more) (Did a) h n memory s f i m = access_run w (more (seen_by a)) (held h note (found want (seen_by a))) n memory a s (f.1 (seen_by a)) i
@@ -296,7 +289,7 @@ module _ {W O N R E : Type 0} (r : Rules W O) (d : Reading W O N R E) (Proper : 
   run_told t w o (Spoke u) h n memory g i m = tells_run w o u n memory g.0 g.1.1 i (g.2 ∙ ap Some (sym m))
   run_told t w o (Did a) h n memory g i m = absurd m
   run_told t w o Rested h n memory g i m = absurd m
-  run_told t w o (Heard front nodes) h n memory g i m = absurd m
+  run_told t w o (Heard news) h n memory g i m = absurd m
   run_told t w o (Others a) h n memory g i m = absurd m
 
   -- each thing that the device does, or hears, or that others do, leads from what is shown before it to what is shown after
@@ -321,7 +314,7 @@ module _ {W O N R E : Type 0} (r : Rules W O) (d : Reading W O N R E) (Proper : 
   proper_begun w (Either v p u x) a h e s q m = absurd m
   proper_begun w (Rest v) a h e s q m = absurd m
 
-  proper_gone : (w : W) (p : Plan O) (a : Access) (h : Holds) → Fits w h p → MayGoOn p (Did a) → Proper h (wanted a) (note_of p)
+  proper_gone : (w : W) (p : Plan O) (a : Access) (h : Holds) → Fits w h p → MayGoOn r w p (Did a) → Proper h (wanted a) (note_of p)
   proper_gone w (Finished o) a h f m = absurd m
   proper_gone w (Make want note more) a h f m = subst (λ x. Proper h x note) (sym m) f.0
 
@@ -336,7 +329,7 @@ module _ {W O N R E : Type 0} (r : Rules W O) (d : Reading W O N R E) (Proper : 
   proper_after s (Did a ∷ es) h g x = (proper_next s a h g x.0, proper_after (next r s (Did a)) es (held h (note_at r s (Did a)) a) (good_next s (Did a) h g x.0) x.1)
   proper_after s (Spoke t ∷ es) h g x = proper_after (next r s (Spoke t)) es h (good_next s (Spoke t) h g x.0) x.1
   proper_after s (Rested ∷ es) h g x = proper_after (next r s Rested) es h (good_next s Rested h g x.0) x.1
-  proper_after s (Heard front nodes ∷ es) h g x = proper_after (next r s (Heard front nodes)) es h (good_next s (Heard front nodes) h g x.0) x.1
+  proper_after s (Heard news ∷ es) h g x = proper_after (next r s (Heard news)) es h (good_next s (Heard news) h g x.0) x.1
   proper_after s (Others a ∷ es) h g x = proper_after (next r s (Others a)) es h (good_next s (Others a) h g x.0) x.1
 
   may_go : (may : Want → Type 0) (h : Holds) → ((want : Want) (note : Note) → Proper h want note → may want) → (w : W) (p : Plan O) → Fits w h p → MayGo may p

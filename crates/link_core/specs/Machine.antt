@@ -1,15 +1,13 @@
 -- A device's work is a run of a machine of rows and names: one theorem for every device.
 use Rattle.std.specs.Prelude.{◌≡◌, ℕ, List, [], ◌∷◌, ◌++◌, map, Option, Some, None}
 use Rattle.pv_words.specs.declared.access.Access.{Access}
-use Rattle.pv_words.specs.declared.device.NodeValue.{NodeValue}
 use Rattle.pv_words.specs.declared.device.Said.{Said}
-use Rattle.pv_words.specs.declared.device.State.{State}
 use Rattle.pv_words.specs.declared.place.Place.{Place}
 use Rattle.pv_words.specs.Held.{Holds}
 use Rattle.pv_words.specs.Memory.{Memory, written}
 use Rattle.pv_words.specs.Plan.{Plan, Finished, Make, Want, Note, FitsFrom}
 use Rattle.link_core.specs.Names.{Name, Drawn, Stroke, Redraws, Loses, words_at, all_drawn, writing_of, strokes_by, with_name}
-use Rattle.link_core.specs.Order.{Own, Did, Spoke, Rested, Heard, Others, Order, Act, Either, Rest, Rules, Stand, Between, During, Telling, Offers, next, picked}
+use Rattle.link_core.specs.Order.{News, Own, Did, Spoke, Rested, Heard, Others, Order, Act, Either, Rest, Rules, MayHear, Stand, Between, During, Telling, Offers, next, picked}
 
 -- a table of rows: which happening leads from which rows to which, and the number of the name that it makes, if it does
 pub record Table (R E : Type 0) : Type 1 where
@@ -40,7 +38,7 @@ IsRun {M} moves m (e ∷ es) n = (k : M) × moves m e k × IsRun moves k es n
 
 -- How a device's work is read. Each state of its work, with the numbers of its names, shows rows of the machine, and the
 -- live names. What the device says at an activity's end is something that happens to the rows, and may make a name, which
--- has these words then; so is what it hears from its frontend; and an activity's beginning may be something that happens
+-- has these words then; so is what it hears; and an activity's beginning may be something that happens
 -- to the machine.
 pub record Reading (W O N R E : Type 0) : Type 1 where
   pub table : Table R E
@@ -49,7 +47,7 @@ pub record Reading (W O N R E : Type 0) : Type 1 where
   pub event : W → O → Said → E
   pub made : W → O → List Place
   pub named : W → O → N → N
-  pub heard : State → List NodeValue → E
+  pub heard : News → E
   pub began : W → N → List (Happening E)
 
 module _ {W O N R E : Type 0} (r : Rules W O) (d : Reading W O N R E) where
@@ -67,7 +65,7 @@ module _ {W O N R E : Type 0} (r : Rules W O) (d : Reading W O N R E) where
 
   -- what happens to the machine where the device does, or hears, this
   abbrev pub happens_first : W → N → Memory → Order W O → Own → List (Happening E)
-  happens_first w n memory c (Heard front nodes) = Row (d.heard front nodes) [] ∷ []
+  happens_first w n memory c (Heard news) = Row (d.heard news) [] ∷ []
   happens_first w n memory c (Others a) = draws (d.names w n) a
   happens_first w n memory (Act v (Finished o)) (Spoke s) = d.began w n ++ row_of v o s memory ∷ []
   happens_first w n memory (Act v (Finished o)) (Did a) = []
@@ -83,7 +81,7 @@ module _ {W O N R E : Type 0} (r : Rules W O) (d : Reading W O N R E) where
   happens_first w n memory (Rest v) Rested = []
 
   abbrev pub happens_in : W → N → Own → List (Happening E)
-  happens_in w n (Heard front nodes) = Row (d.heard front nodes) [] ∷ []
+  happens_in w n (Heard news) = Row (d.heard news) [] ∷ []
   happens_in w n (Others a) = draws (d.names w n) a
   happens_in w n (Did a) = draws (d.names w n) a
   happens_in w n (Spoke s) = []
@@ -93,7 +91,7 @@ module _ {W O N R E : Type 0} (r : Rules W O) (d : Reading W O N R E) where
   happens_told w o memory (Spoke s) = row_of w o s memory ∷ []
   happens_told w o memory (Did a) = []
   happens_told w o memory Rested = []
-  happens_told w o memory (Heard front nodes) = []
+  happens_told w o memory (Heard news) = []
   happens_told w o memory (Others a) = []
 
   abbrev pub happens : Stand W O → N → Memory → Own → List (Happening E)
@@ -103,7 +101,7 @@ module _ {W O N R E : Type 0} (r : Rules W O) (d : Reading W O N R E) where
 
   -- the numbers of the names, after one more thing: they change where an activity's end is told
   abbrev pub named_first : N → Order W O → Own → N
-  named_first n c (Heard front nodes) = n
+  named_first n c (Heard news) = n
   named_first n c (Others a) = n
   named_first n (Act v (Finished o)) (Spoke s) = d.named v o n
   named_first n c e = n
@@ -123,7 +121,7 @@ module _ {W O N R E : Type 0} (r : Rules W O) (d : Reading W O N R E) where
   memory_next memory (Others a) = written memory a
   memory_next memory (Spoke s) = memory
   memory_next memory Rested = memory
-  memory_next memory (Heard front nodes) = memory
+  memory_next memory (Heard news) = memory
 
   -- what happens to the machine in all that a device does and hears
   abbrev pub history : Stand W O → N → Memory → List Own → List (Happening E)
@@ -146,8 +144,8 @@ pub record Moves {W O N R E : Type 0} (d : Reading W O N R E) (old : W) (n : N) 
   pub names : (memory : Memory) → all_drawn memory (d.names new m) ≡ with_name (all_drawn memory (d.names old n)) (d.table.makes (d.rows old n) e) (words_at memory cells)
 
 -- What makes a device's work sound, said of one activity at a time. What the work knows stays true, and it tells what the
--- device holds; an activity that may be chosen fits; its end is a move of the machine; and so is what is heard from the
--- frontend, which changes nothing that an activity under way relies on.
+-- device holds; an activity that may be chosen fits; its end is a move of the machine; and so is what is heard, which
+-- changes nothing that an activity under way relies on.
 pub record Sound {W O N R E : Type 0} (r : Rules W O) (d : Reading W O N R E) (May : Holds → Want → Note → Type 0) (held : Holds → Note → Access → Holds) : Type 1 where
   pub Sane : W → Type 0
   -- the numbers of the names are those of this work
@@ -161,5 +159,5 @@ pub record Sound {W O N R E : Type 0} (r : Rules W O) (d : Reading W O N R E) (M
   pub rests : (w v : W) → Sane w → r.choice w ≡ Rest v → Sane v × ((h : Holds) → Tells w h → Tells v h) × ((n : N) → Named w n → Named v n × Stays d w v n)
   pub tells : (w : W) (o : O) (s : Said) (n : N) → Sane w → EndsWell w o → Named w n → r.said_at w o ≡ Some s → Named (r.settled w o) (d.named w o n) × Moves d w n (d.event w o s) (d.made w o) (r.settled w o) (d.named w o n)
   pub quiet : (w : W) (o : O) (n : N) → Sane w → EndsWell w o → Named w n → r.said_at w o ≡ None → Named (r.settled w o) n × Stays d w (r.settled w o) n
-  pub hears : (w : W) (front : State) (nodes : List NodeValue) → Sane w → Sane (r.heard w front nodes) × ((h : Holds) → Tells w h → Tells (r.heard w front nodes) h) × ((n : N) → Named w n → Named (r.heard w front nodes) n × Moves d w n (d.heard front nodes) [] (r.heard w front nodes) n)
-  pub hears_end : (w : W) (o : O) (front : State) (nodes : List NodeValue) → EndsWell w o → EndsWell (r.heard w front nodes) o × ((h : Holds) → Tells (r.settled w o) h → Tells (r.settled (r.heard w front nodes) o) h)
+  pub hears : (w : W) (news : News) → Sane w → MayHear r w news → Sane (r.heard w news) × ((h : Holds) → Tells w h → Tells (r.heard w news) h) × ((n : N) → Named w n → Named (r.heard w news) n × Moves d w n (d.heard news) [] (r.heard w news) n)
+  pub hears_end : (w : W) (o : O) (news : News) → EndsWell w o → EndsWell (r.heard w news) o × ((h : Holds) → Tells (r.settled w o) h → Tells (r.settled (r.heard w news) o) h)

@@ -1,6 +1,8 @@
 -- The order of a device's work, and where a device stands in it.
 use Rattle.std.specs.Prelude.{◌≡◌, ◌⊎◌, Bool, true, false, List, [], ◌∷◌, Option, Some, None, if◌then◌else◌}
 use Rattle.pv_words.specs.declared.access.Access.{Access}
+use Rattle.pv_words.specs.declared.device.HostEvent.{HostEvent}
+use Rattle.pv_words.specs.declared.device.HostRefusal.{HostRefusal}
 use Rattle.pv_words.specs.declared.device.Said.{Said}
 use Rattle.pv_words.specs.declared.device.State.{State}
 use Rattle.pv_words.specs.declared.device.NodeValue.{NodeValue}
@@ -11,13 +13,19 @@ use Rattle.pv_words.specs.Memory.{place_of}
 use Rattle.pv_words.specs.Held.{Made}
 use Rattle.pv_words.specs.Plan.{Plan, Finished, Make, Want, Note, Plain, Goes, MayGo, wanted, seen_by}
 
+-- What a device hears, at any moment: its frontend sets its state, while the nodes stand so; or its host tells it an event,
+-- which it refuses, or not.
+pub data News : Type 0 where
+  Sets : State → List NodeValue → News
+  Hosts : HostEvent → Option HostRefusal → News
+
 -- What a device does and hears, one after another: an access, something that it says, or resting until it is stepped
--- again; or its frontend sets its state, while the nodes stand so; or a domain or another device makes an access.
+-- again; or it hears news; or a domain or another device makes an access.
 pub data Own : Type 0 where
   Did : Access → Own
   Spoke : Said → Own
   Rested : Own
-  Heard : State → List NodeValue → Own
+  Heard : News → Own
   Others : Access → Own
 
 -- What a device does next: an activity (one that is over at once says its event in a step of its own), with the work as
@@ -41,7 +49,7 @@ picked (Rest v) e = Rest v
 picked (Either v p u q) (Did a) = if is_in_page (place_of a) then Act v p else Act u q
 picked (Either v p u q) (Spoke s) = Act u q
 picked (Either v p u q) Rested = Act u q
-picked (Either v p u q) (Heard front nodes) = Act u q
+picked (Either v p u q) (Heard news) = Act u q
 picked (Either v p u q) (Others a) = Act u q
 
 -- one of the activities that may come next, with the work as its beginning leaves it
@@ -50,13 +58,19 @@ Offers (Act v p) w x = (v ≡ w) × (p ≡ x)
 Offers (Either v p u q) w x = ((v ≡ w) × (p ≡ x)) ⊎ ((u ≡ w) × (q ≡ x))
 Offers (Rest v) w x = ⊥
 
--- how a device works: what it does next, what it says at an activity's end, what that end makes of its work, and what
--- a state of its frontend makes of it
+-- how a device works: what it does next, what it says at an activity's end, what that end makes of its work, why it refuses
+-- an event of its host, if it does, and what news make of its work
 pub record Rules (W O : Type 0) : Type 0 where
   pub choice : W → Order W O
   pub said_at : W → O → Option Said
   pub settled : W → O → W
-  pub heard : W → State → List NodeValue → W
+  pub refuses : W → HostEvent → Option HostRefusal
+  pub heard : W → News → W
+
+-- it hears any state of its frontend, and an event of its host with its answer
+abbrev pub MayHear : {W O : Type 0} → Rules W O → W → News → Type 0
+MayHear r w (Sets front nodes) = Unit {0}
+MayHear r w (Hosts e answer) = answer ≡ r.refuses w e
 
 -- where a device stands: between two activities, in one with this left of it, or about to say the event that rides
 -- on the access just made
@@ -64,6 +78,12 @@ pub data Stand (W O : Type 0) : Type 0 where
   Between : W → Stand W O
   During : W → Plan O → Stand W O
   Telling : Said → W → O → Stand W O
+
+-- the work there
+abbrev pub work_at : {W O : Type 0} → Stand W O → W
+work_at (Between w) = w
+work_at (During w p) = w
+work_at (Telling s w o) = w
 
 -- an activity is over
 abbrev pub ended : {W O : Type 0} → Rules W O → W → O → Option Said → Stand W O
@@ -77,7 +97,7 @@ going r w (Make want note more) = During w (Make want note more)
 
 -- the stand after what a device does between two activities
 abbrev pub begun : {W O : Type 0} → Rules W O → W → Order W O → Own → Stand W O
-begun r w c (Heard front nodes) = Between (r.heard w front nodes)
+begun r w c (Heard news) = Between (r.heard w news)
 begun r w c (Others a) = Between w
 begun r w (Either v p u q) (Did a) = Between w
 begun r w (Either v p u q) (Spoke s) = Between w
@@ -94,7 +114,7 @@ begun r w (Rest v) (Spoke s) = Between w
 
 -- the stand after an access in an activity, or after what is heard in it
 abbrev pub gone : {W O : Type 0} → Rules W O → W → Plan O → Own → Stand W O
-gone r w p (Heard front nodes) = During (r.heard w front nodes) p
+gone r w p (Heard news) = During (r.heard w news) p
 gone r w p (Others a) = During w p
 gone r w (Finished o) (Did a) = During w (Finished o)
 gone r w (Make want note more) (Did a) = going r w (more (seen_by a))
@@ -107,9 +127,9 @@ next r (Between w) e = begun r w (picked (r.choice w) e) e
 next r (During w p) e = gone r w p e
 next r (Telling s w o) e = Between (r.settled w o)
 
--- what may come between two activities: what the order of work gives next, a state of the frontend, or another's access
+-- what may come between two activities: what the order of work gives next, news, or another's access
 abbrev pub MayBegin : {W O : Type 0} → Rules W O → W → Order W O → Own → Type 0
-MayBegin r w c (Heard front nodes) = Unit {0}
+MayBegin r w c (Heard news) = MayHear r w news
 MayBegin r w c (Others a) = Unit {0}
 MayBegin r w (Either v p u q) (Did a) = ⊥
 MayBegin r w (Either v p u q) (Spoke s) = ⊥
@@ -124,27 +144,27 @@ MayBegin r w (Rest v) Rested = Unit {0}
 MayBegin r w (Rest v) (Did a) = ⊥
 MayBegin r w (Rest v) (Spoke s) = ⊥
 
--- what may come in an activity: its next access, a state of the frontend, or another's access
-abbrev pub MayGoOn : {O : Type 0} → Plan O → Own → Type 0
-MayGoOn p (Heard front nodes) = Unit {0}
-MayGoOn p (Others a) = Unit {0}
-MayGoOn (Finished o) (Did a) = ⊥
-MayGoOn (Make want note more) (Did a) = wanted a ≡ want
-MayGoOn p (Spoke s) = ⊥
-MayGoOn p Rested = ⊥
+-- what may come in an activity: its next access, news, or another's access
+abbrev pub MayGoOn : {W O : Type 0} → Rules W O → W → Plan O → Own → Type 0
+MayGoOn r w p (Heard news) = MayHear r w news
+MayGoOn r w p (Others a) = Unit {0}
+MayGoOn r w (Finished o) (Did a) = ⊥
+MayGoOn r w (Make want note more) (Did a) = wanted a ≡ want
+MayGoOn r w p (Spoke s) = ⊥
+MayGoOn r w p Rested = ⊥
 
 -- an event that rides on an access comes directly after it
 abbrev pub MayTell : Said → Own → Type 0
 MayTell s (Spoke t) = t ≡ s
 MayTell s (Did a) = ⊥
 MayTell s Rested = ⊥
-MayTell s (Heard front nodes) = ⊥
+MayTell s (Heard news) = ⊥
 MayTell s (Others a) = ⊥
 
 -- what may come where a device stands
 abbrev pub May : {W O : Type 0} → Rules W O → Stand W O → Own → Type 0
 May r (Between w) e = MayBegin r w (picked (r.choice w) e) e
-May r (During w p) e = MayGoOn p e
+May r (During w p) e = MayGoOn r w p e
 May r (Telling s w o) e = MayTell s e
 
 -- each thing that a device does is what comes next where the earlier ones left it
@@ -217,5 +237,5 @@ made_by r s [] = []
 made_by r s (Did a ∷ es) = record { access = a; note = note_at r s (Did a) } ∷ made_by r (next r s (Did a)) es
 made_by r s (Spoke t ∷ es) = made_by r (next r s (Spoke t)) es
 made_by r s (Rested ∷ es) = made_by r (next r s Rested) es
-made_by r s (Heard front nodes ∷ es) = made_by r (next r s (Heard front nodes)) es
+made_by r s (Heard news ∷ es) = made_by r (next r s (Heard news)) es
 made_by r s (Others a ∷ es) = made_by r (next r s (Others a)) es

@@ -8,7 +8,10 @@ use Rattle.xenbus_states.specs.declared.back.Action.{Action}
 use Rattle.xenbus_states.specs.declared.back.Action.TheVariants as action
 use Rattle.xenbus_states.specs.Connection.{Connection, action_from, asked_of}
 use Rattle.link_core.specs.Machine.{Happening, Row, Gone, Draw, HappensTo, IsRun, Snapshot}
-use Rattle.display_backend.specs.Machine.{Site, Rows, Hand, Event, Says, Hears, Begins, Moves, Tells, Enters, IsStatus, first_rows, is_accepted, is_creation, replied_to, verdict}
+use Rattle.link_core.specs.Order.{Sets, Hosts}
+use Rattle.display_backend.specs.declared.waiting.Waiting.{Waiting}
+use Rattle.display_backend.specs.declared.waiting.Waiting.TheVariants as waiting
+use Rattle.display_backend.specs.Machine.{Serves, Site, Rows, Hand, Event, Says, Hears, Begins, Moves, Tells, Enters, IsStatus, first_rows, is_accepted, is_creation, replied_to, verdict}
 use Rattle.pv_world.specs.Answered.{IsAnswer, IsAnsweredIn}
 use Rattle.pv_world.specs.History.{first_snapshot, machine}
 
@@ -69,6 +72,9 @@ bare_calm r e c =
       creates = λ h i d. none_some h (sym e ∙ i);
     }
 
+later_same : (e f : Waiting) (xs ys : List Waiting) → e ∷ xs ≡ f ∷ ys → xs ≡ ys
+later_same e f xs ys i = cc
+
 module _ (site : Site) where
   enters_calm : (old new : Rows) (s : State) → Enters site old s new → IsCalm new
   enters_calm old new state.Connected x = bare_calm new (ap (λ (r : Rows). r.hand) x.2) (ap (λ (r : Rows). r.connecting) x.2)
@@ -80,6 +86,9 @@ module _ (site : Site) where
   enters_calm old new state.Closing x = absurd x
   enters_calm old new state.Reconfiguring x = absurd x
   enters_calm old new state.Reconfigured x = absurd x
+
+  serves_calm : (old new : Rows) (e : Waiting) → Serves old e new → IsCalm old → IsCalm new
+  serves_calm old new e x c = subst (λ (r : Rows). IsCalm r) (sym x.done) (record { served = c.served; waits = c.waits; creates = c.creates })
 
   says_calm : (old new : Rows) (s : Said) (taken : List ℕ) → Tells site old s taken new → IsCalm old → IsCalm new
   says_calm old new (said.Request part id op) taken x c =
@@ -97,14 +106,15 @@ module _ (site : Site) where
   says_calm old new (said.Raised part cookie) taken x c = absurd x
   says_calm old new (said.Pos part position) taken x c = absurd x
   says_calm old new (said.Full part) taken x c = absurd x
-  says_calm old new (said.Blank part) taken x c = absurd x
-  says_calm old new (said.Shown part pixels mark) taken x c = absurd x
+  says_calm old new (said.Blank part) taken x c = serves_calm old new (waiting.Blank part) x c
+  says_calm old new (said.Shown part pixels mark) taken x c = serves_calm old new (waiting.Show part) x.2 c
   says_calm old new (said.Moved part octets mark) taken x c = absurd x
   says_calm old new (said.Published events) taken x c = absurd x
 
   moves_calm : (old new : Rows) (e : Event) → Moves site old e new → IsCalm old → IsCalm new
   moves_calm old new (Says s taken) x c = says_calm old new s taken x c
-  moves_calm old new (Hears front nodes) x c = subst (λ (r : Rows). IsCalm r) (sym x) (record { served = c.served; waits = c.waits; creates = c.creates })
+  moves_calm old new (Hears (Sets front nodes)) x c = subst (λ (r : Rows). IsCalm r) (sym x) (record { served = c.served; waits = c.waits; creates = c.creates })
+  moves_calm old new (Hears (Hosts e answer)) x c = subst (λ (r : Rows). IsCalm r) (sym x.1) (record { served = c.served; waits = c.waits; creates = c.creates })
   moves_calm old new Begins x c =
       subst (λ (r : Rows). IsCalm r) (sym x.2) (record { served = c.served; waits = λ t. connects_from old.connection.back old.connection x.1; creates = c.creates })
 
@@ -129,6 +139,11 @@ module _ (site : Site) where
   enters_same old a b state.Reconfiguring x y = absurd x
   enters_same old a b state.Reconfigured x y = absurd x
 
+  serves_same : (old a b : Rows) (e : Waiting) → Serves old e a → Serves old e b → a ≡ b
+  serves_same old a b e x y =
+      let later : x.later ≡ y.later = later_same e e x.later y.later (sym x.oldest ∙ y.oldest) in
+      x.done ∙ (ap (λ (xs : List Waiting). let r : Rows = record old { waiting = xs } in r) later ∙ sym y.done)
+
   says_same : (old a b : Rows) (s : Said) (taken : List ℕ) → Tells site old s taken a → Tells site old s taken b → a ≡ b
   says_same old a b (said.Request part id op) taken x y = x.taken ∙ sym y.taken
   says_same old a b (said.Denied why) taken x y = x.done ∙ sym y.done
@@ -140,14 +155,15 @@ module _ (site : Site) where
   says_same old a b (said.Raised part cookie) taken x y = absurd x
   says_same old a b (said.Pos part position) taken x y = absurd x
   says_same old a b (said.Full part) taken x y = absurd x
-  says_same old a b (said.Blank part) taken x y = absurd x
-  says_same old a b (said.Shown part pixels mark) taken x y = absurd x
+  says_same old a b (said.Blank part) taken x y = serves_same old a b (waiting.Blank part) x y
+  says_same old a b (said.Shown part pixels mark) taken x y = serves_same old a b (waiting.Show part) x.2 y.2
   says_same old a b (said.Moved part octets mark) taken x y = absurd x
   says_same old a b (said.Published events) taken x y = absurd x
 
   moves_same : (old a b : Rows) (e : Event) → Moves site old e a → Moves site old e b → a ≡ b
   moves_same old a b (Says s taken) x y = says_same old a b s taken x y
-  moves_same old a b (Hears front nodes) x y = x ∙ sym y
+  moves_same old a b (Hears (Sets front nodes)) x y = x ∙ sym y
+  moves_same old a b (Hears (Hosts e answer)) x y = x.1 ∙ sym y.1
   moves_same old a b Begins x y = x.2 ∙ sym y.2
 
   happens_same : (m n k l : Snapshot Rows) (e : Happening Event) → m.rows ≡ n.rows → HappensTo (machine site) m e k → HappensTo (machine site) n e l → k.rows ≡ l.rows
@@ -202,13 +218,20 @@ module _ (site : Site) where
   answered (Row (Says (said.Raised part cookie) taken) words ∷ es) m n h c i x = absurd x.1.0
   answered (Row (Says (said.Pos part position) taken) words ∷ es) m n h c i x = absurd x.1.0
   answered (Row (Says (said.Full part) taken) words ∷ es) m n h c i x = absurd x.1.0
-  answered (Row (Says (said.Blank part) taken) words ∷ es) m n h c i x = absurd x.1.0
-  answered (Row (Says (said.Shown part pixels mark) taken) words ∷ es) m n h c i x = absurd x.1.0
+  answered (Row (Says (said.Blank part) taken) words ∷ es) m n h c i x =
+      let now = x.1.0.done in
+      subst (λ (d : Bool). IsAnsweredIn h d es) (ap (λ (r : Rows). r.denied) now) (answered es x.0 n h (happens_calm m x.0 (Row (Says (said.Blank part) taken) words) x.1 c) (subst (λ (r : Rows). IsInHand r h) (sym now) (record { hand = i.hand; accepted = i.accepted })) x.2)
+  answered (Row (Says (said.Shown part pixels mark) taken) words ∷ es) m n h c i x =
+      let now = x.1.0.2.done in
+      subst (λ (d : Bool). IsAnsweredIn h d es) (ap (λ (r : Rows). r.denied) now) (answered es x.0 n h (happens_calm m x.0 (Row (Says (said.Shown part pixels mark) taken) words) x.1 c) (subst (λ (r : Rows). IsInHand r h) (sym now) (record { hand = i.hand; accepted = i.accepted })) x.2)
   answered (Row (Says (said.Moved part octets mark) taken) words ∷ es) m n h c i x = absurd x.1.0
   answered (Row (Says (said.Published events) taken) words ∷ es) m n h c i x = absurd x.1.0
-  answered (Row (Hears front nodes) words ∷ es) m n h c i x =
+  answered (Row (Hears (Sets front nodes)) words ∷ es) m n h c i x =
       let now = x.1.0 in
-      subst (λ (d : Bool). IsAnsweredIn h d es) (ap (λ (r : Rows). r.denied) now) (answered es x.0 n h (happens_calm m x.0 (Row (Hears front nodes) words) x.1 c) (subst (λ (r : Rows). IsInHand r h) (sym now) (record { hand = i.hand; accepted = i.accepted })) x.2)
+      subst (λ (d : Bool). IsAnsweredIn h d es) (ap (λ (r : Rows). r.denied) now) (answered es x.0 n h (happens_calm m x.0 (Row (Hears (Sets front nodes)) words) x.1 c) (subst (λ (r : Rows). IsInHand r h) (sym now) (record { hand = i.hand; accepted = i.accepted })) x.2)
+  answered (Row (Hears (Hosts e answer)) words ∷ es) m n h c i x =
+      let now = x.1.0.1 in
+      subst (λ (d : Bool). IsAnsweredIn h d es) (ap (λ (r : Rows). r.denied) now) (answered es x.0 n h (happens_calm m x.0 (Row (Hears (Hosts e answer)) words) x.1 c) (subst (λ (r : Rows). IsInHand r h) (sym now) (record { hand = i.hand; accepted = i.accepted })) x.2)
   answered (Row Begins words ∷ es) m n h c i x =
       let now = x.1.0.2 in
       subst (λ (d : Bool). IsAnsweredIn h d es) (ap (λ (r : Rows). r.denied) now) (answered es x.0 n h (happens_calm m x.0 (Row Begins words) x.1 c) (subst (λ (r : Rows). IsInHand r h) (sym now) (record { hand = i.hand; accepted = i.accepted })) x.2)

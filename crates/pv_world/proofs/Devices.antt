@@ -1,12 +1,12 @@
 -- One device among others.
-use Rattle.std.proofs.Common.{◌≡◌, ℕ, zero, suc, ◌<◌, ◌==◌, ◌||◌, Bool, true, false, List, [], ◌∷◌, ◌++◌, Some, length, drop, set, get_or, refl, sym, subst, ◌∙◌, ap, arith, eq-eqb}
+use Rattle.std.proofs.Common.{◌≡◌, ℕ, zero, suc, ◌<◌, ◌==◌, ◌||◌, Bool, true, false, cond, List, [], ◌∷◌, ◌++◌, Some, length, drop, set, get_or, refl, sym, subst, ◌∙◌, ap, arith, eq-eqb}
 use Rattle.std.proofs.lemmas.Bool.Decides.{nat_tests}
 use Rattle.std.proofs.lemmas.Option.{slice_get_read, get_or_from_slice_get}
 use Rattle.std.specs.List.{AllByRecursion, slice_get}
 use Rattle.pv_words.specs.declared.place.DevId.{DevId}
 use Rattle.pv_words.specs.declared.setup.DeviceSetup.{DeviceSetup}
 use Rattle.pv_world.specs.declared.world.Placed.{Placed}
-use Rattle.pv_world.specs.History.{AreApart, is_declared}
+use Rattle.pv_world.specs.History.{AreApart, is_declared, parts_by, parts_of}
 use Rattle.pv_world.specs.World.{AreDeclaredAs, IsAt, IsDeclaredAs, setups}
 
 some_same : {A : Type 0} (x y : A) → Some x ≡ Some y → x ≡ y
@@ -112,3 +112,15 @@ setups_as [] [] h = refl
 setups_as [] (q ∷ ps) h = absurd h
 setups_as (t ∷ ss) [] h = absurd h
 setups_as (t ∷ ss) (q ∷ ps) h = ap (λ (x : DeviceSetup). x ∷ setups ps) h.0.setup_is ∙ ap (λ (xs : List DeviceSetup). t ∷ xs) (setups_as ss ps h.1)
+
+-- a device has its own parts
+pub parts_at : (ps : List Placed) (i : ℕ) (p : Placed) → AreApart (setups ps) → slice_get ps i ≡ Some p → parts_by (setups ps) p.setup.dev.0 ≡ parts_of p.setup.kind
+parts_at [] zero p a e = let wrong : ⊥ = cc in absurd wrong
+parts_at [] (suc i) p a e = let wrong : ⊥ = cc in absurd wrong
+parts_at (q ∷ qs) zero p a e =
+    let same : q ≡ p = some_same q p e in
+    subst (λ (x : Placed). parts_by (setups (x ∷ qs)) p.setup.dev.0 ≡ parts_of p.setup.kind) (sym same)
+    (ap (λ (b : Bool). cond b (parts_of p.setup.kind) (parts_by (setups qs) p.setup.dev.0)) (eq-eqb p.setup.dev.0 p.setup.dev.0 refl))
+parts_at (q ∷ qs) (suc i) p a e =
+    ap (λ (b : Bool). cond b (parts_of q.setup.kind) (parts_by (setups qs) p.setup.dev.0)) (turned_round p.setup.dev.0 q.setup.dev.0 (apart_from qs i p q.setup.dev.0 e a.0))
+    ∙ parts_at qs i p a.1 e

@@ -15,7 +15,7 @@ use Rattle.pv_words.specs.Plan.{aim_of, wanted}
 use Rattle.link_core.specs.Order.{Own, Did, Spoke, Rested, Heard, Others, Rules, Stand, next, May, IsExplained, made_by, note_at}
 use Rattle.display_backend.specs.Work.{Work, End, display}
 use Rattle.pv_world.specs.Marked.{Item, entries, own, own_from, nodes_in, nodes_next}
-use Rattle.pv_world.specs.History.{IsHistory, Belongs, IsExplainedIn, first_stand, held_in, made_in, site_of, stand_after}
+use Rattle.pv_world.specs.History.{IsHistory, BelongsIn, IsExplainedIn, first_stand, held_in, made_in, site_of, stand_after}
 use Rattle.pv_world.proofs.Items.{entries_append, own_append}
 
 pub along_front : {S E : Type 0} (step : S → E → S) (may : S → E → Type 0) (s : S) (es fs : List E) → Along step may s (es ++ fs) → Along step may s es
@@ -48,7 +48,7 @@ made_append r s [] fs = refl
 made_append r s (Did a ∷ es) fs = ap (λ (ms : List Made). record { access = a; note = note_at r s (Did a) } ∷ ms) (made_append r (next r s (Did a)) es fs)
 made_append r s (Spoke t ∷ es) fs = made_append r (next r s (Spoke t)) es fs
 made_append r s (Rested ∷ es) fs = made_append r (next r s Rested) es fs
-made_append r s (Heard front nodes ∷ es) fs = made_append r (next r s (Heard front nodes)) es fs
+made_append r s (Heard news ∷ es) fs = made_append r (next r s (Heard news)) es fs
 made_append r s (Others a ∷ es) fs = made_append r (next r s (Others a)) es fs
 
 -- places in range are in range of equal sizes
@@ -115,11 +115,11 @@ module _ (frames grants : ℕ → ℕ) where
   explained_more m n s h k =
       subst (λ (es : List Own). IsExplained (rules s) first_stand es) (sym (own_is m n s)) (Along-append (next (rules s)) (May (rules s)) first_stand (own s.dev.0 m) (own_more m n s) h k)
 
-  pub history_more : (devices : List DeviceSetup) (m n : List Item) → IsHistory frames grants devices m → Along remembered (IsTrueNext frames grants) (memory_after (entries m)) (entries n) → AllByRecursion (Belongs devices) (entries n) → AllByRecursion (IsNextIn m n) devices → IsHistory frames grants devices (m ++ n)
+  pub history_more : (devices : List DeviceSetup) (m n : List Item) → IsHistory frames grants devices m → Along remembered (IsTrueNext frames grants) (memory_after (entries m)) (entries n) → AllByRecursion (BelongsIn devices) n → AllByRecursion (IsNextIn m n) devices → IsHistory frames grants devices (m ++ n)
   history_more devices m n h t b x =
       record {
         lawful = subst (λ (es : List Entry). IsLawful frames grants es) (sym (entries_append m n)) (Along-append remembered (IsTrueNext frames grants) zeros (entries m) (entries n) h.lawful t);
-        belongs = subst (λ (es : List Entry). AllByRecursion (Belongs devices) es) (sym (entries_append m n)) (all_append (Belongs devices) (entries m) (entries n) h.belongs b);
+        belongs = all_append (BelongsIn devices) m n h.belongs b;
         explained = all_with (IsExplainedIn frames grants m) (IsNextIn m n) (IsExplainedIn frames grants (m ++ n)) (explained_more m n) devices h.explained x;
       }
 
@@ -132,6 +132,6 @@ module _ (frames grants : ℕ → ℕ) where
   history_front devices m n h =
       record {
         lawful = along_front remembered (IsTrueNext frames grants) zeros (entries m) (entries n) (subst (λ (es : List Entry). IsLawful frames grants es) (entries_append m n) h.lawful);
-        belongs = all_front (Belongs devices) (entries m) (entries n) (subst (λ (es : List Entry). AllByRecursion (Belongs devices) es) (entries_append m n) h.belongs);
+        belongs = all_front (BelongsIn devices) m n h.belongs;
         explained = all_weaker (IsExplainedIn frames grants (m ++ n)) (IsExplainedIn frames grants m) (explained_front m n) devices h.explained;
       }

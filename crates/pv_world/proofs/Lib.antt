@@ -3,6 +3,7 @@ pub mod Beginnings
 pub mod Buses
 pub mod Consequences
 pub mod Devices
+pub mod Hearing
 pub mod Histories
 pub mod Items
 pub mod Others

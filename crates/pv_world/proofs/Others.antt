@@ -15,7 +15,7 @@ AreOthers (Others a ∷ es) = AreOthers es
 AreOthers (Did a ∷ es) = ⊥
 AreOthers (Spoke s ∷ es) = ⊥
 AreOthers (Rested ∷ es) = ⊥
-AreOthers (Heard front nodes ∷ es) = ⊥
+AreOthers (Heard news ∷ es) = ⊥
 
 pub others_made : {W O : Type 0} (r : Rules W O) (s : Stand W O) (es : List Own) → AreOthers es → made_by r s es ≡ []
 others_made r s [] o = refl
@@ -23,7 +23,7 @@ others_made r s (Others a ∷ es) o = others_made r (next r s (Others a)) es o
 others_made r s (Did a ∷ es) o = absurd o
 others_made r s (Spoke t ∷ es) o = absurd o
 others_made r s (Rested ∷ es) o = absurd o
-others_made r s (Heard front nodes ∷ es) o = absurd o
+others_made r s (Heard news ∷ es) o = absurd o
 
 module _ (site : Site) (d : Device) where
   pub others_stand : (es : List Own) → AreOthers es → after (next (display site)) (stand_of site d) es ≡ stand_of site d
@@ -32,7 +32,7 @@ module _ (site : Site) (d : Device) where
   others_stand (Did a ∷ es) o = absurd o
   others_stand (Spoke t ∷ es) o = absurd o
   others_stand (Rested ∷ es) o = absurd o
-  others_stand (Heard front nodes ∷ es) o = absurd o
+  others_stand (Heard news ∷ es) o = absurd o
 
   pub others_explained : (es : List Own) → AreOthers es → IsExplained (display site) (stand_of site d) es
   others_explained [] o = tt
@@ -40,4 +40,4 @@ module _ (site : Site) (d : Device) where
   others_explained (Did a ∷ es) o = absurd o
   others_explained (Spoke t ∷ es) o = absurd o
   others_explained (Rested ∷ es) o = absurd o
-  others_explained (Heard front nodes ∷ es) o = absurd o
+  others_explained (Heard news ∷ es) o = absurd o

@@ -16,7 +16,7 @@ use Rattle.display_backend.specs.Work.{Work, End}
 use Rattle.backend_core.specs.Device as backend
 use Rattle.pv_world.specs.declared.world.Placed.{Placed}
 use Rattle.pv_world.specs.Marked.{Item, entries, nodes_in, nodes_next}
-use Rattle.pv_world.specs.History.{Belongs, IsHistory, held_in, site_of, stand_after}
+use Rattle.pv_world.specs.History.{BelongsIn, IsHistory, held_in, site_of, stand_after}
 use Rattle.pv_world.specs.World.{IsPlaced, Sight, Stands, front_access, setups}
 use Rattle.pv_world.proofs.Devices.{all_setups}
 use Rattle.pv_world.proofs.Histories.{IsNextIn, IsTrueNext, all_weaker, finds_same, held_more, history_more, in_range_from, memory_more, nodes_more, own_more, rules, stand_more, written_same}
@@ -101,7 +101,7 @@ module _ {W : Type 0} (g : Sight W) (frames grants : ℕ → ℕ) where
             }
 
   -- items that tell no device anything but accesses of others, and change no word, were entered
-  pub silent_stands : (memory : W) (devices : List Placed) (m n : List Item) → ((s : DeviceSetup) → IsSilent m n s) → ((q : Place) → after remembered (memory_after (entries m)) (entries n) q ≡ memory_after (entries m) q) → Along remembered (IsTrueNext frames grants) (memory_after (entries m)) (entries n) → AllByRecursion (Belongs (setups devices)) (entries n) → Stands g frames grants memory devices m → Stands g frames grants memory devices (m ++ n)
+  pub silent_stands : (memory : W) (devices : List Placed) (m n : List Item) → ((s : DeviceSetup) → IsSilent m n s) → ((q : Place) → after remembered (memory_after (entries m)) (entries n) q ≡ memory_after (entries m) q) → Along remembered (IsTrueNext frames grants) (memory_after (entries m)) (entries n) → AllByRecursion (BelongsIn (setups devices)) n → Stands g frames grants memory devices m → Stands g frames grants memory devices (m ++ n)
   silent_stands memory devices m n q same t b st =
       record {
         frames_are = st.frames_are;

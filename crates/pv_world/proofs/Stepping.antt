@@ -26,7 +26,7 @@ use Rattle.display_backend.specs.Work.{Work, End, display, reading}
 use Rattle.display_backend.proofs.Sound.{sound, first_good}
 use Rattle.pv_world.specs.declared.world.Placed.{Placed}
 use Rattle.pv_world.specs.Marked.{Item, entries, entry_of, items_of, nodes_in}
-use Rattle.pv_world.specs.History.{AreApart, Belongs, IsExplainedIn, IsHistory, first_stand, held_in, is_declared, parts_of, site_of, stand_after}
+use Rattle.pv_world.specs.History.{AreApart, Belongs, BelongsIn, IsExplainedIn, IsHistory, first_stand, held_in, is_declared, parts_of, site_of, stand_after}
 use Rattle.pv_world.specs.World.{IsPlaced, Sight, Stands, setups}
 use Rattle.pv_world.proofs.Devices.{all_setups, all_step, at_index, declared_at, setups_set}
 use Rattle.pv_world.proofs.Histories.{IsNextIn, IsTrueNext, aimed, held_more, history_more, in_range_from, memory_more, nodes_more, rules, stand_more}
@@ -92,8 +92,8 @@ step_true frames grants m dev None (Some s) h = (said_true frames grants m dev s
 step_true frames grants m dev (Some a) None h = (h, tt)
 step_true frames grants m dev (Some a) (Some s) h = (h, (said_true frames grants (written m a) dev s, tt))
 
-step_belongs : (devices : List DeviceSetup) (dev : DevId) (a : Option Access) (s : Option Said) → is_declared devices dev.0 ≡ true → AllByRecursion (Belongs devices) (entries (items_of dev a s))
-step_belongs devices dev None None h = tt
+step_belongs : (devices : List DeviceSetup) (dev : DevId) (a : Option Access) (s : Option Said) → is_declared devices dev.0 ≡ true → AllByRecursion (BelongsIn devices) (items_of dev a s)
+step_belongs devices dev None None h = (tt, tt)
 step_belongs devices dev None (Some s) h = (said_belongs devices dev s h, tt)
 step_belongs devices dev (Some a) None h = (h, tt)
 step_belongs devices dev (Some a) (Some s) h = (h, (said_belongs devices dev s h, tt))

@@ -15,8 +15,9 @@ use Rattle.link_core.specs.Order.{Stand, Between, IsExplained, next, made_by}
 use Rattle.link_core.specs.Machine.{Happening, HappensTo, IsRun, Snapshot, Table, history}
 use Rattle.display_backend.specs.Work.{Work, End, display, reading, first_naming, first_work}
 use Rattle.display_backend.specs.Machine.{Event, Hand, Site, Rows, Moves, first_rows, makes, verdict}
+use Rattle.display_backend.specs.Waiting.{is_for}
 use Rattle.pv_world.specs.Answered.{IsAnsweredIn}
-use Rattle.pv_world.specs.Marked.{Item, entries, own}
+use Rattle.pv_world.specs.Marked.{Item, Entered, Idle, Refuses, entries, own}
 
 -- how many parts a device has: a display's connectors
 abbrev pub parts_of : DeviceKind → ℕ
@@ -52,17 +53,23 @@ abbrev pub IsNoState : Said → Type 0
 IsNoState (said.State s) = ⊥
 IsNoState other = Unit {0}
 
--- an entry is an access of a domain, what a domain is told, or a declared device's; a node is one of its parts'
+-- an entry is an access of a domain, what a domain is told, or a declared device's; a node is one of its parts', and an event
+-- of a host is one of the device's kind and of a part that it has; a refusal stands beside its event alone
 abbrev pub Belongs : List DeviceSetup → Entry → Type 0
 Belongs devices (entry.Front dom a) = Unit {0}
 Belongs devices (entry.Back dev a) = is_declared devices dev.0 ≡ true
 Belongs devices (entry.Said dev s) = (is_declared devices dev.0 ≡ true) × IsNoState s
 Belongs devices (entry.Bus dev end s) = is_declared devices dev.0 ≡ true
 Belongs devices (entry.Wake dev) = is_declared devices dev.0 ≡ true
-Belongs devices (entry.Host dev e) = ⊥
+Belongs devices (entry.Host dev e) = (is_declared devices dev.0 ≡ true) × (is_for (parts_by devices dev.0) e ≡ true)
 Belongs devices (entry.Refused dev r) = ⊥
 Belongs devices (entry.Node dev part key v) = (is_declared devices dev.0 ≡ true) × (part < parts_by devices dev.0) × (key < 4)
 Belongs devices (entry.Told dom t) = Unit {0}
+
+abbrev pub BelongsIn : List DeviceSetup → Item → Type 0
+BelongsIn devices (Entered e) = Belongs devices e
+BelongsIn devices (Idle dev) = Unit {0}
+BelongsIn devices (Refuses dev e why) = Belongs devices (entry.Host dev e)
 
 -- the device's entries are its order of work
 abbrev pub IsExplainedIn : (frames grants : ℕ → ℕ) → List Item → DeviceSetup → Type 0
@@ -71,8 +78,8 @@ IsExplainedIn frames grants m s = IsExplained (display (site_of frames grants s)
 pub record IsHistory (frames grants : ℕ → ℕ) (devices : List DeviceSetup) (m : List Item) : Type 0 where
   -- each access is in range and finds the word last written there
   pub lawful : IsLawful frames grants (entries m)
-  pub belongs : AllByRecursion (Belongs devices) (entries m)
-  -- each device does what its order of work gives next
+  pub belongs : AllByRecursion (BelongsIn devices) m
+  -- each device does what its order of work gives next, and refuses just the events of its host that it may not take
   pub explained : AllByRecursion (IsExplainedIn frames grants m) devices
 
 -- the accesses of a device, and what they are for

@@ -1,4 +1,4 @@
--- A journal with marks where a device was idle.
+-- A journal with marks where a device was idle, and with each refused event of a host beside its refusal.
 use Rattle.std.specs.Prelude.{◌≡◌, ℕ, ◌==◌, ◌+◌, Bool, true, false, List, [], ◌∷◌, ◌++◌, Option, Some, None, if◌then◌else◌}
 use Rattle.pv_words.specs.declared.access.Access.{Access}
 use Rattle.pv_words.specs.declared.entry.Entry.{Entry}
@@ -7,21 +7,26 @@ use Rattle.pv_words.specs.declared.entry.End.TheVariants as end
 use Rattle.pv_words.specs.declared.place.DevId.{DevId}
 use Rattle.pv_words.specs.declared.device.Said.{Said}
 use Rattle.pv_words.specs.declared.device.Said.TheVariants as said
+use Rattle.pv_words.specs.declared.device.HostEvent.{HostEvent}
+use Rattle.pv_words.specs.declared.device.HostRefusal.{HostRefusal}
 use Rattle.pv_words.specs.declared.device.NodeValue.{NodeValue}
 use Rattle.pv_words.specs.Along.{after}
-use Rattle.link_core.specs.Order.{Own, Did, Spoke, Rested, Heard, Others}
+use Rattle.link_core.specs.Order.{Sets, Hosts, Own, Did, Spoke, Rested, Heard, Others}
 use Rattle.xenbus_states.specs.Nodes.{no_nodes, with_node}
 
--- an entry, or a mark: the device of this number was stepped and was idle
+-- An entry; or a mark: the device of this number was stepped and was idle; or the two entries of an event that a host told a
+-- device, and of its refusal, which directly follows it.
 pub data Item : Type 0 where
   Entered : Entry → Item
   Idle : ℕ → Item
+  Refuses : DevId → HostEvent → HostRefusal → Item
 
 -- the journal itself
 abbrev pub entries : List Item → List Entry
 entries [] = []
 entries (Entered e ∷ m) = e ∷ entries m
 entries (Idle d ∷ m) = entries m
+entries (Refuses dev e why ∷ m) = entry.Host dev e ∷ entry.Refused dev why ∷ entries m
 
 -- the nodes of the device of this number, after one more entry
 abbrev pub node_set : ℕ → List NodeValue → Entry → List NodeValue
@@ -38,21 +43,23 @@ node_set d nodes (entry.Told dom t) = nodes
 abbrev pub nodes_next : ℕ → List NodeValue → Item → List NodeValue
 nodes_next d nodes (Entered e) = node_set d nodes e
 nodes_next d nodes (Idle dev) = nodes
+nodes_next d nodes (Refuses dev e why) = nodes
 
 -- the nodes as they were set in the journal
 abbrev pub nodes_in : ℕ → List Item → List NodeValue
 nodes_in d m = after (nodes_next d) no_nodes m
 
 -- What an entry tells of the device of this number, while its nodes stand so: a state that it says is entered as a state
--- of the bus, and one that its frontend sets is heard. An access of a domain, or of another device, is another's.
+-- of the bus, and one that its frontend sets is heard, and so is an event of its host, which isn't refused where it stands
+-- alone. An access of a domain, or of another device, is another's.
 abbrev pub told_by : ℕ → List NodeValue → Entry → List Own
 told_by d nodes (entry.Back dev a) = if dev.0 == d then Did a ∷ [] else Others a ∷ []
 told_by d nodes (entry.Said dev s) = if dev.0 == d then Spoke s ∷ [] else []
 told_by d nodes (entry.Bus dev end.Back s) = if dev.0 == d then Spoke (said.State s) ∷ [] else []
-told_by d nodes (entry.Bus dev end.Front s) = if dev.0 == d then Heard s nodes ∷ [] else []
+told_by d nodes (entry.Bus dev end.Front s) = if dev.0 == d then Heard (Sets s nodes) ∷ [] else []
 told_by d nodes (entry.Front dom a) = Others a ∷ []
 told_by d nodes (entry.Wake dev) = []
-told_by d nodes (entry.Host dev e) = []
+told_by d nodes (entry.Host dev e) = if dev.0 == d then Heard (Hosts e None) ∷ [] else []
 told_by d nodes (entry.Refused dev r) = []
 told_by d nodes (entry.Node dev p k v) = []
 told_by d nodes (entry.Told dom t) = []
@@ -60,6 +67,7 @@ told_by d nodes (entry.Told dom t) = []
 abbrev pub told_in : ℕ → List NodeValue → Item → List Own
 told_in d nodes (Entered e) = told_by d nodes e
 told_in d nodes (Idle dev) = if dev == d then Rested ∷ [] else []
+told_in d nodes (Refuses dev e why) = if dev.0 == d then Heard (Hosts e (Some why)) ∷ [] else []
 
 -- what the device of this number does and hears, with the accesses of others, in order
 abbrev pub own_from : ℕ → List NodeValue → List Item → List Own
@@ -83,6 +91,11 @@ entry_of dev (said.Shown part pixels mark) = entry.Said dev (said.Shown part pix
 entry_of dev (said.Moved part octets mark) = entry.Said dev (said.Moved part octets mark)
 entry_of dev (said.Published events) = entry.Said dev (said.Published events)
 entry_of dev (said.Closed why) = entry.Said dev (said.Closed why)
+
+-- an event of a host, and its refusal, if it is refused
+abbrev pub host_item : DevId → HostEvent → Option HostRefusal → Item
+host_item dev e None = Entered (entry.Host dev e)
+host_item dev e (Some why) = Refuses dev e why
 
 -- the entries of one step of a device, or the mark where it was idle
 abbrev pub items_of : DevId → Option Access → Option Said → List Item
@@ -109,6 +122,7 @@ abbrev pub AreSteps : ℕ → List Item → Type 0
 AreSteps d [] = Unit {0}
 AreSteps d (Entered e ∷ m) = IsStepOf d e × AreSteps d m
 AreSteps d (Idle dev ∷ m) = ⊥
+AreSteps d (Refuses dev e why ∷ m) = ⊥
 
 -- an access of the device
 abbrev pub is_access : Item → Bool
@@ -122,6 +136,7 @@ is_access (Entered (entry.Refused dev r)) = false
 is_access (Entered (entry.Node dev p k v)) = false
 is_access (Entered (entry.Told dom t)) = false
 is_access (Idle dev) = false
+is_access (Refuses dev e why) = false
 
 -- how many accesses of devices there are
 abbrev pub accesses_in : List Item → ℕ

@@ -5,6 +5,8 @@ use Rattle.pv_words.specs.declared.access.Access.{Access}
 use Rattle.pv_words.specs.declared.access.Access.TheVariants as access
 use Rattle.pv_words.specs.declared.entry.Entry.{Entry}
 use Rattle.pv_words.specs.declared.entry.Entry.TheVariants as entry
+use Rattle.pv_words.specs.declared.device.HostEvent.{HostEvent}
+use Rattle.pv_words.specs.declared.device.HostRefusal.{HostRefusal}
 use Rattle.pv_words.specs.declared.journal.Stop.{Stop}
 use Rattle.pv_words.specs.declared.journal.Stop.TheVariants.{JournalFull, OutOfMemory}
 use Rattle.pv_words.specs.declared.place.DevId.{DevId}
@@ -18,7 +20,7 @@ use Rattle.backend_core.specs.Device as backend
 use Rattle.pv_world.specs.declared.world.Placed.{Placed}
 use Rattle.pv_world.specs.declared.world.World.{World}
 use Rattle.pv_world.specs.Record.{IsAtLimit, progress}
-use Rattle.pv_world.specs.Marked.{Item, Entered, Idle, entries, nodes_in, items_of, accesses_in, IsStepOf, AreSteps}
+use Rattle.pv_world.specs.Marked.{Item, Entered, Idle, entries, host_item, nodes_in, items_of, accesses_in, IsStepOf, AreSteps}
 use Rattle.xenbus_states.specs.Nodes.{no_nodes}
 use Rattle.display_backend.specs.Machine.{Site}
 use Rattle.pv_world.specs.History.{IsHistory, AreApart, first_stand, parts_of, site_of, stand_after, held_in}
@@ -167,6 +169,23 @@ Enters g frames grants memory devices due es m (Ok x) =
     Stands g frames grants memory devices (m ++ due ∷ []) × (entries (m ++ due ∷ []) ≡ es)
 Enters g frames grants memory devices due es m (Err stop) =
     IsHistory frames grants (setups devices) (m ++ due ∷ []) × ((entries m ≡ es) × IsAtLimit stop es)
+
+-- the entries of an item were entered up to one of them, which found no room
+pub record IsCut (item : Item) (old new : List Entry) : Type 0 where
+  pub done : List Entry
+  pub due : Entry
+  pub rest : List Entry
+  pub split : entries (item ∷ []) ≡ done ++ due ∷ rest
+  pub entered : new ≡ old ++ done
+
+-- A host told a device an event, which is refused or not: the entry, and then that of its refusal, if there is one; or there
+-- was no room for one of them.
+abbrev pub Hosted : {W : Type 0} → Sight W → (frames grants : ℕ → ℕ) (memory : W) (devices : List Placed) (dev : DevId) (e : HostEvent) (es : List Entry) (m : List Item) {A : Type 0} → Result A Stop → Type 0
+Hosted g frames grants memory devices dev e es m (Ok x) =
+    (answer : Option HostRefusal) × Stands g frames grants memory devices (m ++ host_item dev e answer ∷ []) × (entries (m ++ host_item dev e answer ∷ []) ≡ es)
+Hosted g frames grants memory devices dev e es m (Err stop) =
+    (answer : Option HostRefusal) × IsHistory frames grants (setups devices) (m ++ host_item dev e answer ∷ [])
+    × IsCut (host_item dev e answer) (entries m) es × IsAtLimit stop es
 
 -- a word was exchanged where it was `old`, or there was no room for the entry
 abbrev pub Exchanged : {W : Type 0} → Sight W → (frames grants : ℕ → ℕ) (memory : W) (devices : List Placed) (at : Place) (old new : ℕ) (es : List Entry) (m : List Item) {A : Type 0} → Result A Stop → Type 0

@@ -16,8 +16,8 @@ use backend_core::Device;
 use display_backend::{Display, Step};
 use grant_table::{Owned, OwnerStep};
 use pv_words::{
-    Access, DevId, DeviceKind, DeviceSetup, DomId, End, Entry, Frame, GrantRef, JOURNAL_LIMIT,
-    Journal, Machine, Mode, NodeValue, Place, Said, Setup, State, Stop, Turn, Who,
+    Access, DevId, DeviceKind, DeviceSetup, DomId, End, Entry, Frame, GrantRef, HostEvent,
+    JOURNAL_LIMIT, Journal, Machine, Mode, NodeValue, Place, Said, Setup, State, Stop, Turn, Who,
 };
 use std::alloc::{AllocError, Global};
 use xenbus_states::Nodes;
@@ -174,9 +174,10 @@ impl<W: Machine> World<W> {
     ghost use Rattle.pv_words.specs.Place.{InRange};
     ghost use Rattle.grant_table.specs.Owning.{end_plan, permit_plan};
     ghost use Rattle.pv_world.specs.Marked.{Item, entries};
+    ghost use Rattle.display_backend.specs.Waiting.{is_for};
     ghost use Rattle.pv_world.specs.History.{is_declared, parts_by};
     ghost use Rattle.pv_world.specs.Owner.{KeepsToEntry, Owns, OwnsOn, left_of};
-    ghost use Rattle.pv_world.specs.World.{Advanced, Enters, Exchanged, IsAt, Standing, Stands, SteppedBy, devices_of, front_store, memory_of, setups, sight};
+    ghost use Rattle.pv_world.specs.World.{Advanced, Enters, Exchanged, Hosted, IsAt, Standing, Stands, SteppedBy, devices_of, front_store, memory_of, setups, sight};
 
     // Where a device stands among the devices.
     fn position(&self, dev: DevId) -> usize
@@ -358,6 +359,26 @@ impl<W: Machine> World<W> {
         enter(journal, Entry::Bus(dev, End::Front, s))?;
         let placed = &mut self.devices[i];
         placed.device.bus(s, &placed.nodes);
+        Ok(())
+    }
+
+    /// A host tells a device an event of its kind and of a part that it has, and the device takes it or refuses it. After a
+    /// Stop the entries so far stand; where the event's own entry found no room, the device wasn't told.
+    pub fn host(&mut self, dev: DevId, e: HostEvent, journal: &mut Journal) -> Result<(), Stop>
+        requires standing { Standing (sight W.word W.frames_of W.grants_of W.port W.whole W.knows_device W.knows_domain) (memory_of self.old) (devices_of self.old) journal.old.entries }
+        requires declared { is_declared (setups (devices_of self.old)) dev.0 ≡ true }
+        requires fits { is_for (parts_by (setups (devices_of self.old)) dev.0) e ≡ true }
+        ensures hosted { (frames grants : ℕ → ℕ) (m : List Item) →
+            Stands (sight W.word W.frames_of W.grants_of W.port W.whole W.knows_device W.knows_domain) frames grants (memory_of self.old) (devices_of self.old) m → entries m ≡ journal.old.entries →
+            Hosted (sight W.word W.frames_of W.grants_of W.port W.whole W.knows_device W.knows_domain) frames grants (memory_of self.new) (devices_of self.new) dev e journal.new.entries m result }
+        ensures devices { setups (devices_of self.new) ≡ setups (devices_of self.old) }
+        ensures memory { memory_of self.new ≡ memory_of self.old }
+    {
+        let i = self.position(dev);
+        enter(journal, Entry::Host(dev, e))?;
+        if let Err(why) = self.devices[i].device.host(e) {
+            enter(journal, Entry::Refused(dev, why))?;
+        }
         Ok(())
     }
 

@@ -43,7 +43,7 @@ returns-in_default-clause-goes g c = λ site.
     let l = c.index_mut.result.now in
     let at = here d.links.items d.at l _ d.whole.at_in c.index_mut.ensures.value in
     serve_on (λ x. Answered x) (answer_from d.reply) site (work_of d) _ d.links.items d.at l turn.new.self turn.result.access at
-    (same_work d.connection d.seen d.read _ _ d.closing _ _ d.kept _ _ _ d.at _ _ d.round _ _ (connecting_as d.activity activity.Answering refl c.requires.serving) (parts_as d.activity activity.Answering d.closing d.connection.back refl c.requires.serving d.links.items d.at l turn.new.self at (rw c.in_default.is at turn.ensures.joined)) refl refl (stock_as d.activity activity.Answering (stock_of d.store) refl c.requires.serving))
+    (same_work d.waiting d.connection d.seen d.read _ _ d.closing _ _ d.kept _ _ _ d.at _ _ d.round _ _ (connecting_as d.activity activity.Answering refl c.requires.serving) (parts_as d.activity activity.Answering d.closing d.connection.back refl c.requires.serving d.links.items d.at l turn.new.self at (rw c.in_default.is at turn.ensures.joined)) refl refl (stock_as d.activity activity.Answering (stock_of d.store) refl c.requires.serving))
     (rw c.in_default.is at turn.ensures.turns)
 
 pub returns-in_default-clause-same : goal.returns-in_default-clause-same
@@ -87,7 +87,7 @@ returns-clause-goes g c = λ site.
     serve_ends (λ x. Answered x) (answer_from d.reply) site (work_of d) d.links.items d.at l turn.result.access c.in-Some.notified (answer_left turn.new.self d.reply) _ _ at (rw c.in-Some.is at turn.ensures.turns)
     (search rules)
     (ap (λ w. Between w)
-    (same_work d.connection d.seen d.read _ _ d.closing _ _ d.kept _ _ _ d.at _ _ d.round _ _ (connecting_after d.activity activity.Answering refl c.requires.serving) (parts_answered d.activity activity.Answering d.closing d.connection.back refl c.requires.serving d.links.items d.at l turn.new.self at joined) refl refl refl
+    (same_work d.waiting d.connection d.seen d.read _ _ d.closing _ _ d.kept _ _ _ d.at _ _ d.round _ _ (connecting_after d.activity activity.Answering refl c.requires.serving) (parts_answered d.activity activity.Answering d.closing d.connection.back refl c.requires.serving d.links.items d.at l turn.new.self at joined) refl refl refl
     ∙ answered_work (work_of d) q d.at d.hand d.status _ c.in-Some-hand.is (told ∙ ap (λ (x : Stock). status_in d.progress (verdict x.buffers q.asked)) before) (made ∙ ap (λ (x : Stock). stock_after x q.asked (is_accepted d.status)) before)))
 
 pub returns-clause-same : goal.returns-clause-same

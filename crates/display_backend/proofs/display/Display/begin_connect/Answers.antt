@@ -46,8 +46,8 @@ returns-in-Some-clause-begins g c =
     let long : length ls ≡ c.len.result = omega arith in
     let fault : fault_in (all_refs d.seen 0 site.parts) ≡ Some c.in-Some.why = ap (λ n. fault_in (all_refs d.seen 0 n)) long ∙ (sym c.fault_among.ensures ∙ c.in-Some.is) in
     told_as site (beginning (work_of d)) (connect_all site (all_refs d.seen 0 site.parts)) c.shut-said.result (said.Closed c.in-Some.why) _ _ c.shut-said.ensures.said
-    (c.shut-said.ensures.stand site ∙ ap (λ (x : Connection). Between (shut (work x d.seen d.seen true d.closing [] d.kept None d.progress d.at d.left d.round (stripped bufs)))) c.began.ensures
-    ∙ ap (λ (x : Stock). Between (shut (work (begun d.connection) d.seen d.seen true d.closing [] d.kept None d.progress d.at d.left d.round x))) (bare_stripped bufs bare ∙ ap (λ (a : Activity). stock_in a bufs) (sym c.requires.between)))
+    (c.shut-said.ensures.stand site ∙ ap (λ (x : Connection). Between (shut (work d.waiting x d.seen d.seen true d.closing [] d.kept None d.progress d.at d.left d.round (stripped bufs)))) c.began.ensures
+    ∙ ap (λ (x : Stock). Between (shut (work d.waiting (begun d.connection) d.seen d.seen true d.closing [] d.kept None d.progress d.at d.left d.round x))) (bare_stripped bufs bare ∙ ap (λ (a : Activity). stock_in a bufs) (sym c.requires.between)))
     (lacks site (beginning (work_of d)) (all_refs d.seen 0 site.parts) c.in-Some.why fault)
 
 pub returns-in-Some-clause-same : goal.returns-in-Some-clause-same
@@ -98,8 +98,8 @@ returns-clause-begins g c =
     let rest : idle l.0 ≡ true = resting_idle d.dom.0 o d.at d.round d.activity ls c.requires.between d.whole 0 l.0 l.1 in
     let plan = connect_begins site d.seen ls l.0 l.1 rest dom d.whole.some none in
     let there = stand_of site c.connect.new.self in
-    let same = ap (λ (x : Connection). work x d.seen d.seen true d.closing [] d.kept (hand_of d.hand d.at) d.progress d.at d.left d.round (stock_of d.store)) c.began.ensures
-    ∙ same_work (begun d.connection) d.seen d.seen true true d.closing [] (parts_in o ls) d.kept _ _ _ d.at _ _ d.round _ _ refl (ap (λ b. parts_in b ls) (sym apart)) refl refl (ap (λ (a : Activity). stock_in a (stock_of d.store)) (sym c.requires.between)) in
+    let same = ap (λ (x : Connection). work d.waiting x d.seen d.seen true d.closing [] d.kept (hand_of d.hand d.at) d.progress d.at d.left d.round (stock_of d.store)) c.began.ensures
+    ∙ same_work d.waiting (begun d.connection) d.seen d.seen true true d.closing [] (parts_in o ls) d.kept _ _ _ d.at _ _ d.round _ _ refl (ap (λ b. parts_in b ls) (sym apart)) refl refl (ap (λ (a : Activity). stock_in a (stock_of d.store)) (sym c.requires.between)) in
     let out = subst (λ (v : Work). GoesOut site v (connecting site d.seen 0 ls) c.connect.result.access c.connect.result.said there) same c.connect.ensures.goes in
     comes_out site (beginning (work_of d)) (connect_all site (all_refs d.seen 0 site.parts)) c.connect.result.access c.connect.result.said there
     (subst (λ (p : Plan End). GoesOut site (beginning (work_of d)) p c.connect.result.access c.connect.result.said there) (sym plan) out)

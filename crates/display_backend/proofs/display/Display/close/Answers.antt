@@ -37,7 +37,7 @@ returns-clause-begins g c = λ site.
     let s = stock_of d.store in
     let all = pages_all d.activity s c.requires.between _ _ pages in
     let there = stand_of site c.leave.new.self in
-    let same = same_work d.connection d.seen d.read false _ d.closing _ _ d.kept _ _ d.progress d.at _ _ d.round _ _ (ap is_connecting (sym c.requires.between)) refl refl refl (ap (λ (a : Activity). stripped (stock_in a s)) (sym c.requires.between)) in
+    let same = same_work d.waiting d.connection d.seen d.read false _ d.closing _ _ d.kept _ _ d.progress d.at _ _ d.round _ _ (ap is_connecting (sym c.requires.between)) refl refl refl (ap (λ (a : Activity). stripped (stock_in a s)) (sym c.requires.between)) in
     let out = subst (λ (v : Work). GoesOut site v (leaving_plan end (pages_of s ++ all_held d.links.items)) c.leave.result.access c.leave.result.said there) same (c.leave.ensures.goes site) in
     comes_out site (leaving (work_of d)) _ c.leave.result.access c.leave.result.said there
     (subst (λ hs. GoesOut site (leaving (work_of d)) (leaving_plan end hs) c.leave.result.access c.leave.result.said there) (sym all) out)

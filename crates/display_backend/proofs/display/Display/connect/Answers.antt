@@ -90,7 +90,7 @@ returns-in_default-clause-goes g c =
     let shut = ap (λ (a : Activity). is_open a d.closing d.connection.back) c.requires.connecting in
     let parts = parts_leaving o ls (slice_set ls k new) shut in
     let t : Leads before turn.result.access None after = rw c.in_default.is at leads in
-    let same = same_work d.connection d.seen d.read _ _ d.closing _ _ d.kept _ _ _ d.at _ _ d.round _ _ refl parts refl refl refl in
+    let same = same_work d.waiting d.connection d.seen d.read _ _ d.closing _ _ d.kept _ _ _ d.at _ _ d.round _ _ refl parts refl refl refl in
     let stand = connect_stand site (work_of d) _ d.read (stock_of d.store) d.walk ls d.reply d.at k d.activity new c.requires.connecting short same in
     subst (λ (s : Stand Work End). GoesOut site (work_of d) (connecting site d.read k ls) turn.result.access None s) (sym stand)
     (subst (λ (x : Option Link). GoesOut site (work_of d) (connect_from site d.read k (met_links k ls) x) turn.result.access None (stand_at (work_of d) (joined after follow))) (sym at)
@@ -164,7 +164,7 @@ returns-in-Ok-clause-goes g c =
     let parts = parts_leaving o ls (slice_set ls k new) shut in
     let done : turn.result.done ≡ Some (Ok tt) = c.in-Some.is ∙ ap Some c.in-Ok.is in
     let t : Leads before turn.result.access (Some (Joins (joined_of new))) after = rw done at leads in
-    let same = same_work d.connection d.seen d.read _ _ d.closing _ _ d.kept _ _ _ d.at _ _ d.round _ _ refl parts refl refl refl in
+    let same = same_work d.waiting d.connection d.seen d.read _ _ d.closing _ _ d.kept _ _ _ d.at _ _ d.round _ _ refl parts refl refl refl in
     let went = c.meets-said.ensures.went site (sym (length-set ls k new)) refl in
     let more = met_more ls k new short in
     let there = stand_of site c.meets-said.new.self in
@@ -269,7 +269,7 @@ returns-then-is_none-clause-goes g c =
     let none = none_of turn.result.access (c.is_none.ensures ∙ ap not c.if-is_none.true) in
     let once = refused_at_once before after follow turn.result.access (Refuses (link_held new) why) none t in
     let plan : connecting site d.read k ls ≡ leaving_plan denied (pages_of bufs ++ all_held (slice_set ls k new)) = ap (connect_from site d.read k (met_links k ls)) at ∙ (once ∙ ap (leaving_plan denied) (sym (gone ∙ held))) in
-    let same = same_work d.connection d.seen d.read _ _ d.closing _ _ d.kept _ _ _ d.at _ _ d.round _ _ (ap is_connecting (sym c.requires.connecting)) (ap (λ x. parts_in x ls) (sym shut)) refl refl (bare_stripped bufs bare ∙ ap (λ (a : Activity). stock_in a bufs) (sym c.requires.connecting)) in
+    let same = same_work d.waiting d.connection d.seen d.read _ _ d.closing _ _ d.kept _ _ _ d.at _ _ d.round _ _ (ap is_connecting (sym c.requires.connecting)) (ap (λ x. parts_in x ls) (sym shut)) refl refl (bare_stripped bufs bare ∙ ap (λ (a : Activity). stock_in a bufs) (sym c.requires.connecting)) in
     let there = stand_of site c.leave.new.self in
     subst (λ p. GoesOut site (work_of d) p c.leave.result.access c.leave.result.said there) (sym plan)
     (subst (λ (v : Work). GoesOut site v (leaving_plan denied (pages_of bufs ++ all_held (slice_set ls k new))) c.leave.result.access c.leave.result.said there) same (c.leave.ensures.goes site))
@@ -314,7 +314,7 @@ returns-else-is_none-clause-goes g c =
     let gone : pages_of bufs ++ all_held (slice_set ls k new) ≡ all_held (slice_set ls k new) = ap (λ hs. hs ++ all_held (slice_set ls k new)) bare in
     let denied = ending.Denied why in
     let some = c.is_none.ensures ∙ ap not c.if-is_none.false in
-    let same = same_work d.connection d.seen d.read _ _ d.closing _ _ d.kept _ _ _ d.at _ _ d.round _ _ (ap is_connecting (sym c.requires.connecting)) (ap (λ x. parts_in x ls) (sym shut)) refl refl (bare_stripped bufs bare ∙ ap (λ (a : Activity). stock_in a bufs) (sym c.requires.connecting)) in
+    let same = same_work d.waiting d.connection d.seen d.read _ _ d.closing _ _ d.kept _ _ _ d.at _ _ d.round _ _ (ap is_connecting (sym c.requires.connecting)) (ap (λ x. parts_in x ls) (sym shut)) refl refl (bare_stripped bufs bare ∙ ap (λ (a : Activity). stock_in a bufs) (sym c.requires.connecting)) in
     let there = stand_of site c.leaves-said.new.self in
     let went = subst (λ (v : Work). Went (display site) v (leaving_plan denied (pages_of bufs ++ all_held (slice_set ls k new))) c.leaves-said.result there) same (c.leaves-said.ensures.went site) in
     let two = subst (λ hs. Went (display site) (work_of d) (leaving_plan denied hs) c.leaves-said.result there) (gone ∙ held) went in

@@ -135,7 +135,7 @@ returns-in-Destroy-clause-begins g c =
     let there = joined_here w ls d.at l.0 parts l.1 (both d.at l.0 l.1).0 (both d.at l.0 l.1).1 in
     let before = stock_after d.activity activity.Answering (stock_of d.store) refl (inl c.requires.between) in
     let is = decides_frees site w (hand_with d.at q) q.asked cookie (is_accepted d.status) (joined_of l.0) (stock_of d.store) c.in-Destroy.is (accepted_zero d.status zero) there (sym before) in
-    let same = same_work d.connection d.seen d.read _ _ d.closing _ _ d.kept _ _ d.progress d.at _ _ d.round _ _ (connecting_as d.activity (activity.Freeing cookie) refl (inl c.requires.between)) (ap (λ o. parts_in o ls) (open_as d.activity (activity.Freeing cookie) d.closing d.connection.back refl (inl c.requires.between))) refl refl (frees_stock d.activity cookie (stock_of d.store) c.requires.between) in
+    let same = same_work d.waiting d.connection d.seen d.read _ _ d.closing _ _ d.kept _ _ d.progress d.at _ _ d.round _ _ (connecting_as d.activity (activity.Freeing cookie) refl (inl c.requires.between)) (ap (λ o. parts_in o ls) (open_as d.activity (activity.Freeing cookie) d.closing d.connection.back refl (inl c.requires.between))) refl refl (frees_stock d.activity cookie (stock_of d.store) c.requires.between) in
     begins_as site (decides site w (hand_with d.at q) q.asked (is_accepted d.status)) (Act (freeing w cookie) (freeing_plan cookie (stock_of d.store))) c.free.result.access c.free.result.said _ is
     (comes_on site (freeing w cookie) (freeing_plan cookie (stock_of d.store)) c.free.result.access c.free.result.said _
     (subst (λ (u : Work). GoesOn (display site) u (freeing_plan cookie (stock_of d.store)) c.free.result.access c.free.result.said (stand_of site c.free.new.self)) same (c.free.ensures.goes site)))

@@ -80,7 +80,7 @@ returns-clause-goes g c = λ site.
     let bare : pages_under c.args.cookie t.buffers ≡ [] = nil_of (pages_under c.args.cookie t.buffers) (omega (arith, c.if-held_of-gt0.false, c.held_of.ensures)) in
     frees_last site (work_of d) c.args.cookie s t c.unmap_of.result _ c.unmap_of.ensures.stock (some_under c.args.cookie d.hand d.progress s now) c.unmap_of.ensures.access bare
     (ap (λ w. Between w)
-    (same_work d.connection d.seen d.read _ _ d.closing _ _ d.kept _ _ progress.Released d.at _ _ d.round _ _ (connecting_after d.activity (activity.Freeing c.args.cookie) refl (inr c.requires.freeing)) (ap (λ b. parts_in b d.links.items) (between_as d.activity (activity.Freeing c.args.cookie) d.closing d.connection.back refl (inr c.requires.freeing))) refl refl (freed_stock d.activity c.args.cookie s t c.requires.freeing c.unmap_of.ensures.stock bare)))
+    (same_work d.waiting d.connection d.seen d.read _ _ d.closing _ _ d.kept _ _ progress.Released d.at _ _ d.round _ _ (connecting_after d.activity (activity.Freeing c.args.cookie) refl (inr c.requires.freeing)) (ap (λ b. parts_in b d.links.items) (between_as d.activity (activity.Freeing c.args.cookie) d.closing d.connection.back refl (inr c.requires.freeing))) refl refl (freed_stock d.activity c.args.cookie s t c.requires.freeing c.unmap_of.ensures.stock bare)))
 
 pub returns-clause-stays : goal.returns-clause-stays
 returns-clause-stays g c =

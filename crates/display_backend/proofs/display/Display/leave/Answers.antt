@@ -57,7 +57,7 @@ returns-then-not-is_bare-clause-goes g c = λ site.
     let still : stock_in d.activity (stock_of c.unmap_first.new.self) ≡ stock_in d.activity s =
     ap (λ (a : Activity). stock_in a (stock_of c.unmap_first.new.self)) c.requires.leaving
     ∙ (ap stripped c.unmap_first.ensures.stock ∙ (buffers_stay s ∙ ap (λ (a : Activity). stock_in a s) (sym c.requires.leaving))) in
-    let same = same_work d.connection d.seen d.read _ _ d.closing _ _ d.kept _ _ _ d.at _ _ d.round _ _ refl refl refl refl still in
+    let same = same_work d.waiting d.connection d.seen d.read _ _ d.closing _ _ d.kept _ _ _ d.at _ _ d.round _ _ refl refl refl refl still in
     let there = stand_of site c.leaves-said.new.self in
     let went = subst (λ (w : Work). Went (display site) w (leaving_plan end (pages_of (stock_of c.unmap_first.new.self) ++ all_held ls)) c.leaves-said.result there) same (c.leaves-said.ensures.went site) in
     let two = subst (λ hs. Went (display site) (work_of d) (leaving_plan end (hs ++ all_held ls)) c.leaves-said.result there) left went in
@@ -119,7 +119,7 @@ returns-clause-goes g c = λ site.
     let left : link_held turn.new.self ≡ pages.1 = turn.ensures.held ∙ ap rest_of pages.2 in
     let all = first_drop ls k l turn.new.self pages.0 pages.1 at (λ i b lt e. c.first_held-part.ensures.before i b lt e) pages.2 left in
     let made = drop_clears l turn.result.access turn.result.done (drop_left turn.new.self) pages.0 pages.1 pages.2 turn.ensures.leads in
-    let same = same_work d.connection d.seen d.read _ _ d.closing _ _ d.kept _ _ _ d.at _ _ d.round _ _ refl (parts_leaving (is_open d.activity d.closing d.connection.back) ls (slice_set ls k turn.new.self) (ap (λ (a : Activity). is_open a d.closing d.connection.back) c.requires.leaving)) refl refl refl in
+    let same = same_work d.waiting d.connection d.seen d.read _ _ d.closing _ _ d.kept _ _ _ d.at _ _ d.round _ _ refl (parts_leaving (is_open d.activity d.closing d.connection.back) ls (slice_set ls k turn.new.self) (ap (λ (a : Activity). is_open a d.closing d.connection.back) c.requires.leaving)) refl refl refl in
     let test : (length (pages_of (stock_of d.store)) == 0) ≡ true = sym c.is_bare.ensures ∙ c.if-not-is_bare.false in
     let zero : length (pages_of (stock_of d.store)) ≡ 0 = grind (arith, nat_tests, test) in
     let empty = nil_of (pages_of (stock_of d.store)) zero in

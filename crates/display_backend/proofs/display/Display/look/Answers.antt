@@ -52,7 +52,7 @@ returns-in-Nothing-clause-goes g c = λ site sp.
     c.next_look-self.ensures.exact ∙ (ap (λ m. next_look m k c.args.served) (length-set d.links.items k turn.new.self ∙ long) ∙ ap (λ (r : Round). next_look site.parts (part_in r) (served_in r)) (sym c.requires.round)) in
     serve_ends (λ x. Saw x) look_from site (work_of d) d.links.items k l turn.result.access found (Finished found) None _ at (rw done at (turn.ensures.turns (Finished found))) refl
     (stands_between site _ d.read (stock_of d.store) d.walk _ d.reply _ d.activity c.requires.between
-    ∙ ap (λ x. Between x) (same_look d.connection d.seen d.read _ d.closing _ _ d.kept _ _ d.progress d.at d.at d.left _ _ _ parts refl refl next))
+    ∙ ap (λ x. Between x) (same_look d.waiting d.connection d.seen d.read _ d.closing _ _ d.kept _ _ d.progress d.at d.at d.left _ _ _ parts refl refl next))
 
 pub returns-in-Ready-clause-goes : goal.returns-in-Ready-clause-goes
 unfolding stand_of work_of settled said_at parts_of
@@ -73,7 +73,7 @@ returns-in-Ready-clause-goes g c = λ site sp.
     c.next_look-self-in-Ready.ensures.exact ∙ (ap (λ m. next_look m k true) (length-set d.links.items k turn.new.self ∙ long) ∙ ap (λ (r : Round). next_look site.parts (part_in r) true) (sym c.requires.round)) in
     serve_ends (λ x. Saw x) look_from site (work_of d) d.links.items k l turn.result.access found (Finished found) None _ at (rw done at (turn.ensures.turns (Finished found))) refl
     (stands_between site _ d.read (stock_of d.store) d.walk _ d.reply _ d.activity c.requires.between
-    ∙ ap (λ x. Between x) (same_look d.connection d.seen d.read _ d.closing _ _ d.kept _ _ d.progress k (part_in d.round) c.in-Ready.requests _ _ _ parts (no_hand d.hand k d.at c.requires.hand) (ap part_in (sym c.requires.round)) next))
+    ∙ ap (λ x. Between x) (same_look d.waiting d.connection d.seen d.read _ d.closing _ _ d.kept _ _ d.progress k (part_in d.round) c.in-Ready.requests _ _ _ parts (no_hand d.hand k d.at c.requires.hand) (ap part_in (sym c.requires.round)) next))
 
 pub returns-in-Overrun-clause-goes : goal.returns-in-Overrun-clause-goes
 unfolding stand_of work_of settled said_at parts_of
@@ -92,7 +92,7 @@ returns-in-Overrun-clause-goes g c = λ site sp.
     let long : length d.links.items ≡ site.parts = sym sp in
     serve_ends (λ x. Saw x) look_from site (work_of d) d.links.items k l turn.result.access found (Finished found) None _ at (rw done at (turn.ensures.turns (Finished found))) refl
     (stands_between site _ d.read (stock_of d.store) d.walk _ d.reply _ d.activity c.requires.between
-    ∙ ap (λ x. Between x) (same_look d.connection d.seen d.read _ d.closing _ _ _ _ _ d.progress d.at d.at d.left _ _ _ parts refl refl refl))
+    ∙ ap (λ x. Between x) (same_look d.waiting d.connection d.seen d.read _ d.closing _ _ _ _ _ d.progress d.at d.at d.left _ _ _ parts refl refl refl))
 
 pub returns-in-Nothing-clause-same : goal.returns-in-Nothing-clause-same
 unfolding dom_of parts_of

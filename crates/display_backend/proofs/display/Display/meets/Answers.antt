@@ -22,6 +22,7 @@ use Rattle.display_backend.proofs.Lists.{got, take_past}
 use Rattle.display_backend.proofs.Out.{went_still, went_finished}
 use Rattle.display_backend.proofs.Stores.{stored_shut, stored_none, bare_connecting, nothing_settled}
 use Rattle.display_backend.proofs.Works.{work, same_work}
+use Rattle.display_backend.specs.declared.waiting.Waiting.{Waiting}
 use Rattle.display_backend.proofs.display.Display.meets.Goals as goal
 
 pub invariant_of-self : goal.invariant_of-self
@@ -42,8 +43,8 @@ returns-then-following-len-clause-went c = λ site sp sd.
     let next = got ls k short in
     let f = connecting_fits d.dom.0 (is_open d.activity d.closing d.connection.back) d.at d.round ls c.args.part d.activity c.requires.connecting d.whole k next.0 next.1 in
     let is = later_is site d.read k ls met next.0 next.1 (f.rests (omega arith)) (f.dom_is ∙ sym sd) lt in
-    let same : work d.connection d.seen d.read true d.closing [] d.kept (hand_of d.hand d.at) d.progress d.at d.left d.round (stock_of d.store) ≡ work_of d =
-    same_work d.connection d.seen d.read _ _ d.closing _ _ d.kept _ _ _ d.at _ _ d.round _ _ (ap is_connecting (sym c.requires.connecting)) (ap (λ (a : Activity). parts_in (is_open a d.closing d.connection.back) ls) (sym c.requires.connecting)) refl refl (ap (λ (a : Activity). stock_in a (stock_of d.store)) (sym c.requires.connecting)) in
+    let same : work d.waiting d.connection d.seen d.read true d.closing [] d.kept (hand_of d.hand d.at) d.progress d.at d.left d.round (stock_of d.store) ≡ work_of d =
+    same_work d.waiting d.connection d.seen d.read _ _ d.closing _ _ d.kept _ _ _ d.at _ _ d.round _ _ (ap is_connecting (sym c.requires.connecting)) (ap (λ (a : Activity). parts_in (is_open a d.closing d.connection.back) ls) (sym c.requires.connecting)) refl refl (ap (λ (a : Activity). stock_in a (stock_of d.store)) (sym c.requires.connecting)) in
     let went = went_still site (work_of d) (later site d.read k met) (later_goes_on site d.read k met lt some) in
     subst (λ (w : Work). Went (display site) (work_of d) (later site d.read k met) None (stand_at w (connect_from site d.read k met (slice_get ls k)))) (sym same)
     (subst (λ (p : Plan End). Went (display site) (work_of d) (later site d.read k met) None (stand_at (work_of d) p)) is went)
@@ -66,11 +67,13 @@ returns-clause-went c = λ site sp sd.
     let k = c.args.part + 1 in
     let met = met_links k ls in
     let past : length ls ≤ k = omega arith in
+    let es = c.clear-2.new.self in
     let none = later_none site d.read k met (omega (arith, sp, past)) in
-    let made : work (moved_to d.connection state.Connected) d.seen d.read false false (map joined_of ls) None None progress.Decided d.at 0 (round.Looks 0 false) no_stock ≡ settled site (work_of d) (Met met) =
-    ap (λ (ks : List Link). work (moved_to d.connection state.Connected) d.seen d.read false false (map joined_of ks) None None progress.Decided d.at 0 (round.Looks 0 false) no_stock) (sym (take_past ls k past)) in
-    let same = ap (λ (x : Connection). work x d.seen d.read false false (parts_in (is_open activity.Between false x.back) ls) None None progress.Decided d.at 0 (round.Looks 0 false) (stock_of c.clear.new.self)) c.moved.ensures
-    ∙ (ap (work (moved_to d.connection state.Connected) d.seen d.read false false (map joined_of ls) None None progress.Decided d.at 0 (round.Looks 0 false)) c.clear.ensures.stock ∙ made) in
+    let made : work [] (moved_to d.connection state.Connected) d.seen d.read false false (map joined_of ls) None None progress.Decided d.at 0 (round.Looks 0 false) no_stock ≡ settled site (work_of d) (Met met) =
+    ap (λ (ks : List Link). work [] (moved_to d.connection state.Connected) d.seen d.read false false (map joined_of ks) None None progress.Decided d.at 0 (round.Looks 0 false) no_stock) (sym (take_past ls k past)) in
+    let same = ap (λ (x : Connection). work es x d.seen d.read false false (parts_in (is_open activity.Between false x.back) ls) None None progress.Decided d.at 0 (round.Looks 0 false) (stock_of c.clear.new.self)) c.moved.ensures
+    ∙ (ap (work es (moved_to d.connection state.Connected) d.seen d.read false false (map joined_of ls) None None progress.Decided d.at 0 (round.Looks 0 false)) c.clear.ensures.stock
+    ∙ (ap (λ (xs : List Waiting). work xs (moved_to d.connection state.Connected) d.seen d.read false false (map joined_of ls) None None progress.Decided d.at 0 (round.Looks 0 false) no_stock) c.clear-2.ensures ∙ made)) in
     went_finished site (work_of d) (later site d.read k met) (Met met) (Some (said.State state.Connected)) _ none refl (ap (λ x. Between x) same)
 
 pub returns-clause-same : goal.returns-clause-same

@@ -41,7 +41,7 @@ returns-in_default-clause-goes g c = λ site.
     let l = c.index_mut.result.now in
     let at = here d.links.items k l _ c.requires.part c.index_mut.ensures.value in
     sleep_on site (work_of d) _ d.links.items k l turn.new.self turn.result.access at
-    (same_work d.connection d.seen d.read _ _ d.closing _ _ d.kept _ _ d.progress d.at _ _ d.round _ _ (connecting_as d.activity (activity.Sleeping k) refl c.requires.serving) (parts_as d.activity (activity.Sleeping k) d.closing d.connection.back refl c.requires.serving d.links.items k l turn.new.self at turn.ensures.joined) refl refl (stock_as d.activity (activity.Sleeping k) (stock_of d.store) refl c.requires.serving))
+    (same_work d.waiting d.connection d.seen d.read _ _ d.closing _ _ d.kept _ _ d.progress d.at _ _ d.round _ _ (connecting_as d.activity (activity.Sleeping k) refl c.requires.serving) (parts_as d.activity (activity.Sleeping k) d.closing d.connection.back refl c.requires.serving d.links.items k l turn.new.self at turn.ensures.joined) refl refl (stock_as d.activity (activity.Sleeping k) (stock_of d.store) refl c.requires.serving))
     (rw c.in_default.is at turn.ensures.turns)
 
 pub returns-in_default-clause-same : goal.returns-in_default-clause-same
@@ -74,7 +74,7 @@ returns-then-not-quiet-clause-goes g c = λ site.
     let loud : c.in-Some.quiet ≡ false = c.if-not-quiet.true in
     let t : Turns (sleep_left l) turn.result.access (Some c.in-Some.quiet) (sleep_left turn.new.self) = rw c.in-Some.is at turn.ensures.turns in
     sleep_over site (work_of d) d.links.items k l turn.result.access false (sleep_left turn.new.self) _ at refl
-    (ap (λ w. Between w) (same_work d.connection d.seen d.read _ _ d.closing _ _ d.kept _ _ d.progress d.at _ _ (round.Looks 0 false) _ _ (connecting_after d.activity (activity.Sleeping k) refl c.requires.serving) (parts_after d.activity (activity.Sleeping k) d.closing d.connection.back refl c.requires.serving d.links.items k l turn.new.self at turn.ensures.joined) refl refl (stock_after d.activity (activity.Sleeping k) (stock_of d.store) refl c.requires.serving)))
+    (ap (λ w. Between w) (same_work d.waiting d.connection d.seen d.read _ _ d.closing _ _ d.kept _ _ d.progress d.at _ _ (round.Looks 0 false) _ _ (connecting_after d.activity (activity.Sleeping k) refl c.requires.serving) (parts_after d.activity (activity.Sleeping k) d.closing d.connection.back refl c.requires.serving d.links.items k l turn.new.self at turn.ensures.joined) refl refl (stock_after d.activity (activity.Sleeping k) (stock_of d.store) refl c.requires.serving)))
     (subst (λ (b : Bool). Turns (sleep_left l) turn.result.access (Some b) (sleep_left turn.new.self)) loud t)
 
 pub returns-then-not-quiet-clause-same : goal.returns-then-not-quiet-clause-same
@@ -114,7 +114,7 @@ returns-then-following-len-clause-goes g c = λ site.
     let lt : k + 1 < length d.links.items = omega (arith, long, c.if-following-len.true) in
     let f = following d.dom.0 k (is_open d.activity d.closing d.connection.back) d.links.items turn.new.self c.requires.opened fits lt in
     sleep_next site (work_of d) _ d.links.items k l turn.new.self f.0 turn.result.access (sleep_left turn.new.self) at f.1 f.2 f.3
-    (same_work d.connection d.seen d.read _ _ d.closing _ _ d.kept _ _ d.progress d.at _ _ d.round _ _ (connecting_as d.activity (activity.Sleeping k) refl c.requires.serving) (parts_as d.activity (activity.Sleeping k) d.closing d.connection.back refl c.requires.serving d.links.items k l turn.new.self at turn.ensures.joined) refl refl (stock_as d.activity (activity.Sleeping k) (stock_of d.store) refl c.requires.serving))
+    (same_work d.waiting d.connection d.seen d.read _ _ d.closing _ _ d.kept _ _ d.progress d.at _ _ d.round _ _ (connecting_as d.activity (activity.Sleeping k) refl c.requires.serving) (parts_as d.activity (activity.Sleeping k) d.closing d.connection.back refl c.requires.serving d.links.items k l turn.new.self at turn.ensures.joined) refl refl (stock_as d.activity (activity.Sleeping k) (stock_of d.store) refl c.requires.serving))
     (subst (λ (b : Bool). Turns (sleep_left l) turn.result.access (Some b) (sleep_left turn.new.self)) quiet t)
 
 pub returns-then-following-len-clause-same : goal.returns-then-following-len-clause-same
@@ -148,7 +148,7 @@ returns-clause-goes g c = λ site.
     let t : Turns (sleep_left l) turn.result.access (Some c.in-Some.quiet) (sleep_left turn.new.self) = rw c.in-Some.is at turn.ensures.turns in
     let long = length-set d.links.items k turn.new.self in
     sleep_over site (work_of d) d.links.items k l turn.result.access true (sleep_left turn.new.self) _ at (last_is_quiet d.links.items k true (λ _. omega (arith, long, c.if-following-len.false)))
-    (ap (λ w. Between w) (same_work d.connection d.seen d.read _ _ d.closing _ _ d.kept _ _ d.progress d.at _ _ round.Idles _ _ (connecting_after d.activity (activity.Sleeping k) refl c.requires.serving) (parts_after d.activity (activity.Sleeping k) d.closing d.connection.back refl c.requires.serving d.links.items k l turn.new.self at turn.ensures.joined) refl refl (stock_after d.activity (activity.Sleeping k) (stock_of d.store) refl c.requires.serving)))
+    (ap (λ w. Between w) (same_work d.waiting d.connection d.seen d.read _ _ d.closing _ _ d.kept _ _ d.progress d.at _ _ round.Idles _ _ (connecting_after d.activity (activity.Sleeping k) refl c.requires.serving) (parts_after d.activity (activity.Sleeping k) d.closing d.connection.back refl c.requires.serving d.links.items k l turn.new.self at turn.ensures.joined) refl refl (stock_after d.activity (activity.Sleeping k) (stock_of d.store) refl c.requires.serving)))
     (subst (λ (b : Bool). Turns (sleep_left l) turn.result.access (Some b) (sleep_left turn.new.self)) quiet t)
 
 pub returns-clause-same : goal.returns-clause-same

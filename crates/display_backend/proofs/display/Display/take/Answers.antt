@@ -46,7 +46,7 @@ returns-in_default-clause-goes g c = λ site.
     let l = c.index_mut.result.now in
     let at = here d.links.items d.at l _ d.whole.at_in c.index_mut.ensures.value in
     serve_on (λ x. Took x) take_from site (work_of d) _ d.links.items d.at l turn.new.self turn.result.access at
-    (same_work d.connection d.seen d.read _ _ d.closing _ _ d.kept _ _ _ d.at _ _ d.round _ _ (connecting_as d.activity activity.Taking refl c.requires.serving) (parts_as d.activity activity.Taking d.closing d.connection.back refl c.requires.serving d.links.items d.at l turn.new.self at turn.ensures.joined) refl refl (stock_as d.activity activity.Taking (stock_of d.store) refl c.requires.serving))
+    (same_work d.waiting d.connection d.seen d.read _ _ d.closing _ _ d.kept _ _ _ d.at _ _ d.round _ _ (connecting_as d.activity activity.Taking refl c.requires.serving) (parts_as d.activity activity.Taking d.closing d.connection.back refl c.requires.serving d.links.items d.at l turn.new.self at turn.ensures.joined) refl refl (stock_as d.activity activity.Taking (stock_of d.store) refl c.requires.serving))
     (rw c.in_default.is at turn.ensures.turns)
 
 pub returns-in_default-clause-same : goal.returns-in_default-clause-same
@@ -82,7 +82,7 @@ returns-clause-goes g c = λ site.
     serve_ends (λ x. Took x) take_from site (work_of d) d.links.items d.at l turn.result.access c.in-Some.taken (take_left turn.new.self) _ _ at (rw c.in-Some.is at turn.ensures.turns)
     (ap (λ (q : Request). Some (said.Request d.at q.id q.op)) c.decode-request.ensures)
     (ap (λ w. Between w)
-    (same_work d.connection d.seen d.read _ _ d.closing _ _ d.kept _ _ _ d.at _ _ d.round _ _ (connecting_after d.activity activity.Taking refl c.requires.serving) (parts_after d.activity activity.Taking d.closing d.connection.back refl c.requires.serving d.links.items d.at l turn.new.self at turn.ensures.joined)
+    (same_work d.waiting d.connection d.seen d.read _ _ d.closing _ _ d.kept _ _ _ d.at _ _ d.round _ _ (connecting_after d.activity activity.Taking refl c.requires.serving) (parts_after d.activity activity.Taking d.closing d.connection.back refl c.requires.serving d.links.items d.at l turn.new.self at turn.ensures.joined)
     (ap (λ (q : Request). Some (hand_with d.at q)) c.decode-request.ensures) c.saturating_sub-self.ensures (stock_after d.activity activity.Taking (stock_of d.store) refl c.requires.serving)))
 
 pub returns-clause-same : goal.returns-clause-same

@@ -34,7 +34,7 @@ returns-in_default-clause-comes g c =
     let frames = g.W.Words.frames_of c.args.words.now in
     let grants = g.W.Words.grants_of c.args.words.now in
     walk_goes (site_of frames grants d) (work_of d) _ (walk_left (frames (dom_of d)) (grants (dom_of d)) c.args.walk) (walk_left (frames (dom_of d)) (grants (dom_of d)) turn.new.self) turn.result.access turn.result.done c.in_default.is
-    (same_work d.connection d.seen d.read _ _ d.closing _ _ d.kept _ _ d.progress d.at _ _ d.round _ _ (connecting_as d.activity activity.Walking refl (inl c.requires.between)) (ap (λ o. parts_in o d.links.items) (open_as d.activity activity.Walking d.closing d.connection.back refl (inl c.requires.between))) refl refl (stock_as d.activity activity.Walking (stock_of d.store) refl (inl c.requires.between)))
+    (same_work d.waiting d.connection d.seen d.read _ _ d.closing _ _ d.kept _ _ d.progress d.at _ _ d.round _ _ (connecting_as d.activity activity.Walking refl (inl c.requires.between)) (ap (λ o. parts_in o d.links.items) (open_as d.activity activity.Walking d.closing d.connection.back refl (inl c.requires.between))) refl refl (stock_as d.activity activity.Walking (stock_of d.store) refl (inl c.requires.between)))
     (turns_at frames grants (walked_dom c.args.walk) (dom_of d) c.args.walk turn.new.self turn.result.access turn.result.done c.requires.dom turn.ensures.turns)
 
 pub returns-in_default-clause-same : goal.returns-in_default-clause-same

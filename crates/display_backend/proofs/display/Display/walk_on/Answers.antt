@@ -51,7 +51,7 @@ returns-clause-goes g c =
     let is : d.walk ≡ Some c.in-Some.walk = sym c.take.ensures.value ∙ c.in-Some.is in
     let opened = open_walking d.dom.0 d.closing d.connection.back d.at d.round d.activity d.links.items c.requires.walking d.whole in
     let known = walking_now d.dom.0 (is_open d.activity d.closing d.connection.back) d.activity c.in-Some-hand.request d.hand d.status d.reply d.progress d.walk c.in-Some.walk (stock_of d.store) (is_whole d.store) opened c.requires.walking c.in-Some-hand.is is d.stored in
-    let same = same_work d.connection d.seen d.read _ _ d.closing _ _ d.kept _ _ d.progress d.at _ _ d.round _ _ (connecting_after d.activity activity.Walking refl (inr c.requires.walking)) (ap (λ o. parts_in o d.links.items) (between_as d.activity activity.Walking d.closing d.connection.back refl (inr c.requires.walking))) refl refl (stock_after d.activity activity.Walking (stock_of d.store) refl (inr c.requires.walking)) in
+    let same = same_work d.waiting d.connection d.seen d.read _ _ d.closing _ _ d.kept _ _ d.progress d.at _ _ d.round _ _ (connecting_after d.activity activity.Walking refl (inr c.requires.walking)) (ap (λ o. parts_in o d.links.items) (between_as d.activity activity.Walking d.closing d.connection.back refl (inr c.requires.walking))) refl refl (stock_after d.activity activity.Walking (stock_of d.store) refl (inr c.requires.walking)) in
     subst (λ (x : Option Walk). GoesOn (display site) (work_of d) (mapped Listed (walk_from site x)) c.walk.result.access c.walk.result.said (stand_of site c.walk.new.self)) (sym is)
     (comes_further site (work_of d) _ (walk_left (frames (dom_of d)) (grants (dom_of d)) c.in-Some.walk) c.walk.result.access c.walk.result.said (stand_of site c.walk.new.self) same (known.0.further (frames (dom_of d)) (grants (dom_of d))) c.walk.ensures.comes)
 

@@ -7,6 +7,7 @@ use Rattle.pv_words.specs.declared.place.DevId.{DevId}
 use Rattle.pv_world.specs.declared.world.Placed.{Placed}
 use Rattle.pv_world.specs.Marked.{Entered}
 use Rattle.pv_words.specs.declared.entry.End.TheVariants as end
+use Rattle.link_core.specs.Order.{Sets}
 use Rattle.backend_core.proofs.Hears.{hears_always}
 use Rattle.pv_world.specs.History.{IsHistory, site_of}
 use Rattle.pv_world.specs.World.{Stands, setups, sight}
@@ -21,7 +22,7 @@ returns-in_err-enter-clause-heard g c = λ frames grants m st e.
     let w = c.args.self.now in
     let x = c.position-i.ensures in
     let p = err_from_is_err_and c.from_residual.result c.from_residual.ensures.1 in
-    let history = bus_history sees frames grants w.memory w.devices.items c.position-i.result x.0 m c.args.s x.1 (hears_always (site_of frames grants x.0.setup) x.0.device c.args.s x.0.nodes) st in
+    let history = bus_history sees frames grants w.memory w.devices.items c.position-i.result x.0 m c.args.s x.1 (hears_always (site_of frames grants x.0.setup) x.0.device (Sets c.args.s x.0.nodes) tt) st in
     rw (p.1, p.2) (subst (λ (d : DevId). IsHistory frames grants (setups w.devices.items) (m ++ Entered (entry.Bus d end.Front c.args.s) ∷ [])) x.2 history, (e ∙ sym c.in_err-enter.ensures.err, c.in_err-enter.ensures.cause))
 
 pub index_mut-placed-requires : goal.index_mut-placed-requires
@@ -40,7 +41,7 @@ returns-clause-heard g c = λ frames grants m st e.
     let dev = ap (λ (q : Placed). q.setup.dev) read ∙ x.2 in
     let site = site_of frames grants p.setup in
     let ok : c.enter.new.journal.entries ≡ c.args.journal.now.entries ++ entry.Bus c.args.dev end.Front c.args.s ∷ [] = c.in_ok-enter.ensures.ok in (
-      subst (λ (d : DevId). Stands sees frames grants w.memory (slice_set w.devices.items i r) (m ++ Entered (entry.Bus d end.Front c.args.s) ∷ [])) dev (bus_stands sees frames grants w.memory w.devices.items i p r m c.args.s at (hears_always site p.device c.args.s p.nodes) refl (c.bus.ensures.hears site) c.bus.ensures.dom c.bus.ensures.parts refl st),
+      subst (λ (d : DevId). Stands sees frames grants w.memory (slice_set w.devices.items i r) (m ++ Entered (entry.Bus d end.Front c.args.s) ∷ [])) dev (bus_stands sees frames grants w.memory w.devices.items i p r m c.args.s at (hears_always site p.device (Sets c.args.s p.nodes) tt) (record { setup = refl; hears = c.bus.ensures.hears site; dom = c.bus.ensures.dom; parts = c.bus.ensures.parts; nodes = refl }) st),
       entries_append m (Entered (entry.Bus c.args.dev end.Front c.args.s) ∷ []) ∙ (ap (λ (es : List Entry). es ++ entry.Bus c.args.dev end.Front c.args.s ∷ []) e ∙ sym ok),
     )
 

@@ -2,10 +2,11 @@
 use Rattle.std.proofs.Common.{◌≡◌, refl}
 use Rattle.pv_words.specs.declared.access.Access.{Access}
 use Rattle.pv_words.specs.declared.device.HostEvent.{HostEvent}
-use Rattle.link_core.specs.Order.{News, MayHear, work_at, Heard, Others, May, next}
+use Rattle.pv_words.specs.Plan.{Plan, Finished, Make, MayGo}
+use Rattle.link_core.specs.Order.{Order, Act, Either, Rest, Stand, Between, During, Telling, News, MayHear, MayStep, MayChoose, work_at, Heard, Others, May, next}
 use Rattle.display_backend.specs.Machine.{Site}
 use Rattle.display_backend.specs.Waiting.{is_for}
-use Rattle.display_backend.specs.Work.{display}
+use Rattle.display_backend.specs.Work.{Work, End, choice, display}
 use Rattle.display_backend.proofs.Hears as hears
 use Rattle.backend_core.specs.declared.device.Device.{Device}
 use Rattle.backend_core.specs.declared.device.Device.TheVariants.{Display}
@@ -24,3 +25,18 @@ others_leave site (Display d) a = hears.others_leave site d a
 -- an event is one of the device's kind and of a part that it has
 pub fits_as : (d : Device) (e : HostEvent) → fits_to d e ≡ is_for (parts_of d) e
 fits_as (Display d) e = refl
+
+-- through a port where any access may be made, so may the next one
+may_go_any : (p : Plan End) → MayGo (λ want. Unit {0}) p
+may_go_any (Finished x) = tt
+may_go_any (Make want note more) = tt
+
+may_choose_any : (o : Order Work End) → MayChoose (λ want. Unit {0}) o
+may_choose_any (Act v p) = may_go_any p
+may_choose_any (Either v p u q) = (may_go_any p, may_go_any q)
+may_choose_any (Rest v) = tt
+
+pub may_step_any : (site : Site) (s : Stand Work End) → MayStep (λ want. Unit {0}) (display site) s
+may_step_any site (Between w) = may_choose_any (choice site w)
+may_step_any site (During w p) = may_go_any p
+may_step_any site (Telling s w o) = tt

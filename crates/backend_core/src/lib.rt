@@ -4,3 +4,6 @@
 mod device;
 
 pub use device::Device;
+
+#[cfg(test)]
+mod tests;

@@ -2,18 +2,18 @@
 use Rattle.std.proofs.Common.{◌≡◌, ℕ, ◌++◌, List, Option, refl}
 use Rattle.pv_words.specs.declared.access.Access.{Access}
 use Rattle.pv_words.specs.declared.device.NodeValue.{NodeValue}
-use Rattle.pv_words.specs.Plan.{Plan, Finished, Make, MayGo}
+use Rattle.pv_words.specs.Plan.{Plan, Finished, Make}
 use Rattle.display_backend.specs.Stock.{Stock, pages_of}
 use Rattle.display_backend.specs.Store.{stock_of}
 use Rattle.page_directory.specs.declared.walk.Walk.{Walk}
 use Rattle.link_core.specs.declared.link.Link.{Link}
-use Rattle.link_core.specs.Order.{News, MayHear, MayStep, MayChoose, Order, Act, Either, Rest, work_at, Stand, Between, During, Telling, Heard, Others, May, next}
+use Rattle.link_core.specs.Order.{News, MayHear, work_at, Stand, Between, During, Telling, Heard, Others, May, next}
 use Rattle.display_backend.specs.declared.display.Activity.{Activity}
 use Rattle.display_backend.specs.declared.display.Activity.TheVariants as activity
 use Rattle.display_backend.specs.declared.display.Display.{Display}
 use Rattle.display_backend.specs.Display.{all_held, connecting, leaving_plan, stand_at, stand_in, stand_of, work_of}
 use Rattle.display_backend.specs.Machine.{Site}
-use Rattle.display_backend.specs.Work.{End, Work, choice, display}
+use Rattle.display_backend.specs.Work.{End, Work, display}
 
 -- a stand at which no event is about to be told
 abbrev IsQuiet : {W O : Type 0} → Stand W O → Type 0
@@ -64,18 +64,3 @@ others_always site d a = others_at site (stand_of site d) a (quiet site d)
 
 pub others_leave : (site : Site) (d : Display) (a : Access) → next (display site) (stand_of site d) (Others a) ≡ stand_of site d
 others_leave site d a = others_stay site (stand_of site d) a (quiet site d)
-
--- through a port where any access may be made, so may the next one
-may_go_any : (p : Plan End) → MayGo (λ want. Unit {0}) p
-may_go_any (Finished x) = tt
-may_go_any (Make want note more) = tt
-
-may_choose_any : (o : Order Work End) → MayChoose (λ want. Unit {0}) o
-may_choose_any (Act v p) = may_go_any p
-may_choose_any (Either v p u q) = (may_go_any p, may_go_any q)
-may_choose_any (Rest v) = tt
-
-pub may_step_any : (site : Site) (s : Stand Work End) → MayStep (λ want. Unit {0}) (display site) s
-may_step_any site (Between w) = may_choose_any (choice site w)
-may_step_any site (During w p) = may_go_any p
-may_step_any site (Telling s w o) = tt

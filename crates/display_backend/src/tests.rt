@@ -7,13 +7,9 @@ use super::*;
 use crate::store::Store;
 use displ_wire::{Create, Refused};
 use page_directory::{Pages, Walk, Walked};
-use pv_words::{
-    Access, DomId, GrantRef, Half, HostEvent, HostRefusal, Mode, NodeValue, Place, Said, State,
-    Words,
-};
+use pv_words::{Access, DomId, GrantRef, Half, Mode, Place, Words};
 use std::alloc::{AllocError, Global};
 use std::test::Fail;
-use xenbus_states::Nodes;
 
 // Domain 1: each grant entry permits access to the frame of its own number, and word w of frame f holds f + w.
 #[derive(Drop)]
@@ -250,82 +246,5 @@ fn takes_away_buffers(rt: HostRuntime) -> Result<(), Fail> {
     }
     assert!(rt; store.is_live(5) && store.is_live(6));
     assert!(rt; clears(&mut store) && !store.is_live(5) && !store.is_live(6));
-    Ok(())
-}
-
-// Steps a display until it is connected.
-#[tactic(auto, using(crate::proofs::Hears::may_step_any))]
-fn connects(display: &mut Display, words: &mut Domain) -> bool {
-    for _ in 0..100 {
-        if display.step(words).said == Some(Said::State(State::Connected)) {
-            return true;
-        }
-    }
-    false
-}
-
-// The next step alone.
-#[tactic(auto, using(crate::proofs::Hears::may_step_any))]
-fn steps(display: &mut Display, words: &mut Domain) -> Step {
-    display.step(words)
-}
-
-// Tells the display of a blank of a connector, or that it is to show its picture; None where it has no such connector.
-fn tells(display: &mut Display, blank: bool, part: u8) -> Option<Result<(), HostRefusal>> {
-    if part >= display.parts() {
-        return None;
-    }
-    Some(display.host(if blank {
-        HostEvent::Blank(part)
-    } else {
-        HostEvent::Show(part)
-    }))
-}
-
-fn says(said: Said) -> Step {
-    Step {
-        access: None,
-        said: Some(said),
-    }
-}
-
-#[test]
-fn does_the_events_of_its_host(rt: HostRuntime) -> Result<(), Fail> {
-    let mut words = Domain { frames: 100 };
-    let mut display = Display::new(rt.alloc(), DomId(1), 2)?;
-    assert_eq!(rt; tells(&mut display, true, 2), None);
-    assert_eq!(rt;
-        tells(&mut display, true, 0),
-        Some(Err(HostRefusal::NotConnected))
-    );
-    let mut nodes = Nodes::new();
-    for part in 0..2 {
-        for key in 0..4 {
-            nodes.set(part, key, NodeValue::Number(4 * part as u32 + key as u32));
-        }
-    }
-    display.bus(State::Initialised, &nodes);
-    assert_eq!(rt;
-        tells(&mut display, false, 1),
-        Some(Err(HostRefusal::NotConnected))
-    );
-    assert!(rt; connects(&mut display, &mut words));
-    for k in 0..64 {
-        assert_eq!(rt; tells(&mut display, k % 2 == 0, 1), Some(Ok(())));
-    }
-    assert_eq!(rt; tells(&mut display, true, 0), Some(Err(HostRefusal::Full)));
-    assert_eq!(rt; steps(&mut display, &mut words), says(Said::Blank(1)));
-    assert_eq!(rt; tells(&mut display, false, 0), Some(Ok(())));
-    assert_eq!(rt; tells(&mut display, false, 0), Some(Err(HostRefusal::Full)));
-    for k in 1..64 {
-        let said = if k % 2 == 0 {
-            Said::Blank(1)
-        } else {
-            Said::Shown(1, 0, 0)
-        };
-        assert_eq!(rt; steps(&mut display, &mut words), says(said));
-    }
-    assert_eq!(rt; steps(&mut display, &mut words), says(Said::Shown(0, 0, 0)));
-    assert!(rt; display.due() && steps(&mut display, &mut words).access.is_some());
     Ok(())
 }

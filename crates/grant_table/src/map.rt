@@ -142,6 +142,31 @@ impl MapStep {
         }
     }
 
+    // The first access, where the domain has the entry: the load of the flags.
+    fn start<W: Words>(&mut self, words: &mut W) -> Turn<Result<Hold, GrantRefusal>>
+        requires start { self.old.stage ≡ stage.Start }
+        requires may { MayGo (W.may words.old) (map_left (W.frames_of words.old (dom_of self.old)) (W.grants_of words.old (dom_of self.old)) self.old) }
+        ensures advances { Advances (map_left (W.frames_of words.old (dom_of self.old)) (W.grants_of words.old (dom_of self.old)) self.old) result.access result.done (map_left (W.frames_of words.old (dom_of self.old)) (W.grants_of words.old (dom_of self.old)) self.new) }
+        ensures made { Makes W.makes words.old result.access words.new }
+        ensures dom { dom_of self.new ≡ dom_of self.old }
+        ensures entry { (gref_of self.new ≡ gref_of self.old) × (mode_of self.new ≡ mode_of self.old) }
+        ensures over { is_over self.new ≡ is_some result.done }
+        ensures stays { IsAtEntry (dom_of self.old) (gref_of self.old) result.access }
+        ensures held { HoldsByAccess result.access result.done }
+        ensures won { Wins (dom_of self.old) (gref_of self.old) (mode_of self.old) result.done }
+    {
+        if self.gref.0 >= words.grants(self.dom) {
+            return self.ends(None, Err(GrantRefusal::NoEntry(self.gref.0)));
+        }
+        let flags = Place::Grant(self.dom, self.gref, Half::Flags);
+        let word = words.load(flags);
+        let access = Access::Load(flags, word);
+        match refusal_of(word, self.mode) {
+            Some(refusal) => self.ends(Some(access), Err(refusal)),
+            None => self.goes_on(access, MapStage::Begin(word as u16)),
+        }
+    }
+
     /// Makes the next access of the map: it loads the flags, exchanges them for the same with the in-use bits of the
     /// mode, and loads the frame. Done is the page, which is held from then on, or why it was refused:
     /// NoEntry where the domain has no such entry, and then there is no access; by the flags' word that was loaded
@@ -161,17 +186,7 @@ impl MapStep {
     {
         let flags = Place::Grant(self.dom, self.gref, Half::Flags);
         match self.stage {
-            MapStage::Start => {
-                if self.gref.0 >= words.grants(self.dom) {
-                    return self.ends(None, Err(GrantRefusal::NoEntry(self.gref.0)));
-                }
-                let word = words.load(flags);
-                let access = Access::Load(flags, word);
-                match refusal_of(word, self.mode) {
-                    Some(refusal) => self.ends(Some(access), Err(refusal)),
-                    None => self.goes_on(access, MapStage::Begin(word as u16)),
-                }
-            }
+            MapStage::Start => self.start(words),
             MapStage::Begin(word) => {
                 let old = word as u32;
                 let new = old + bits_of(self.mode);

@@ -113,23 +113,6 @@ ring_stays kept.Ring r = refl
 ring_stays kept.Event r = refl
 ring_stays kept.Both r = refl
 
-pub event_is : (k : Kept) → has_event (and_event k) ≡ true
-event_is kept.Nothing = refl
-event_is kept.Ring = refl
-event_is kept.Event = refl
-event_is kept.Both = refl
-
--- the ring's page of a link is that of its ring's hold
-page_in : (k : Kept) (r h : Hold) → ring_in k r ≡ Some h → page_at r ≡ page_at h
-page_in kept.Nothing r h e = let wrong : ⊥ = cc in absurd wrong
-page_in kept.Ring r h e = let same : r ≡ h = cc in ap page_at same
-page_in kept.Event r h e = let wrong : ⊥ = cc in absurd wrong
-page_in kept.Both r h e = let same : r ≡ h = cc in ap page_at same
-
-pub page_joined : (l : Link) (h : Hold) → (joined_of l).ring ≡ Some h → page_of l ≡ page_at h
-unfolding joined_of page_of
-page_joined l h e = page_in l.kept l.ring_page h e
-
 pub rsp_joined : (l : Link) → rsp_of l ≡ (joined_of l).rsp
 unfolding joined_of rsp_of
 rsp_joined l = refl

@@ -236,11 +236,6 @@ module _ {W O N R E : Type 0} (r : Rules W O) (d : Reading W O N R E) (Proper : 
   named_in_next (During w p) e h n g i m = named_gone w p e h n g.0 g.1 i m
   named_in_next (Telling t w o) e h n g i m = named_said t w o e h n g i m
 
-  pub named_in_after : (s : Stand W O) (es : List Own) (h : Holds) (n : N) → IsGood s h → IsNamedIn s n → IsExplained r s es → IsNamedIn (after (next r) s es) (named_after r d s n es)
-  named_in_after s [] h n g i x = i
-  named_in_after s (e ∷ es) h n g i x =
-      named_in_after (next r s e) es (held_next s h e) (named_next r d s n e) (good_next s e h g x.0) (named_in_next s e h n g i x.0) x.1
-
   -- news, an event that is said, and an access of an activity
   heard_run : (w : W) (news : News) (n : N) (memory : Memory) → sound.Sane w → sound.Named w n → MayHear r w news → IsRun (HappensTo d.table) (shown r d w n memory) (Row (d.heard news) [] ∷ []) (shown r d (r.heard w news) n memory)
   heard_run w news n memory s i m =

@@ -112,28 +112,3 @@ fits_unmaps {A} frames grants dom Q (k ∷ ks) held p are h =
 pub drops_exactly : DropsExactly
 drops_exactly frames grants dom dropped held are =
     fits_unmaps frames grants dom (λ h (u : Unit {0}). h ≡ holds_of held) dropped held (Finished tt) are refl
-
-joined_is : (frames grants dom gref : ℕ) (h : Hold) → IsHold frames grants dom gref Write h → (h.dom.0 ≡ dom) × (h.gref.0 < grants)
-joined_is frames grants dom gref h is = (is.dom_is, subst (λ x. x < grants) (sym is.gref_is) is.gref_in)
-
-one_is : (frames grants dom gref : ℕ) (h : Hold) → IsHold frames grants dom gref Write h → AreOf grants dom (h ∷ [])
-one_is frames grants dom gref h is =
-    let i = joined_is frames grants dom gref h is in (i.0, i.1, tt)
-
-ring_are : (frames grants dom event : ℕ) (ring : Option ℕ) (o : Option Hold) (e : Hold) → IsRing frames grants dom ring o → IsHold frames grants dom event Write e → AreOf grants dom (hold_list o ++ e ∷ [])
-ring_are frames grants dom event None None e r is =
-    let i = joined_is frames grants dom event e is in (i.0, i.1, tt)
-ring_are frames grants dom event None (Some h) e r is = absurd r
-ring_are frames grants dom event (Some g) None e r is = absurd r
-ring_are frames grants dom event (Some g) (Some h) e r is =
-    let i = joined_is frames grants dom g h r in
-    let k = joined_is frames grants dom event e is in
-    (i.0, i.1, (k.0, k.1, tt))
-
--- the pages that a Connect leaves held are the domain's
-pub kept_are : (frames grants dom event : ℕ) (ring : Option ℕ) (c : Connected) → IsEnd frames grants dom ring event c → AreOf grants dom (kept_by c)
-kept_are frames grants dom event ring (Joins j) h = ring_are frames grants dom event ring j.ring j.event h.0 h.1
-kept_are frames grants dom event None (Refuses hs r) h = subst (λ (x : List Hold). AreOf grants dom x) (sym h.0) tt
-kept_are frames grants dom event (Some g) (Refuses hs r) (inl h) = subst (λ (x : List Hold). AreOf grants dom x) (sym h.0) tt
-kept_are frames grants dom event (Some g) (Refuses hs r) (inr h) =
-    subst (λ (x : List Hold). AreOf grants dom x) (sym h.1) (one_is frames grants dom g h.0 h.2)

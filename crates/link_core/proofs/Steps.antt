@@ -6,7 +6,7 @@ use Rattle.pv_words.specs.declared.device.Said.{Said}
 use Rattle.pv_words.specs.Along.{after, Along}
 use Rattle.pv_words.specs.Memory.{place_of}
 use Rattle.pv_words.specs.Plan.{Plan, Finished, Make, Want, aim_of, wanted, Goes, Turns, IsUnfinished, mapped}
-use Rattle.link_core.specs.Order.{Own, Did, Spoke, Rested, Others, Order, Act, Either, Rest, Rules, Stand, Between, During, is_in_page, picked, ended, going, begun, next, May, MayBegin, Steps, Went, GoesOn}
+use Rattle.link_core.specs.Order.{Own, Did, Spoke, Rested, Order, Act, Either, Rest, Rules, Stand, Between, During, is_in_page, picked, ended, going, begun, next, May, MayBegin, Steps, Went, GoesOn}
 
 goes_mapped : {A B : Type 0} (f : A → B) (p : Plan A) (a : Access) (q : Plan A) → Goes p a q → Goes (mapped f p) a (mapped f q)
 goes_mapped f (Finished x) a q g = absurd g
@@ -97,19 +97,6 @@ module _ {W O : Type 0} (r : Rules W O) where
         explained = (subst (λ (c : Order W O). MayBegin r w (picked c Rested) Rested) (sym e) tt, tt);
         left = n ∙ ap (λ (c : Order W O). begun r w (picked c Rested) Rested) (sym e);
       }
-
-  -- An access of another domain or device may come, and leaves the stand as it is.
-  pub others_stay_between : (w : W) (a : Access) → next r (Between w) (Others a) ≡ Between w
-  others_stay_between w a = refl
-
-  pub others_stay_during : (w : W) (p : Plan O) (a : Access) → next r (During w p) (Others a) ≡ During w p
-  others_stay_during w p a = refl
-
-  pub others_may_between : (w : W) (a : Access) → May r (Between w) (Others a)
-  others_may_between w a = tt
-
-  pub others_may_during : (w : W) (p : Plan O) (a : Access) → May r (During w p) (Others a)
-  others_may_during w p a = tt
 
   -- the turn of a smaller activity is a step of the device's
   pub turn_ends : {A : Type 0} (f : A → O) (w : W) (p : Plan A) (access : Option Access) (x : A) (q : Plan A) (said : Option Said) (new : Stand W O) → Turns p access (Some x) q → said ≡ r.said_at w (f x) → new ≡ Between (r.settled w (f x)) → GoesOn r w (mapped f p) access said new

@@ -1,5 +1,5 @@
 -- What each step of a walk leads to.
-use Rattle.std.proofs.Common.{◌≡◌, ℕ, zero, suc, ◌+◌, ◌-◌, ◌<◌, ◌≤◌, ◌≢◌, ◌==◌, Bool, true, false, cond, nat_lt, List, [], ◌∷◌, ◌++◌, length, drop, Option, Some, None, Result, Err, refl, sym, subst, ap, ◌∙◌, arith, length-drop}
+use Rattle.std.proofs.Common.{◌≡◌, ℕ, zero, suc, ◌+◌, ◌-◌, ◌<◌, ◌≤◌, ◌≢◌, ◌==◌, Bool, true, false, cond, nat_lt, List, [], ◌∷◌, ◌++◌, length, drop, Some, None, Result, Err, refl, sym, subst, ap, ◌∙◌, arith, length-drop}
 use Rattle.std.proofs.lemmas.Bool.Decides.{nat_tests}
 use Rattle.std.proofs.lemmas.List.{drop_all}
 use Rattle.std.specs.List.{insert}
@@ -11,9 +11,7 @@ use Rattle.pv_words.specs.declared.grant.Mode.TheVariants.{Read}
 use Rattle.pv_words.specs.declared.grant.GrantRefusal.{GrantRefusal}
 use Rattle.pv_words.specs.declared.grant.GrantRefusal.TheVariants.{NoEntry, NoNext}
 use Rattle.pv_words.specs.Plan.{Plan, Finished, Make, Want, Note, Load, Plain, Ends, Goes, IsUnfinished, wanted, seen_by}
-use Rattle.grant_table.specs.declared.map.MapStep.{MapStep}
-use Rattle.grant_table.specs.MapLeft.{map_left}
-use Rattle.grant_table.specs.Mapping.{map_plan, flags_plan, unmap_want, Advances}
+use Rattle.grant_table.specs.Mapping.{map_plan, flags_plan, unmap_want}
 use Rattle.page_directory.specs.declared.walk.Walked.{Walked}
 use Rattle.page_directory.specs.declared.walk.Walked.TheVariants.{Pages, Refused}
 use Rattle.pv_words.specs.Plan.{joined}
@@ -35,11 +33,6 @@ undo_turns pages i h r a e l w =
 pub undo_ends : (pages : List Hold) (i : ℕ) (h : Hold) (r : GrantRefusal) (a : Access) (new : Plan Walked) → drop i pages ≡ h ∷ drop (i + 1) pages → length pages ≤ i + 1 → wanted a ≡ unmap_want h → TurnsOrEnds (undo_plan (drop i pages) r) (Some a) (Some (Refused r)) new
 undo_ends pages i h r a new e l w =
     goes_first (undo_plan (drop i pages) r) (unmap_want h) (Ends h) (λ _. undo_plan (drop (i + 1) pages) r) a (Finished (Refused r)) (ap (λ hs. undo_plan hs r) e) w (sym (ap (λ hs. undo_plan hs r) (drop_all (i + 1) pages l)))
-
--- the number of the domain is known under two names
-pub advances_along : (frames grants : ℕ → ℕ) (d e : ℕ) (old new : MapStep) (last : Option (Result Hold GrantRefusal)) (a : Option Access) → d ≡ e → Advances (map_left (frames d) (grants d) old) a last (map_left (frames d) (grants d) new) → Advances (map_left (frames e) (grants e) old) a last (map_left (frames e) (grants e) new)
-advances_along frames grants d e old new last a same h =
-    subst (λ x. Advances (map_left (frames x) (grants x) old) a last (map_left (frames x) (grants x) new)) same h
 
 module _ (frames grants dom : ℕ) (mode : Mode) where
   entry_comes : (b : Bool) (gref : ℕ) (m : Mode) (held : List Hold) (next : Hold → Plan Walked) → 0 < length held → IsUnfinished (joined (cond b (flags_plan frames dom gref m) (Finished (Err (NoEntry gref)))) (with_map held next))

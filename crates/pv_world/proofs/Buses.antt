@@ -37,10 +37,6 @@ module _ {W : Type 0} (g : Sight W) (frames grants : ℕ → ℕ) (memory : W) w
   wake_stands devices m dev declared st =
       silent_stands g frames grants memory devices m (Entered (entry.Wake dev) ∷ []) (λ s. record { owns = tt; sets = refl }) (λ q. refl) (tt, tt) (declared, tt) st
 
-  pub wake_history : (devices : List DeviceSetup) (m : List Item) (dev : DevId) → is_declared devices dev.0 ≡ true → IsHistory frames grants devices m → IsHistory frames grants devices (m ++ Entered (entry.Wake dev) ∷ [])
-  wake_history devices m dev declared h =
-      history_more frames grants devices m (Entered (entry.Wake dev) ∷ []) h (tt, tt) (declared, tt) (all_of (IsNextIn frames grants m (Entered (entry.Wake dev) ∷ [])) (λ s. tt) devices)
-
   -- a node
   abbrev node : DevId → ℕ → ℕ → NodeValue → Item
   node dev part key v = Entered (entry.Node dev part key v)

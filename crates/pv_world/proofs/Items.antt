@@ -1,5 +1,5 @@
 -- Items of steps, and what a device does in them.
-use Rattle.std.proofs.Common.{◌≡◌, ℕ, suc, ◌+◌, ◌≤◌, ◌==◌, Bool, true, false, cond, List, [], ◌∷◌, ◌++◌, length, arith, Option, Some, None, refl, sym, subst, ◌∙◌, ap, append_assoc, eq-eqb}
+use Rattle.std.proofs.Common.{◌≡◌, ℕ, ◌+◌, ◌≤◌, ◌==◌, Bool, true, false, cond, List, [], ◌∷◌, ◌++◌, arith, Option, Some, None, refl, sym, subst, ◌∙◌, ap, append_assoc, eq-eqb}
 use Rattle.pv_words.specs.declared.access.Access.{Access}
 use Rattle.pv_words.specs.declared.entry.Entry.{Entry}
 use Rattle.pv_words.specs.declared.entry.Entry.TheVariants as entry
@@ -188,17 +188,6 @@ idle_mark dev (Some a) (Some s) e = let wrong : ⊥ = cc in absurd wrong
 pub counts_append : (m n : List Item) → accesses_in (m ++ n) ≡ accesses_in m + accesses_in n
 counts_append [] n = omega arith
 counts_append (i ∷ m) n = let rest = counts_append m n in omega (arith, rest)
-
--- each access is an entry
-counted : (b : Bool) (m : List Item) → accesses_in m ≤ length (entries m) → cond b 1 0 + accesses_in m ≤ suc (length (entries m))
-counted true m h = omega (arith, h)
-counted false m h = omega (arith, h)
-
-pub counts_entries : (m : List Item) → accesses_in m ≤ length (entries m)
-counts_entries [] = omega arith
-counts_entries (Idle d ∷ m) = let rest = counts_entries m in omega (arith, rest)
-counts_entries (Refuses dev e why ∷ m) = let rest = counts_entries m in omega (arith, rest)
-counts_entries (Entered e ∷ m) = counted (is_access (Entered e)) m (counts_entries m)
 
 -- the front of a step's items up to an entry are steps, and so is that entry
 steps_front : (d : ℕ) (m : List Item) (due : Entry) (n : List Item) → AreSteps d (m ++ Entered due ∷ n) → AreSteps d m × IsStepOf d due

@@ -1,31 +1,28 @@
 -- A domain's permits and ends, from single accesses.
-use Rattle.std.proofs.Common.{◌≡◌, ℕ, ◌<◌, ◌==◌, ◌⊎◌, inl, inr, Bool, true, false, cond, List, [], ◌∷◌, ◌++◌, Option, Some, None, Result, Ok, Err, refl, sym, subst, ◌∙◌, ap, append_assoc}
+use Rattle.std.proofs.Common.{◌≡◌, ℕ, ◌<◌, ◌⊎◌, inl, inr, Bool, true, false, List, [], ◌∷◌, ◌++◌, Option, Some, None, Result, Ok, Err, refl, sym, subst, ◌∙◌, ap, append_assoc}
 use Rattle.std.proofs.lemmas.List.{append-nil}
 use Rattle.pv_words.specs.declared.access.Access.{Access}
 use Rattle.pv_words.specs.declared.entry.Entry.{Entry}
 use Rattle.pv_words.specs.declared.entry.Entry.TheVariants as entry
 use Rattle.pv_words.specs.declared.entry.Told.{Told}
-use Rattle.pv_words.specs.declared.grant.Mode.{Mode}
 use Rattle.pv_words.specs.declared.journal.Stop.{Stop}
 use Rattle.pv_words.specs.declared.journal.Stop.TheVariants.{JournalFull, OutOfMemory}
 use Rattle.pv_words.specs.declared.place.DomId.{DomId}
 use Rattle.pv_words.specs.declared.place.GrantRef.{GrantRef}
-use Rattle.pv_words.specs.declared.place.Half.TheVariants.{Flags, FrameNo}
 use Rattle.pv_words.specs.declared.place.Place.{Place}
 use Rattle.pv_words.specs.declared.place.Place.TheVariants.{Grant}
 use Rattle.pv_words.specs.declared.setup.DeviceSetup.{DeviceSetup}
 use Rattle.pv_words.specs.Memory.{place_of}
 use Rattle.pv_words.specs.Place.{InRange}
-use Rattle.pv_words.specs.Plan.{Plan, Finished, Make, Want, Goes, IsUnfinished, Makes, MayGo, Turns, aim_of, seen_by}
+use Rattle.pv_words.specs.Plan.{Plan, Finished, Make, Want, Goes, Makes, MayGo, Turns, aim_of}
 use Rattle.pv_words.specs.Port.{Port, PortMay}
 use Rattle.pv_words.proofs.Listing.{port_may_own}
 use Rattle.grant_table.specs.declared.owner.Owned.{Owned}
-use Rattle.grant_table.specs.Owning.{permit_plan, name_plan, open_plan, end_plan}
 use Rattle.pv_world.specs.declared.world.Placed.{Placed}
 use Rattle.pv_world.specs.Marked.{Item, Entered, entries}
 use Rattle.pv_world.specs.History.{IsHistory}
 use Rattle.pv_world.specs.Owner.{Leads, IsDone, IsUnderWay, HasCauseAt, StopsOwning, Owns, OwnsOn, EntersTurn, KeepsToEntry, told_of, told_items}
-use Rattle.pv_world.specs.Record.{IsAtLimit}
+use Rattle.pv_world.specs.Record.{Shows}
 use Rattle.pv_world.specs.World.{Sight, Stands, front_access, setups}
 use Rattle.pv_world.proofs.Items.{entries_append}
 use Rattle.pv_world.proofs.Histories.{IsNextIn, aimed, all_of, history_front, history_more}
@@ -38,38 +35,15 @@ goes_in_range fs gs dom gref (Make want note more) k a fits r g =
     let e : place_of a ≡ Grant (record { 0 = dom }) (record { 0 = gref }) fits.0.0.0 = aimed a ∙ (ap aim_of g.0 ∙ fits.0.0.1) in
     subst (λ (q : Place). InRange fs gs q) (sym e) r
 
-pub goes_fits : (dom gref : ℕ) (p k : Plan Owned) (a : Access) → KeepsToEntry dom gref p → Goes p a k → KeepsToEntry dom gref k
-goes_fits dom gref (Finished x) k a fits g = absurd g
-goes_fits dom gref (Make want note more) k a fits g = subst (λ (q : Plan Owned). KeepsToEntry dom gref q) (sym g.1) (fits.1 (seen_by a))
-
 pub may_go : (may : Want → Type 0) (fs gs : ℕ → ℕ) (p : Port) (dom gref : ℕ) (plan : Plan Owned) → KeepsToEntry dom gref plan → gref < gs dom → p.device ≡ None → p.serves dom ≡ true → ((want : Want) → PortMay fs gs p want → may want) → MayGo may plan
 may_go may fs gs p dom gref (Finished x) fits r own serves allows = tt
 may_go may fs gs p dom gref (Make want note more) fits r own serves allows =
     allows want (port_may_own fs gs p dom want own serves (subst (λ (q : Place). InRange fs gs q) (sym fits.0.0.1) r) fits.0.1)
 
-either : (dom gref : ℕ) (b : Bool) (p q : Plan Owned) → KeepsToEntry dom gref p → KeepsToEntry dom gref q → KeepsToEntry dom gref (cond b p q)
-either dom gref true p q f g = f
-either dom gref false p q f g = g
-
-open_keeps : (dom gref : ℕ) (mode : Mode) → KeepsToEntry dom gref (open_plan dom gref mode)
-open_keeps dom gref mode = (((Flags, refl), refl), λ seen. tt)
-
-name_keeps : (dom gref frame : ℕ) (mode : Mode) → KeepsToEntry dom gref (name_plan dom gref frame mode)
-name_keeps dom gref frame mode = (((FrameNo, refl), refl), λ seen. open_keeps dom gref mode)
-
-pub permit_keeps : (dom gref frame : ℕ) (mode : Mode) → KeepsToEntry dom gref (permit_plan dom gref frame mode)
-permit_keeps dom gref frame mode = (((Flags, refl), refl), λ word. either dom gref (word == 0) (name_plan dom gref frame mode) (Finished _) (name_keeps dom gref frame mode) tt)
-
-pub end_keeps : (dom gref : ℕ) → KeepsToEntry dom gref (end_plan dom gref)
-end_keeps dom gref = (((Flags, refl), refl), λ word. (((Flags, refl), refl), λ seen. tt))
-
 -- what a step leads to
 pub goes_of : (p q : Plan Owned) (a : Access) (o : Option Owned) → Turns p (Some a) o q → (k : Plan Owned) × Goes p a k
 goes_of p q a None t = (q, t.0)
 goes_of p q a (Some x) t = (Finished x, t)
-
-pub left_keeps : (dom gref : ℕ) (p q : Plan Owned) (a : Access) → KeepsToEntry dom gref p → Turns p (Some a) None q → KeepsToEntry dom gref q
-left_keeps dom gref p q a fits t = goes_fits dom gref p q a fits t.0
 
 leads_append : (p q r : Plan Owned) (xs ys : List Item) → Leads p xs q → Leads q ys r → Leads p (xs ++ ys) r
 leads_append p q r [] ys e g = subst (λ (x : Plan Owned). Leads x ys r) (sym e) g
@@ -98,13 +72,13 @@ module _ {W : Type 0} (g : Sight W) (frames grants : ℕ → ℕ) where
       silent_stands g frames grants memory devices m (Entered (entry.Told dom t) ∷ []) (λ s. record { owns = tt; sets = refl }) (λ q. refl) (tt, tt) (tt, tt) st
 
   -- the access of a step found no room
-  access_cause : (devices : List DeviceSetup) (dom : DomId) (gref : GrantRef) (p k : Plan Owned) (a : Access) (stop : Stop) (m : List Item) (es : List Entry) → Goes p a k → IsHistory frames grants devices (m ++ front_access a ∷ []) → IsAtLimit stop es → HasCauseAt frames grants devices dom gref p m [] es stop
+  access_cause : (devices : List DeviceSetup) (dom : DomId) (gref : GrantRef) (p k : Plan Owned) (a : Access) (stop : Stop) (m : List Item) (es : List Entry) → Goes p a k → IsHistory frames grants devices (m ++ front_access a ∷ []) → Shows stop es → HasCauseAt frames grants devices dom gref p m [] es stop
   access_cause devices dom gref p k a JournalFull m es g h limit =
       record { length_is = limit; due = _; goes_on = h; next = inl (record { left = k; leads = (a, k, refl, g, refl) }) }
-  access_cause devices dom gref p k a OutOfMemory m es g h limit = tt
+  access_cause devices dom gref p k a OutOfMemory m es g h limit = limit
 
   -- what is told found none
-  told_cause : (devices : List DeviceSetup) (dom : DomId) (gref : GrantRef) (p : Plan Owned) (a : Access) (x : Owned) (t : Told) (stop : Stop) (m : List Item) (es : List Entry) → Goes p a (Finished x) → told_of gref x ≡ Some t → IsHistory frames grants devices (m ++ front_access a ∷ []) → IsAtLimit stop es → HasCauseAt frames grants devices dom gref p m (front_access a ∷ []) es stop
+  told_cause : (devices : List DeviceSetup) (dom : DomId) (gref : GrantRef) (p : Plan Owned) (a : Access) (x : Owned) (t : Told) (stop : Stop) (m : List Item) (es : List Entry) → Goes p a (Finished x) → told_of gref x ≡ Some t → IsHistory frames grants devices (m ++ front_access a ∷ []) → Shows stop es → HasCauseAt frames grants devices dom gref p m (front_access a ∷ []) es stop
   told_cause devices dom gref p a x t JournalFull m es g n h limit =
       record {
         length_is = limit;
@@ -117,7 +91,7 @@ module _ {W : Type 0} (g : Sight W) (frames grants : ℕ → ℕ) where
           then_told = ap (λ (o : Option Told). (front_access a ∷ []) ++ told_items dom o) (sym n);
         });
       }
-  told_cause devices dom gref p a x t OutOfMemory m es g n h limit = tt
+  told_cause devices dom gref p a x t OutOfMemory m es g n h limit = limit
 
   -- what was entered of one step, and what the world stands for after it
   pub turned : (memory : W) (devices : List Placed) (dom : DomId) (gref : GrantRef) (p q : Plan Owned) (a : Access) (o : Option Owned) (es grown : List Entry) (m : List Item) (r : Result Bool Stop) → Stands g frames grants memory devices (m ++ front_access a ∷ []) → Turns p (Some a) o q → entries m ≡ es → EntersTurn dom gref (Some a) o es grown r → OwnsOn g frames grants memory devices dom gref p q grown m r
@@ -166,7 +140,7 @@ module _ {W : Type 0} (g : Sight W) (frames grants : ℕ → ℕ) where
         later_next : (IsUnderWay q (part ++ Entered h.due ∷ []) ⊎ IsDone dom gref q (part ++ Entered h.due ∷ [])) → IsUnderWay p (here ++ (part ++ Entered h.due ∷ [])) ⊎ IsDone dom gref p (here ++ (part ++ Entered h.due ∷ []))
         later_next (inl u) = inl (under_way_after p q here (part ++ Entered h.due ∷ []) leads u)
         later_next (inr d) = inr (done_after dom gref p q here (part ++ Entered h.due ∷ []) leads d)
-  later_cause devices dom gref p q OutOfMemory m here part es leads h = tt
+  later_cause devices dom gref p q OutOfMemory m here part es leads h = h
 
   -- a step after the steps so far
   pub owns_on : (memory later : W) (devices then : List Placed) (dom : DomId) (gref : GrantRef) (p q r : Plan Owned) (es new : List Entry) (m : List Item) → OwnsOn g frames grants memory devices dom gref p q es m (Ok true) → ((n : List Item) → Stands g frames grants memory devices n → entries n ≡ es → OwnsOn g frames grants later then dom gref q r new n (Ok true)) → OwnsOn g frames grants later then dom gref p r new m (Ok true)
@@ -201,11 +175,6 @@ module _ {W : Type 0} (g : Sight W) (frames grants : ℕ → ℕ) where
         entered = subst (λ (y : List Item). entries y ≡ new) joined b.entered;
         cause = later_cause (setups then) dom gref p q stop m a.0 b.part new a.1 b.cause;
       }
-
-  -- no step yet
-  pub owns_nothing : (memory : W) (devices : List Placed) (dom : DomId) (gref : GrantRef) (p : Plan Owned) (es : List Entry) (m : List Item) → IsUnfinished p → Stands g frames grants memory devices m → entries m ≡ es → OwnsOn g frames grants memory devices dom gref p p es m (Ok true)
-  owns_nothing memory devices dom gref p es m live st e =
-      ([], refl, live, subst (λ (x : List Item). Stands g frames grants memory devices x) (sym (append-nil m)) st, subst (λ (x : List Item). entries x ≡ es) (sym (append-nil m)) e)
 
   -- a step of the world, once the port is the domain's
   pub owned_turn : (makes : W → Access → W → Type 0) (b : Behaves g makes)

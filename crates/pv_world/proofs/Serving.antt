@@ -1,7 +1,6 @@
 -- From single steps to a device that is served.
 use Rattle.std.proofs.Common.{◌≡◌, ◌≢◌, ℕ, nat_eq, ◌+◌, ◌<◌, ◌≤◌, inl, inr, Bool, true, false, List, [], ◌∷◌, ◌++◌, Option, Some, None, Result, Ok, Err, sym, subst, ◌∙◌, ap, append_assoc, refl, arith}
 use Rattle.std.proofs.lemmas.Bool.Decides.{nat_tests}
-use Rattle.std.proofs.lemmas.List.{append-nil}
 use Rattle.std.specs.Option.{option_eq}
 use Rattle.pv_words.specs.declared.access.Access.{Access}
 use Rattle.pv_words.specs.declared.entry.Entry.{Entry}
@@ -12,7 +11,7 @@ use Rattle.pv_words.specs.declared.device.Said.{Said}
 use Rattle.pv_words.specs.declared.setup.DeviceSetup.{DeviceSetup}
 use Rattle.pv_world.specs.declared.world.Placed.{Placed}
 use Rattle.pv_world.specs.Marked.{Item, Entered, Idle, entries, items_of, accesses_in, IsStepOf, AreSteps}
-use Rattle.pv_world.specs.Record.{Records, IsAtLimit, progress}
+use Rattle.pv_world.specs.Record.{Records, Shows, progress}
 use Rattle.pv_world.specs.History.{IsHistory}
 use Rattle.pv_world.specs.World.{Sight, Stands, StopsIn, HasCause, AtMost, Advanced, SteppedBy, setups}
 use Rattle.pv_world.proofs.Items.{entries_append, busy_steps, idle_mark, one_access, no_access, most_one, front_steps, steps_append, counts_append}
@@ -32,7 +31,7 @@ fewer_still (Some k) made f e n h =
     omega (arith, l, same, apart)
 
 module _ {W : Type 0} (g : Sight W) (frames grants : ℕ → ℕ) where
-  cause_of : (devices : List DeviceSetup) (d : ℕ) (most : Option ℕ) (stop : Stop) (m here : List Item) (due : Entry) (rest : List Item) (es : List Entry) → IsStepOf d due → IsHistory frames grants devices ((m ++ here) ++ Entered due ∷ rest) → AtMost most (accesses_in (here ++ Entered due ∷ [])) → IsAtLimit stop es → HasCause frames grants devices d most m here es stop
+  cause_of : (devices : List DeviceSetup) (d : ℕ) (most : Option ℕ) (stop : Stop) (m here : List Item) (due : Entry) (rest : List Item) (es : List Entry) → IsStepOf d due → IsHistory frames grants devices ((m ++ here) ++ Entered due ∷ rest) → AtMost most (accesses_in (here ++ Entered due ∷ [])) → Shows stop es → HasCause frames grants devices d most m here es stop
   cause_of devices d most JournalFull m here due rest es of h within limit =
       record {
         length_is = limit;
@@ -41,7 +40,7 @@ module _ {W : Type 0} (g : Sight W) (frames grants : ℕ → ℕ) where
         goes_on = history_front frames grants devices ((m ++ here) ++ Entered due ∷ []) rest (subst (λ (x : List Item). IsHistory frames grants devices x) (sym (append_assoc (m ++ here) (Entered due ∷ []) rest)) h);
         within = within;
       }
-  cause_of devices d most OutOfMemory m here due rest es of h within limit = tt
+  cause_of devices d most OutOfMemory m here due rest es of h within limit = limit
 
   -- what was entered of a step, and what the world stands for after it
   pub recorded : (memory : W) (devices : List Placed) (dev : DevId) (a : Option Access) (s : Option Said) (old new : List Entry) (m : List Item) (result : Result (Option Bool) Stop) → Stands g frames grants memory devices (m ++ items_of dev a s) → entries m ≡ old → Records (items_of dev a s) a s old new result → Advanced g frames grants memory devices dev new m result
@@ -71,17 +70,6 @@ module _ {W : Type 0} (g : Sight W) (frames grants : ℕ → ℕ) where
     pub counted : accesses_in here ≡ made
     pub stands : Stands g frames grants memory devices (m ++ here)
     pub entered : entries (m ++ here) ≡ es
-
-  -- none yet
-  pub not_yet : (memory : W) (devices : List Placed) (d : ℕ) (es : List Entry) (m : List Item) → Stands g frames grants memory devices m → entries m ≡ es → HasStepped memory devices d 0 es m
-  not_yet memory devices d es m st e =
-      record {
-        here = [];
-        steps = tt;
-        counted = refl;
-        stands = subst (λ (x : List Item). Stands g frames grants memory devices x) (sym (append-nil m)) st;
-        entered = ap entries (append-nil m) ∙ e;
-      }
 
   -- one step more
   stepped_more : (later : W) (devices then : List Placed) (memory : W) (dev : DevId) (made : ℕ) (b : Bool) (es new : List Entry) (m : List Item) (h : HasStepped memory devices dev.0 made es m) (a : Option Access) (s : Option Said) (n : ℕ) → Some b ≡ progress a s → accesses_in (items_of dev a s) ≡ n → Stands g frames grants later then ((m ++ h.here) ++ items_of dev a s) → entries ((m ++ h.here) ++ items_of dev a s) ≡ new → HasStepped later then dev.0 (made + n) new m
@@ -151,7 +139,7 @@ module _ {W : Type 0} (g : Sight W) (frames grants : ℕ → ℕ) where
         goes_on = subst (λ (x : List Item). IsHistory frames grants devices (x ++ Entered h.due ∷ [])) (append_assoc m first here) h.goes_on;
         within = subst (λ (x : List Item). AtMost most (accesses_in x)) (sym joined) (within_most most made (accesses_in (first ++ more)) fewer (omega (arith, sum, counted, one)));
       }
-  stopped_cause devices d most made OutOfMemory m first here es fewer counted h = tt
+  stopped_cause devices d most made OutOfMemory m first here es fewer counted h = h
 
   -- it was stopped, after some steps that weren't
   pub stopped : (memory : W) (devices then : List Placed) (dev : DevId) (most : Option ℕ) (made : ℕ) (stop : Stop) (es new : List Entry) (m : List Item) → ((n : ℕ) → most ≡ Some n → made < n) → HasStepped memory devices dev.0 made es m → ((n : List Item) → Stands g frames grants memory devices n → entries n ≡ es → StopsIn frames grants (setups then) dev.0 (Some 1) stop n new) → StopsIn frames grants (setups then) dev.0 most stop m new

@@ -133,10 +133,6 @@ module _ {W : Type 0} (g : Sight W) (frames grants : ℕ → ℕ) where
     words_after old new m a made e f w q r =
         (b.remembers old a new made).left q (in_range_from frames (g.frames old) grants (g.grants old) (λ d. sym (e d)) (λ d. sym (f d)) q r) ∙ written_same (g.word old) m a q (w q r)
 
-    -- what a port leaves, of domains with so many frames
-    pub leaves_of : (old new : W) (a : Access) → makes old a new → Leaves (g.frames old) (g.port old) a (g.port new)
-    leaves_of old new a made = b.leaves old a new made
-
     pub front_stands : (old new : W) (devices : List Placed) (m : List Item) (a : Access) → (g.port old).device ≡ None → InRange frames grants (place_of a) → makes old a new → Stands g frames grants old devices m → Stands g frames grants new devices (m ++ front_access a ∷ [])
     front_stands old new devices m a own range made st =
         record {

@@ -109,10 +109,6 @@ first_may : (site : Site) (a : Access) (s : Option Said) (x : Stand Work End) �
 first_may site a None x h = h.0
 first_may site a (Some t) x h = h.0
 
--- the site of a device, as its display and the machine tell it
-made_site : (dom parts frames grants : ℕ) → Site
-made_site dom parts frames grants = record { dom = dom; parts = parts; frames = frames; grants = grants }
-
 same_site : (dom dom' parts parts' frames frames' grants grants' : ℕ) → dom ≡ dom' → parts ≡ parts' → frames ≡ frames' → grants ≡ grants' → ◌≡◌ {A = Site} (record { dom = dom; parts = parts; frames = frames; grants = grants }) (record { dom = dom'; parts = parts'; frames = frames'; grants = grants' })
 same_site dom dom' parts parts' frames frames' grants grants' a b c d = cc
 

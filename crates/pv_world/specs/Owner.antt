@@ -1,5 +1,5 @@
 -- What a domain enters for a grant entry of its own: the accesses of a permit or an end, and then what it is told.
-use Rattle.std.specs.Prelude.{◌≡◌, ℕ, ◌⊎◌, Bool, true, false, List, [], ◌∷◌, ◌++◌, length, Option, Some, None, Result, Ok, Err, is_none}
+use Rattle.std.specs.Prelude.{◌≡◌, ◌<◌, ℕ, ◌⊎◌, Bool, true, false, List, [], ◌∷◌, ◌++◌, length, Option, Some, None, Result, Ok, Err, is_none}
 use Rattle.pv_words.specs.declared.access.Access.{Access}
 use Rattle.pv_words.specs.declared.entry.Entry.{Entry}
 use Rattle.pv_words.specs.declared.entry.Entry.TheVariants as entry
@@ -22,7 +22,7 @@ use Rattle.pv_world.specs.declared.owner.Owning.TheVariants as owning
 use Rattle.pv_world.specs.declared.world.Placed.{Placed}
 use Rattle.pv_world.specs.Marked.{Item, Entered, entries}
 use Rattle.pv_world.specs.History.{IsHistory}
-use Rattle.pv_world.specs.Record.{IsAtLimit}
+use Rattle.pv_world.specs.Record.{Shows}
 use Rattle.pv_world.specs.World.{Sight, Stands, front_access, setups}
 
 -- what is left of a permit or an end
@@ -73,7 +73,7 @@ pub record IsFullAt (frames grants : ℕ → ℕ) (devices : List DeviceSetup) (
 
 abbrev pub HasCauseAt : (frames grants : ℕ → ℕ) (devices : List DeviceSetup) (dom : DomId) (gref : GrantRef) (plan : Plan Owned) (m part : List Item) (es : List Entry) → Stop → Type 0
 HasCauseAt frames grants devices dom gref plan m part es JournalFull = IsFullAt frames grants devices dom gref plan m part es
-HasCauseAt frames grants devices dom gref plan m part es OutOfMemory = Unit {0}
+HasCauseAt frames grants devices dom gref plan m part es OutOfMemory = length es < 8388608
 
 -- it was stopped after some of its accesses
 pub record StopsOwning (frames grants : ℕ → ℕ) (devices : List DeviceSetup) (dom : DomId) (gref : GrantRef) (plan : Plan Owned) (stop : Stop) (m : List Item) (es : List Entry) : Type 0 where
@@ -111,8 +111,8 @@ abbrev pub EntersTurn : DomId → GrantRef → Option Access → Option Owned �
 EntersTurn dom gref a o old new (Ok more) =
     (new ≡ old ++ (entries (access_items a) ++ entries (told_items dom (news_of gref o)))) × (more ≡ is_none o)
 EntersTurn dom gref a o old new (Err stop) =
-    ((new ≡ old) × IsAtLimit stop new)
-    ⊎ ((t : Told) × (news_of gref o ≡ Some t) × (new ≡ old ++ entries (access_items a)) × IsAtLimit stop new)
+    ((new ≡ old) × Shows stop new)
+    ⊎ ((t : Told) × (news_of gref o ≡ Some t) × (new ≡ old ++ entries (access_items a)) × Shows stop new)
 
 -- each access of what is left, whatever it finds, goes to the entry
 abbrev pub KeepsToEntry : (dom gref : ℕ) → Plan Owned → Type 0

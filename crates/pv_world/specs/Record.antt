@@ -13,9 +13,10 @@ progress None None = None
 progress None (Some s) = Some false
 progress (Some a) s = Some true
 
-abbrev pub IsAtLimit : Stop → List Entry → Type 0
-IsAtLimit JournalFull es = length es ≡ 8388608
-IsAtLimit OutOfMemory es = Unit {0}
+-- what a stop shows of the journal: it is at its limit, or memory was wanting below it
+abbrev pub Shows : Stop → List Entry → Type 0
+Shows JournalFull es = length es ≡ 8388608
+Shows OutOfMemory es = length es < 8388608
 
 -- the items were entered up to one of them
 pub record EntersFront (items : List Item) (stop : Stop) (old new : List Entry) : Type 0 where
@@ -24,7 +25,7 @@ pub record EntersFront (items : List Item) (stop : Stop) (old new : List Entry) 
   pub rest : List Item
   pub split : items ≡ done ++ Entered due ∷ rest
   pub entered : new ≡ old ++ entries done
-  pub limit : IsAtLimit stop new
+  pub limit : Shows stop new
 
 -- the items of a step were entered, or some of them
 abbrev pub Records : List Item → Option Access → Option Said → List Entry → List Entry → Result (Option Bool) Stop → Type 0

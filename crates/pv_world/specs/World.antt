@@ -19,7 +19,7 @@ use Rattle.pv_words.specs.Port.{Port, IsListed, no_listing}
 use Rattle.backend_core.specs.Device as backend
 use Rattle.pv_world.specs.declared.world.Placed.{Placed}
 use Rattle.pv_world.specs.declared.world.World.{World}
-use Rattle.pv_world.specs.Record.{IsAtLimit, progress}
+use Rattle.pv_world.specs.Record.{Shows, progress}
 use Rattle.pv_world.specs.Marked.{Item, Entered, Idle, entries, host_item, nodes_in, items_of, accesses_in, IsStepOf, AreSteps}
 use Rattle.xenbus_states.specs.Nodes.{no_nodes}
 use Rattle.display_backend.specs.Machine.{Site}
@@ -87,7 +87,7 @@ pub record IsFull (frames grants : ℕ → ℕ) (devices : List DeviceSetup) (d 
 
 abbrev pub HasCause : (frames grants : ℕ → ℕ) (devices : List DeviceSetup) (d : ℕ) (most : Option ℕ) (m here : List Item) (es : List Entry) → Stop → Type 0
 HasCause frames grants devices d most m here es JournalFull = IsFull frames grants devices d most m here es
-HasCause frames grants devices d most m here es OutOfMemory = Unit {0}
+HasCause frames grants devices d most m here es OutOfMemory = length es < 8388608
 
 -- The device was stopped after some of its steps. What has been entered is a history.
 pub record StopsIn (frames grants : ℕ → ℕ) (devices : List DeviceSetup) (d : ℕ) (most : Option ℕ) (stop : Stop) (m : List Item) (es : List Entry) : Type 0 where
@@ -168,7 +168,7 @@ abbrev pub Enters : {W : Type 0} → Sight W → (frames grants : ℕ → ℕ) (
 Enters g frames grants memory devices due es m (Ok x) =
     Stands g frames grants memory devices (m ++ due ∷ []) × (entries (m ++ due ∷ []) ≡ es)
 Enters g frames grants memory devices due es m (Err stop) =
-    IsHistory frames grants (setups devices) (m ++ due ∷ []) × ((entries m ≡ es) × IsAtLimit stop es)
+    IsHistory frames grants (setups devices) (m ++ due ∷ []) × ((entries m ≡ es) × Shows stop es)
 
 -- the entries of an item were entered up to one of them, which found no room
 pub record IsCut (item : Item) (old new : List Entry) : Type 0 where
@@ -185,7 +185,7 @@ Hosted g frames grants memory devices dev e es m (Ok x) =
     (answer : Option HostRefusal) × Stands g frames grants memory devices (m ++ host_item dev e answer ∷ []) × (entries (m ++ host_item dev e answer ∷ []) ≡ es)
 Hosted g frames grants memory devices dev e es m (Err stop) =
     (answer : Option HostRefusal) × IsHistory frames grants (setups devices) (m ++ host_item dev e answer ∷ [])
-    × IsCut (host_item dev e answer) (entries m) es × IsAtLimit stop es
+    × IsCut (host_item dev e answer) (entries m) es × Shows stop es
 
 -- a word was exchanged where it was `old`, or there was no room for the entry
 abbrev pub Exchanged : {W : Type 0} → Sight W → (frames grants : ℕ → ℕ) (memory : W) (devices : List Placed) (at : Place) (old new : ℕ) (es : List Entry) (m : List Item) {A : Type 0} → Result A Stop → Type 0

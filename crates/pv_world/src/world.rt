@@ -7,7 +7,7 @@ ghost use Rattle.pv_words.specs.declared.entry.Entry.TheVariants as entry;
 ghost use Rattle.pv_words.specs.declared.entry.End.TheVariants as end;
 ghost use Rattle.pv_words.specs.Place.{domain_of};
 ghost use Rattle.pv_world.specs.History.{HistoriesAreRuns, parts_of};
-ghost use Rattle.pv_world.specs.Record.{Records, Grows, IsAtLimit, IsLonger};
+ghost use Rattle.pv_world.specs.Record.{Records, Grows, Shows, IsLonger};
 ghost use Rattle.pv_world.specs.World.{AreDeclaredAs, HasParts, IsDeclaredAs};
 ghost use Rattle.pv_world.specs.Owner.{EntersTurn};
 
@@ -41,7 +41,7 @@ pub struct World<W> {
 fn enter(journal: &mut Journal, entry: Entry) -> Result<(), Stop>
     ensures ok { OnOk result (journal.new.entries ≡ journal.old.entries ++ entry ∷ []) }
     ensures err { OnErr result (journal.new.entries ≡ journal.old.entries) }
-    ensures cause { IfErr result (λ stop. IsAtLimit stop journal.new.entries) }
+    ensures cause { IfErr result (λ stop. Shows stop journal.new.entries) }
     ensures room { OnOk result (length journal.old.entries < JOURNAL_LIMIT) }
 {
     if journal.len() >= JOURNAL_LIMIT {

@@ -1,5 +1,5 @@
 -- How a command ends.
-use Rattle.std.specs.Prelude.{◌≡◌, ℕ, ◌≤◌, ◌⊎◌, Bool, false, List, [], ◌∷◌, length, codes, Option, Ok as ok, Err as err, String, string_bytes, bytes_eq}
+use Rattle.std.specs.Prelude.{◌≡◌, ◌<◌, ℕ, ◌≤◌, ◌⊎◌, Bool, false, List, [], ◌∷◌, length, codes, Option, Ok as ok, Err as err, String, string_bytes, bytes_eq}
 use Rattle.pv_words.specs.declared.entry.Entry.{Entry}
 use Rattle.pv_ports.specs.Port.{Gave, IsAtEnd, Appended, AppendedPrefix, Rose}
 use Rattle.pv_world.specs.Marked.{Item}
@@ -50,7 +50,7 @@ EndsFor octets old new failed fails es (status.Script f) =
 EndsFor octets old new failed fails es status.WriteFault =
     Rose failed fails × IsJournalFor octets es × AppendedPrefix old new (text es false)
 EndsFor octets old new failed fails es status.OutOfMemory =
-    (new ≡ old) × ((es ≡ []) ⊎ ((s : Scenario) × (scenario_of octets ≡ ok s) × IsLegalTo s es))
+    (new ≡ old) × ((es ≡ []) ⊎ ((s : Scenario) × (scenario_of octets ≡ ok s) × IsLegalTo s es)) × (length es < 8388608)
 EndsFor octets old new failed fails es status.JournalFull =
     (s : Scenario) × (scenario_of octets ≡ ok s) × IsFullFor s es × IsLegalTo s es × Appended old new (text es false)
 EndsFor octets old new failed fails es status.Usage = ⊥

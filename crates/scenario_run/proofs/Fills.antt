@@ -1,6 +1,5 @@
 -- From single stores to all stores of a statement.
 use Rattle.std.proofs.Common.{◌≡◌, ℕ, suc, ◌+◌, ◌*◌, ◌%◌, ◌^◌, ◌<◌, inl, List, [], ◌∷◌, ◌++◌, Ok, refl, sym, subst, ◌∙◌, ap, append_assoc, arith}
-use Rattle.std.proofs.lemmas.List.{append-nil}
 use Rattle.std.proofs.Math.Nat.{add-mod-mod, div-lt_iff_lt-mul, mod-lt}
 use Rattle.pv_words.specs.declared.entry.Entry.{Entry}
 use Rattle.pv_words.specs.declared.journal.Stop.{Stop}
@@ -13,7 +12,7 @@ use Rattle.scenario_text.specs.declared.statement.Statement.TheVariants.{Fill}
 use Rattle.pv_world.specs.declared.world.Placed.{Placed}
 use Rattle.pv_world.specs.Marked.{Item, entries}
 use Rattle.pv_world.specs.History.{IsHistory}
-use Rattle.pv_world.specs.Record.{IsAtLimit}
+use Rattle.pv_world.specs.Record.{Shows}
 use Rattle.pv_world.specs.World.{Enters, Sight, Stands, front_store, setups}
 use Rattle.scenario_run.specs.Follows.{filling, stores_of, word_at}
 use Rattle.scenario_run.specs.Played.{StopsAt, HasCauseIn}
@@ -33,10 +32,6 @@ abbrev pub Filled : {W : Type 0} (g : Sight W) (frames grants : ℕ → ℕ) (me
 Filled g frames grants memory devices f n es m = Stands g frames grants memory devices (m ++ stores_of f n) × (entries (m ++ stores_of f n) ≡ es)
 
 module _ {W : Type 0} (g : Sight W) (frames grants : ℕ → ℕ) (f : Filling) where
-  pub none_stored : (memory : W) (devices : List Placed) (es : List Entry) (m : List Item) → Stands g frames grants memory devices m → entries m ≡ es → Filled g frames grants memory devices f 0 es m
-  none_stored memory devices es m st e =
-      (subst (λ (x : List Item). Stands g frames grants memory devices x) (sym (append-nil m)) st, subst (λ (x : List Item). entries x ≡ es) (sym (append-nil m)) e)
-
   pub one_more : {A : Type 0} (x : A) (later : W) (then : List Placed) (n : ℕ) (new : List Entry) (m : List Item) → Enters g frames grants later then (filling f n) new (m ++ stores_of f n) (Ok x) → Filled g frames grants later then f (n + 1) new m
   one_more x later then n new m h =
       let joined : (m ++ stores_of f n) ++ filling f n ∷ [] ≡ m ++ stores_of f (suc n) = append_assoc m (stores_of f n) (filling f n ∷ []) in
@@ -44,7 +39,7 @@ module _ {W : Type 0} (g : Sight W) (frames grants : ℕ → ℕ) (f : Filling) 
       let whole : (m ++ stores_of f n) ++ filling f n ∷ [] ≡ m ++ stores_of f (n + 1) = joined ∙ ap (λ (k : ℕ). m ++ stores_of f k) next in
       (subst (λ (y : List Item). Stands g frames grants later then y) whole h.0, subst (λ (y : List Item). entries y ≡ new) whole h.1)
 
-  store_cause : (devices : List DeviceSetup) (n : ℕ) (stop : Stop) (m : List Item) (es : List Entry) → n < f.count → IsHistory frames grants devices ((m ++ stores_of f n) ++ filling f n ∷ []) → IsAtLimit stop es → HasCauseIn frames grants devices (Fill f) m (stores_of f n) es stop
+  store_cause : (devices : List DeviceSetup) (n : ℕ) (stop : Stop) (m : List Item) (es : List Entry) → n < f.count → IsHistory frames grants devices ((m ++ stores_of f n) ++ filling f n ∷ []) → Shows stop es → HasCauseIn frames grants devices (Fill f) m (stores_of f n) es stop
   store_cause devices n JournalFull m es below h limit =
       record {
         length_is = limit;
@@ -52,9 +47,9 @@ module _ {W : Type 0} (g : Sight W) (frames grants : ℕ → ℕ) (f : Filling) 
         goes_on = subst (λ (y : List Item). IsHistory frames grants devices y) (append_assoc m (stores_of f n) (filling f n ∷ [])) h;
         next = inl (suc n, below, refl);
       }
-  store_cause devices n OutOfMemory m es below h limit = tt
+  store_cause devices n OutOfMemory m es below h limit = limit
 
-  pub fill_stops : (memory : W) (devices then : List Placed) (n : ℕ) (es new : List Entry) (m : List Item) (stop : Stop) → n < f.count → setups then ≡ setups devices → Filled g frames grants memory devices f n es m → IsHistory frames grants (setups then) ((m ++ stores_of f n) ++ filling f n ∷ []) × ((entries (m ++ stores_of f n) ≡ new) × IsAtLimit stop new) → StopsAt frames grants (setups then) (Fill f) stop m new
+  pub fill_stops : (memory : W) (devices then : List Placed) (n : ℕ) (es new : List Entry) (m : List Item) (stop : Stop) → n < f.count → setups then ≡ setups devices → Filled g frames grants memory devices f n es m → IsHistory frames grants (setups then) ((m ++ stores_of f n) ++ filling f n ∷ []) × ((entries (m ++ stores_of f n) ≡ new) × Shows stop new) → StopsAt frames grants (setups then) (Fill f) stop m new
   fill_stops memory devices then n es new m stop below same before h =
       record {
         part = stores_of f n;

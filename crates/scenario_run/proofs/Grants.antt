@@ -52,7 +52,7 @@ module _ (frames grants : ℕ → ℕ) (dom : DomId) (gref : GrantRef) (plans : 
         goes_on = subst (λ (y : List Item). IsHistory frames grants devices y) (append_assoc m front (part ++ Entered h.due ∷ []) ∙ ap (λ (y : List Item). m ++ y) joined) h.goes_on;
         next = subst (λ (y : List Item). IsPartOf s y ⊎ IsRow s y) joined (next_of front (part ++ Entered h.due ∷ []) done h.next);
       }
-  each_cause devices OutOfMemory m front part es done h = tt
+  each_cause devices OutOfMemory m front part es done h = h
 
   module _ {W : Type 0} (g : Sight W) where
     pub each_stops : (memory later : W) (devices then : List Placed) (es new : List Entry) (m : List Item) (stop : Stop) → SoFar g frames grants memory devices dom gref plans n es m → ((k : List Item) → Stands g frames grants memory devices k → entries k ≡ es → StopsOwning frames grants (setups then) dom (record { 0 = gref.0 + n }) (plans n) stop k new) → StopsAt frames grants (setups then) s stop m new
@@ -78,7 +78,3 @@ module _ {W : Type 0} (g : Sight W) (frames grants : ℕ → ℕ) (dom : DomId) 
         subst (λ (y : List Item). Stands g frames grants later then y) joined b.2,
         subst (λ (y : List Item). entries y ≡ new) joined b.3,
       )
-
-  pub none_yet : (memory : W) (devices : List Placed) (es : List Entry) (m : List Item) → Stands g frames grants memory devices m → entries m ≡ es → SoFar g frames grants memory devices dom gref plans 0 es m
-  none_yet memory devices es m st e =
-      ([], refl, subst (λ (x : List Item). Stands g frames grants memory devices x) (sym (append-nil m)) st, subst (λ (x : List Item). entries x ≡ es) (sym (append-nil m)) e)

@@ -23,7 +23,7 @@ use Rattle.pv_world.specs.declared.world.Placed.{Placed}
 use Rattle.pv_world.specs.Marked.{Item, Entered, entries, AreSteps, accesses_in}
 use Rattle.pv_world.specs.History.{IsHistory, IsExplainedIn, is_declared, parts_by}
 use Rattle.pv_world.specs.World.{AtMost, Enters, Exchanged, HasCause, Sight, StopsIn, SteppedBy, setups, front_store}
-use Rattle.pv_world.specs.Record.{IsAtLimit}
+use Rattle.pv_world.specs.Record.{Shows}
 use Rattle.pv_world.proofs.Consequences.{histories_are_runs}
 use Rattle.pv_world.proofs.Histories.{in_range_from}
 use Rattle.pv_world.proofs.Items.{entries_append, steps_append}
@@ -35,9 +35,9 @@ use Rattle.scenario_run.proofs.Devices.{same_parts_by, few_parts}
 -- a statement that enters one item
 module _ {W : Type 0} (g : Sight W) (frames grants : ℕ → ℕ) (s : Statement) (due : Entry)
     (none_of : IsPartOf s []) (row : IsRow s (Entered due ∷ [])) where
-  entered_cause : (devices : List DeviceSetup) (stop : Stop) (m : List Item) (es : List Entry) → IsHistory frames grants devices (m ++ Entered due ∷ []) → IsAtLimit stop es → HasCauseIn frames grants devices s m [] es stop
+  entered_cause : (devices : List DeviceSetup) (stop : Stop) (m : List Item) (es : List Entry) → IsHistory frames grants devices (m ++ Entered due ∷ []) → Shows stop es → HasCauseIn frames grants devices s m [] es stop
   entered_cause devices JournalFull m es h limit = record { length_is = limit; due = due; goes_on = h; next = inr row }
-  entered_cause devices OutOfMemory m es h limit = tt
+  entered_cause devices OutOfMemory m es h limit = limit
 
   pub entered : {A : Type 0} (memory : W) (devices : List Placed) (es : List Entry) (m : List Item) (r : Result A Stop) → IsHistory frames grants (setups devices) m → Enters g frames grants memory devices (Entered due) es m r → Played g frames grants memory devices s es m r
   entered memory devices es m (Ok x) so_far h = (Entered due ∷ [], row, h.0, h.1)
@@ -61,7 +61,7 @@ module _ {W : Type 0} (g : Sight W) (frames grants : ℕ → ℕ) (s : Statement
         goes_on = subst (λ (x : List Item). IsHistory frames grants devices x) (append_assoc m here (Entered h.due ∷ [])) h.goes_on;
         next = inl (part_of (here ++ Entered h.due ∷ []) (steps_append dev.0 here (Entered h.due ∷ []) steps (h.of_device, tt)) h.within);
       }
-  stepped_cause devices OutOfMemory m here es steps h = tt
+  stepped_cause devices OutOfMemory m here es steps h = h
 
   pub stops : (devices : List DeviceSetup) (stop : Stop) (m : List Item) (es : List Entry) → StopsIn frames grants devices dev.0 most stop m es → StopsAt frames grants devices s stop m es
   stops devices stop m es h =
@@ -202,6 +202,11 @@ module _ (s : Scenario) (i : ℕ) (x : Statement) (inside : i < length s.stateme
   pub stops_full : (stop : Stop) (followed : List Item) (es : List Entry) → stop ≡ JournalFull → Follows (take i s.statements) followed → StopsAt (frames_by s.sizes) (grants_by s.sizes) s.devices x stop followed es → IsFullFor s es
   stops_full stop followed es full f h =
       full_in followed h.part es f h.entered (subst (λ (y : Stop). HasCauseIn (frames_by s.sizes) (grants_by s.sizes) s.devices x followed h.part es y) full h.cause)
+
+  -- or memory was wanting below the limit
+  pub stops_below : (stop : Stop) (followed : List Item) (es : List Entry) → stop ≡ OutOfMemory → StopsAt (frames_by s.sizes) (grants_by s.sizes) s.devices x stop followed es → length es < 8388608
+  stops_below stop followed es wanting h =
+      subst (λ (y : Stop). HasCauseIn (frames_by s.sizes) (grants_by s.sizes) s.devices x followed h.part es y) wanting h.cause
 
 -- what a scenario that was read keeps, at one of its statements
 pub all_at : {X : Type 0} (P : X → Type 0) (xs : List X) (i : ℕ) (d : X) → AllByRecursion P xs → i < length xs → P (get_or xs i d)

@@ -22,7 +22,7 @@ pub record IsFullIn (frames grants : ℕ → ℕ) (devices : List DeviceSetup) (
 
 abbrev pub HasCauseIn : (frames grants : ℕ → ℕ) (devices : List DeviceSetup) (s : Statement) (m part : List Item) (es : List Entry) → Stop → Type 0
 HasCauseIn frames grants devices s m part es JournalFull = IsFullIn frames grants devices s m part es
-HasCauseIn frames grants devices s m part es OutOfMemory = Unit {0}
+HasCauseIn frames grants devices s m part es OutOfMemory = length es < 8388608
 
 -- the statement was played in part
 pub record StopsAt (frames grants : ℕ → ℕ) (devices : List DeviceSetup) (s : Statement) (stop : Stop) (m : List Item) (es : List Entry) : Type 0 where

@@ -1,6 +1,6 @@
 //! Plays the statements of a scenario, one after another.
 
-ghost use Rattle.std.specs.Prelude.{◌≡◌, ℕ, [], List, OnOk, OnErr, Err, true};
+ghost use Rattle.std.specs.Prelude.{◌≡◌, ◌<◌, ℕ, [], length, List, OnOk, OnErr, Err, true};
 ghost use Rattle.pv_words.specs.declared.journal.Stop.TheVariants as stop;
 ghost use Rattle.pv_words.specs.Place.{InRange};
 ghost use Rattle.pv_words.specs.Sizes.{frames_by, grants_by};
@@ -122,6 +122,7 @@ fn play_all<W: Machine>(
     ensures ok { OnOk result (IsLegal script.now journal.new.entries) }
     ensures stopped { OnErr result (IsLegalTo script.now journal.new.entries) }
     ensures full { result ≡ Err stop.JournalFull → IsFullFor script.now journal.new.entries }
+    ensures wanting { result ≡ Err stop.OutOfMemory → length journal.new.entries < 8388608 }
 {
     let statements = script.statements();
     for statement in statements {
@@ -137,6 +138,7 @@ pub fn play(alloc: Global, script: &Script, journal: &mut Journal) -> Result<(),
     ensures ok { OnOk result (IsLegal script.now journal.new.entries) }
     ensures stopped { OnErr result (IsLegalTo script.now journal.new.entries) }
     ensures full { result ≡ Err stop.JournalFull → IsFullFor script.now journal.new.entries }
+    ensures wanting { result ≡ Err stop.OutOfMemory → length journal.new.entries < 8388608 }
 {
     let Ok(memory) = ListWords::new(alloc, &script.setup().sizes) else {
         return Err(Stop::OutOfMemory);

@@ -1,7 +1,7 @@
 use Rattle.std.proofs.Common.{◌≡◌, ℕ, ◌<◌, ◌++◌, List, length, take, get_or, sym, subst, ◌∙◌, ap, arith}
 use Rattle.std.proofs.lemmas.List.{get_or_default, take_all}
 use Rattle.std.proofs.lemmas.Result.{err_from_is_err_and}
-use Rattle.pv_words.specs.declared.journal.Stop.TheVariants.{JournalFull}
+use Rattle.pv_words.specs.declared.journal.Stop.TheVariants.{JournalFull, OutOfMemory}
 use Rattle.pv_words.specs.declared.place.Place.TheVariants.{Cell}
 use Rattle.pv_words.specs.declared.setup.DeviceSetup.{DeviceSetup}
 use Rattle.pv_words.specs.Sizes.{frames_by, grants_by}
@@ -12,7 +12,7 @@ use Rattle.pv_world.specs.World.{setups, devices_of, memory_of}
 use Rattle.pv_world.specs.History.{IsHistory}
 use Rattle.scenario_run.specs.Follows.{Follows}
 use Rattle.scenario_run.specs.Played.{StopsAt}
-use Rattle.scenario_run.proofs.Plays.{all_at, can_play, stops_legal, stops_full, follows_push, front_is, true_journal}
+use Rattle.scenario_run.proofs.Plays.{all_at, can_play, stops_legal, stops_full, stops_below, follows_push, front_is, true_journal}
 use Rattle.scenario_run.proofs.player.play_all.Goals as goal
 
 -- a statement that no list has at a place beyond its end
@@ -58,6 +58,20 @@ returns-in_err-play_statement-clause-full g c = λ full.
     let is_full : stop ≡ JournalFull = cc (p.1, p.2, full) in
     let stopped = subst (λ (ds : List DeviceSetup). StopsAt (frames_by s.sizes) (grants_by s.sizes) ds (get_or xs i beyond) stop inv.0 es) (c.play_statement.ensures.devices ∙ inv.4) (c.in_err-play_statement.ensures.played (frames_by s.sizes) (grants_by s.sizes) inv.0 inv.2 inv.3) in
     stops_full s i (get_or xs i beyond) inside (turn xs s.statements i c.statements-statements.ensures inside) stop inv.0 es is_full inv.1 stopped
+
+pub returns-in_err-play_statement-clause-wanting : goal.returns-in_err-play_statement-clause-wanting
+returns-in_err-play_statement-clause-wanting g c = λ below.
+    let p = err_from_is_err_and c.from_residual.result c.from_residual.ensures.1 in
+    let s = c.args.script.now in
+    let i = c.loop-statement.statement-index in
+    let inv = c.loop-statement.invariant in
+    let xs = c.statements-statements.result.now in
+    let inside : i < length s.statements = omega (arith, ap length c.statements-statements.ensures) in
+    let es = c.play_statement.new.journal.entries in
+    let stop = c.in_err-play_statement.field-0.0 in
+    let wanting : stop ≡ OutOfMemory = cc (p.1, p.2, below) in
+    let stopped = subst (λ (ds : List DeviceSetup). StopsAt (frames_by s.sizes) (grants_by s.sizes) ds (get_or xs i beyond) stop inv.0 es) (c.play_statement.ensures.devices ∙ inv.4) (c.in_err-play_statement.ensures.played (frames_by s.sizes) (grants_by s.sizes) inv.0 inv.2 inv.3) in
+    stops_below s i (get_or xs i beyond) inside (turn xs s.statements i c.statements-statements.ensures inside) stop inv.0 es wanting stopped
 
 pub loop-statement-preserved : goal.loop-statement-preserved
 loop-statement-preserved g c =

@@ -11,77 +11,6 @@ use Rattle.grant_table.proofs.Plans.{may_from, advances_as, by_access, at_entry,
 use Rattle.grant_table.proofs.Maps.{start_head, start_ends, flags_refuse, flags_permit, begin_head, begin_moved, begin_holds, name_head, name_ends, name_undoes, undo_head, undo_ends, over_ends}
 use Rattle.grant_table.proofs.map.MapStep.step.Goals as goal
 
-pub returns-then-self-grants-clause-advances : goal.returns-then-self-grants-clause-advances
-unfolding map_left dom_of
-returns-then-self-grants-clause-advances g c =
-    let m = c.args.self.now in
-    let frames = g.W.Words.frames_of c.args.words.now m.dom.0 in
-    let grants = g.W.Words.grants_of c.args.words.now m.dom.0 in
-    advances_as (map_left frames grants m) c.ends.result.access None c.ends.result.done (Some (Err (NoEntry m.gref.0))) (map_left frames grants c.ends.new.self) (Finished (Err (NoEntry m.gref.0))) c.ends.ensures.access c.ends.ensures.done (ap (map_left frames grants) c.ends.ensures.left) (start_ends frames grants m.dom.0 m.gref.0 m.mode m.stage c.in-Start.is (omega (arith, c.grants.ensures)))
-
-pub returns-then-self-grants-clause-dom : goal.returns-then-self-grants-clause-dom
-unfolding dom_of
-returns-then-self-grants-clause-dom g c = ap dom_of c.ends.ensures.left
-
-pub returns-then-self-grants-clause-over : goal.returns-then-self-grants-clause-over
-unfolding is_over
-returns-then-self-grants-clause-over g c = ap is_over c.ends.ensures.left ∙ sym (ap is_some c.ends.ensures.done)
-
-pub returns-then-self-grants-clause-held : goal.returns-then-self-grants-clause-held
-returns-then-self-grants-clause-held g c =
-    let m = c.args.self.now in
-    λ _. by_access c.ends.result.access None c.ends.result.done (Some (Err (NoEntry m.gref.0))) c.ends.ensures.access c.ends.ensures.done tt
-
-pub load-word-requires : goal.load-word-requires
-unfolding map_left dom_of
-load-word-requires g c =
-    let m = c.args.self.now in
-    let frames = g.W.Words.frames_of c.args.words.now m.dom.0 in
-    let grants = g.W.Words.grants_of c.args.words.now m.dom.0 in
-    may_from _ _ _ _ _ (start_head frames grants m.dom.0 m.gref.0 m.mode m.stage c.in-Start.is (omega (arith, c.grants.ensures))) c.requires
-
-pub returns-in-Some-clause-advances : goal.returns-in-Some-clause-advances
-unfolding map_left dom_of
-returns-in-Some-clause-advances g c =
-    let m = c.args.self.now in
-    let frames = g.W.Words.frames_of c.args.words.now m.dom.0 in
-    let grants = g.W.Words.grants_of c.args.words.now m.dom.0 in
-    advances_as (map_left frames grants m) c.ends-in-Some.result.access (Some (access.Load (flags_place m.dom.0 m.gref.0) c.load-word.result)) c.ends-in-Some.result.done (Some (Err c.in-Some.refusal)) (map_left frames grants c.ends-in-Some.new.self) (Finished (Err c.in-Some.refusal)) c.ends-in-Some.ensures.access c.ends-in-Some.ensures.done (ap (map_left frames grants) c.ends-in-Some.ensures.left) (flags_refuse frames grants m.dom.0 m.gref.0 m.mode m.stage c.in-Start.is (omega (arith, c.grants.ensures)) c.load-word.result c.in-Some.refusal (sym c.refusal_of.ensures.exact ∙ c.in-Some.is))
-
-pub returns-in-Some-clause-dom : goal.returns-in-Some-clause-dom
-unfolding dom_of
-returns-in-Some-clause-dom g c = ap dom_of c.ends-in-Some.ensures.left
-
-pub returns-in-Some-clause-over : goal.returns-in-Some-clause-over
-unfolding is_over
-returns-in-Some-clause-over g c = ap is_over c.ends-in-Some.ensures.left ∙ sym (ap is_some c.ends-in-Some.ensures.done)
-
-pub returns-in-Some-clause-held : goal.returns-in-Some-clause-held
-returns-in-Some-clause-held g c =
-    let m = c.args.self.now in
-    λ _. by_access c.ends-in-Some.result.access (Some (access.Load (flags_place m.dom.0 m.gref.0) c.load-word.result)) c.ends-in-Some.result.done (Some (Err c.in-Some.refusal)) c.ends-in-Some.ensures.access c.ends-in-Some.ensures.done tt
-
-pub returns-in-None-clause-advances : goal.returns-in-None-clause-advances
-unfolding map_left dom_of
-returns-in-None-clause-advances g c =
-    let m = c.args.self.now in
-    let frames = g.W.Words.frames_of c.args.words.now m.dom.0 in
-    let grants = g.W.Words.grants_of c.args.words.now m.dom.0 in
-    advances_as (map_left frames grants m) c.goes_on.result.access (Some (access.Load (flags_place m.dom.0 m.gref.0) c.load-word.result)) c.goes_on.result.done None (map_left frames grants c.goes_on.new.self) (begin_plan frames m.dom.0 m.gref.0 m.mode c.load-word.result) c.goes_on.ensures.access c.goes_on.ensures.done (ap (map_left frames grants) c.goes_on.ensures.left) (flags_permit frames grants m.dom.0 m.gref.0 m.mode m.stage c.in-Start.is (omega (arith, c.grants.ensures)) c.load-word.result (sym c.refusal_of.ensures.exact ∙ c.in-None.is))
-
-pub returns-in-None-clause-dom : goal.returns-in-None-clause-dom
-unfolding dom_of
-returns-in-None-clause-dom g c = ap dom_of c.goes_on.ensures.left
-
-pub returns-in-None-clause-over : goal.returns-in-None-clause-over
-unfolding is_over
-returns-in-None-clause-over g c = ap is_over c.goes_on.ensures.left ∙ sym (ap is_some c.goes_on.ensures.done)
-
-pub returns-in-None-clause-held : goal.returns-in-None-clause-held
-returns-in-None-clause-held g c =
-    let m = c.args.self.now in
-    λ _. by_access c.goes_on.result.access (Some (access.Load (flags_place m.dom.0 m.gref.0) c.load-word.result)) c.goes_on.result.done None c.goes_on.ensures.access c.goes_on.ensures.done tt
-
 pub swap_if-seen-requires : goal.swap_if-seen-requires
 unfolding map_left dom_of
 swap_if-seen-requires g c =
@@ -96,20 +25,20 @@ returns-then-seen-old-clause-advances g c =
     let m = c.args.self.now in
     let frames = g.W.Words.frames_of c.args.words.now m.dom.0 in
     let grants = g.W.Words.grants_of c.args.words.now m.dom.0 in
-    advances_as (map_left frames grants m) c.goes_on-then-seen-old.result.access (Some (access.Cas (flags_place m.dom.0 m.gref.0) c.in-Begin.word (c.in-Begin.word + c.bits_of.result) c.swap_if-seen.result)) c.goes_on-then-seen-old.result.done None (map_left frames grants c.goes_on-then-seen-old.new.self) (frame_plan frames m.dom.0 m.gref.0 m.mode) c.goes_on-then-seen-old.ensures.access c.goes_on-then-seen-old.ensures.done (ap (map_left frames grants) c.goes_on-then-seen-old.ensures.left) (begin_holds frames grants m.dom.0 m.gref.0 m.mode m.stage c.in-Begin.word c.bits_of.result c.swap_if-seen.result c.in-Begin.is c.bits_of.ensures.exact c.if-seen-old.true)
+    advances_as (map_left frames grants m) c.goes_on.result.access (Some (access.Cas (flags_place m.dom.0 m.gref.0) c.in-Begin.word (c.in-Begin.word + c.bits_of.result) c.swap_if-seen.result)) c.goes_on.result.done None (map_left frames grants c.goes_on.new.self) (frame_plan frames m.dom.0 m.gref.0 m.mode) c.goes_on.ensures.access c.goes_on.ensures.done (ap (map_left frames grants) c.goes_on.ensures.left) (begin_holds frames grants m.dom.0 m.gref.0 m.mode m.stage c.in-Begin.word c.bits_of.result c.swap_if-seen.result c.in-Begin.is c.bits_of.ensures.exact c.if-seen-old.true)
 
 pub returns-then-seen-old-clause-dom : goal.returns-then-seen-old-clause-dom
 unfolding dom_of
-returns-then-seen-old-clause-dom g c = ap dom_of c.goes_on-then-seen-old.ensures.left
+returns-then-seen-old-clause-dom g c = ap dom_of c.goes_on.ensures.left
 
 pub returns-then-seen-old-clause-over : goal.returns-then-seen-old-clause-over
 unfolding is_over
-returns-then-seen-old-clause-over g c = ap is_over c.goes_on-then-seen-old.ensures.left ∙ sym (ap is_some c.goes_on-then-seen-old.ensures.done)
+returns-then-seen-old-clause-over g c = ap is_over c.goes_on.ensures.left ∙ sym (ap is_some c.goes_on.ensures.done)
 
 pub returns-then-seen-old-clause-held : goal.returns-then-seen-old-clause-held
 returns-then-seen-old-clause-held g c =
     let m = c.args.self.now in
-    λ _. by_access c.goes_on-then-seen-old.result.access (Some (access.Cas (flags_place m.dom.0 m.gref.0) c.in-Begin.word (c.in-Begin.word + c.bits_of.result) c.swap_if-seen.result)) c.goes_on-then-seen-old.result.done None c.goes_on-then-seen-old.ensures.access c.goes_on-then-seen-old.ensures.done tt
+    λ _. by_access c.goes_on.result.access (Some (access.Cas (flags_place m.dom.0 m.gref.0) c.in-Begin.word (c.in-Begin.word + c.bits_of.result) c.swap_if-seen.result)) c.goes_on.result.done None c.goes_on.ensures.access c.goes_on.ensures.done tt
 
 pub returns-else-seen-old-clause-advances : goal.returns-else-seen-old-clause-advances
 unfolding map_left dom_of
@@ -117,20 +46,20 @@ returns-else-seen-old-clause-advances g c =
     let m = c.args.self.now in
     let frames = g.W.Words.frames_of c.args.words.now m.dom.0 in
     let grants = g.W.Words.grants_of c.args.words.now m.dom.0 in
-    advances_as (map_left frames grants m) c.ends-else-seen-old.result.access (Some (access.Cas (flags_place m.dom.0 m.gref.0) c.in-Begin.word (c.in-Begin.word + c.bits_of.result) c.swap_if-seen.result)) c.ends-else-seen-old.result.done (Some (Err (Moved c.in-Begin.word c.swap_if-seen.result))) (map_left frames grants c.ends-else-seen-old.new.self) (Finished (Err (Moved c.in-Begin.word c.swap_if-seen.result))) c.ends-else-seen-old.ensures.access c.ends-else-seen-old.ensures.done (ap (map_left frames grants) c.ends-else-seen-old.ensures.left) (begin_moved frames grants m.dom.0 m.gref.0 m.mode m.stage c.in-Begin.word c.bits_of.result c.swap_if-seen.result c.in-Begin.is c.bits_of.ensures.exact c.if-seen-old.false)
+    advances_as (map_left frames grants m) c.ends.result.access (Some (access.Cas (flags_place m.dom.0 m.gref.0) c.in-Begin.word (c.in-Begin.word + c.bits_of.result) c.swap_if-seen.result)) c.ends.result.done (Some (Err (Moved c.in-Begin.word c.swap_if-seen.result))) (map_left frames grants c.ends.new.self) (Finished (Err (Moved c.in-Begin.word c.swap_if-seen.result))) c.ends.ensures.access c.ends.ensures.done (ap (map_left frames grants) c.ends.ensures.left) (begin_moved frames grants m.dom.0 m.gref.0 m.mode m.stage c.in-Begin.word c.bits_of.result c.swap_if-seen.result c.in-Begin.is c.bits_of.ensures.exact c.if-seen-old.false)
 
 pub returns-else-seen-old-clause-dom : goal.returns-else-seen-old-clause-dom
 unfolding dom_of
-returns-else-seen-old-clause-dom g c = ap dom_of c.ends-else-seen-old.ensures.left
+returns-else-seen-old-clause-dom g c = ap dom_of c.ends.ensures.left
 
 pub returns-else-seen-old-clause-over : goal.returns-else-seen-old-clause-over
 unfolding is_over
-returns-else-seen-old-clause-over g c = ap is_over c.ends-else-seen-old.ensures.left ∙ sym (ap is_some c.ends-else-seen-old.ensures.done)
+returns-else-seen-old-clause-over g c = ap is_over c.ends.ensures.left ∙ sym (ap is_some c.ends.ensures.done)
 
 pub returns-else-seen-old-clause-held : goal.returns-else-seen-old-clause-held
 returns-else-seen-old-clause-held g c =
     let m = c.args.self.now in
-    λ _. by_access c.ends-else-seen-old.result.access (Some (access.Cas (flags_place m.dom.0 m.gref.0) c.in-Begin.word (c.in-Begin.word + c.bits_of.result) c.swap_if-seen.result)) c.ends-else-seen-old.result.done (Some (Err (Moved c.in-Begin.word c.swap_if-seen.result))) c.ends-else-seen-old.ensures.access c.ends-else-seen-old.ensures.done tt
+    λ _. by_access c.ends.result.access (Some (access.Cas (flags_place m.dom.0 m.gref.0) c.in-Begin.word (c.in-Begin.word + c.bits_of.result) c.swap_if-seen.result)) c.ends.result.done (Some (Err (Moved c.in-Begin.word c.swap_if-seen.result))) c.ends.ensures.access c.ends.ensures.done tt
 
 pub load-frame-requires : goal.load-frame-requires
 unfolding map_left dom_of
@@ -231,85 +160,37 @@ pub returns-in-Over-clause-held : goal.returns-in-Over-clause-held
 unfolding is_over
 returns-in-Over-clause-held g c = λ going. absurd (false≢true (sym going ∙ ap is_last c.in-Over.is))
 
-pub returns-then-self-grants-clause-entry : goal.returns-then-self-grants-clause-entry
-unfolding gref_of mode_of
-returns-then-self-grants-clause-entry g c = (ap gref_of c.ends.ensures.left, ap mode_of c.ends.ensures.left)
-
-pub returns-then-self-grants-clause-stays : goal.returns-then-self-grants-clause-stays
-unfolding dom_of gref_of
-returns-then-self-grants-clause-stays g c =
-    let m = c.args.self.now in
-    at_entry m.dom.0 m.gref.0 c.ends.result.access None c.ends.ensures.access tt
-
-pub returns-then-self-grants-clause-won : goal.returns-then-self-grants-clause-won
-unfolding dom_of gref_of mode_of
-returns-then-self-grants-clause-won g c =
-    let m = c.args.self.now in
-    λ _. wins_as m.dom.0 m.gref.0 m.mode c.ends.result.done (Some (Err (NoEntry m.gref.0))) c.ends.ensures.done tt
-
-pub returns-in-Some-clause-entry : goal.returns-in-Some-clause-entry
-unfolding gref_of mode_of
-returns-in-Some-clause-entry g c = (ap gref_of c.ends-in-Some.ensures.left, ap mode_of c.ends-in-Some.ensures.left)
-
-pub returns-in-Some-clause-stays : goal.returns-in-Some-clause-stays
-unfolding dom_of gref_of
-returns-in-Some-clause-stays g c =
-    let m = c.args.self.now in
-    at_entry m.dom.0 m.gref.0 c.ends-in-Some.result.access (Some (access.Load (flags_place m.dom.0 m.gref.0) c.load-word.result)) c.ends-in-Some.ensures.access (Flags, refl)
-
-pub returns-in-Some-clause-won : goal.returns-in-Some-clause-won
-unfolding dom_of gref_of mode_of
-returns-in-Some-clause-won g c =
-    let m = c.args.self.now in
-    λ _. wins_as m.dom.0 m.gref.0 m.mode c.ends-in-Some.result.done (Some (Err c.in-Some.refusal)) c.ends-in-Some.ensures.done tt
-
-pub returns-in-None-clause-entry : goal.returns-in-None-clause-entry
-unfolding gref_of mode_of
-returns-in-None-clause-entry g c = (ap gref_of c.goes_on.ensures.left, ap mode_of c.goes_on.ensures.left)
-
-pub returns-in-None-clause-stays : goal.returns-in-None-clause-stays
-unfolding dom_of gref_of
-returns-in-None-clause-stays g c =
-    let m = c.args.self.now in
-    at_entry m.dom.0 m.gref.0 c.goes_on.result.access (Some (access.Load (flags_place m.dom.0 m.gref.0) c.load-word.result)) c.goes_on.ensures.access (Flags, refl)
-
-pub returns-in-None-clause-won : goal.returns-in-None-clause-won
-unfolding dom_of gref_of mode_of
-returns-in-None-clause-won g c =
-    let m = c.args.self.now in
-    λ _. wins_as m.dom.0 m.gref.0 m.mode c.goes_on.result.done None c.goes_on.ensures.done tt
-
 pub returns-then-seen-old-clause-entry : goal.returns-then-seen-old-clause-entry
 unfolding gref_of mode_of
-returns-then-seen-old-clause-entry g c = (ap gref_of c.goes_on-then-seen-old.ensures.left, ap mode_of c.goes_on-then-seen-old.ensures.left)
+returns-then-seen-old-clause-entry g c = (ap gref_of c.goes_on.ensures.left, ap mode_of c.goes_on.ensures.left)
 
 pub returns-then-seen-old-clause-stays : goal.returns-then-seen-old-clause-stays
 unfolding dom_of gref_of
 returns-then-seen-old-clause-stays g c =
     let m = c.args.self.now in
-    at_entry m.dom.0 m.gref.0 c.goes_on-then-seen-old.result.access (Some (access.Cas (flags_place m.dom.0 m.gref.0) c.in-Begin.word (c.in-Begin.word + c.bits_of.result) c.swap_if-seen.result)) c.goes_on-then-seen-old.ensures.access (Flags, refl)
+    at_entry m.dom.0 m.gref.0 c.goes_on.result.access (Some (access.Cas (flags_place m.dom.0 m.gref.0) c.in-Begin.word (c.in-Begin.word + c.bits_of.result) c.swap_if-seen.result)) c.goes_on.ensures.access (Flags, refl)
 
 pub returns-then-seen-old-clause-won : goal.returns-then-seen-old-clause-won
 unfolding dom_of gref_of mode_of
 returns-then-seen-old-clause-won g c =
     let m = c.args.self.now in
-    λ _. wins_as m.dom.0 m.gref.0 m.mode c.goes_on-then-seen-old.result.done None c.goes_on-then-seen-old.ensures.done tt
+    λ _. wins_as m.dom.0 m.gref.0 m.mode c.goes_on.result.done None c.goes_on.ensures.done tt
 
 pub returns-else-seen-old-clause-entry : goal.returns-else-seen-old-clause-entry
 unfolding gref_of mode_of
-returns-else-seen-old-clause-entry g c = (ap gref_of c.ends-else-seen-old.ensures.left, ap mode_of c.ends-else-seen-old.ensures.left)
+returns-else-seen-old-clause-entry g c = (ap gref_of c.ends.ensures.left, ap mode_of c.ends.ensures.left)
 
 pub returns-else-seen-old-clause-stays : goal.returns-else-seen-old-clause-stays
 unfolding dom_of gref_of
 returns-else-seen-old-clause-stays g c =
     let m = c.args.self.now in
-    at_entry m.dom.0 m.gref.0 c.ends-else-seen-old.result.access (Some (access.Cas (flags_place m.dom.0 m.gref.0) c.in-Begin.word (c.in-Begin.word + c.bits_of.result) c.swap_if-seen.result)) c.ends-else-seen-old.ensures.access (Flags, refl)
+    at_entry m.dom.0 m.gref.0 c.ends.result.access (Some (access.Cas (flags_place m.dom.0 m.gref.0) c.in-Begin.word (c.in-Begin.word + c.bits_of.result) c.swap_if-seen.result)) c.ends.ensures.access (Flags, refl)
 
 pub returns-else-seen-old-clause-won : goal.returns-else-seen-old-clause-won
 unfolding dom_of gref_of mode_of
 returns-else-seen-old-clause-won g c =
     let m = c.args.self.now in
-    λ _. wins_as m.dom.0 m.gref.0 m.mode c.ends-else-seen-old.result.done (Some (Err (Moved c.in-Begin.word c.swap_if-seen.result))) c.ends-else-seen-old.ensures.done tt
+    λ _. wins_as m.dom.0 m.gref.0 m.mode c.ends.result.done (Some (Err (Moved c.in-Begin.word c.swap_if-seen.result))) c.ends.ensures.done tt
 
 pub returns-then-frame-frames-clause-entry : goal.returns-then-frame-frames-clause-entry
 unfolding gref_of mode_of

@@ -2,7 +2,7 @@ use Rattle.std.proofs.Common.{◌≡◌, ◌+◌, ◌-◌, suc, Some, None, sym,
 use Rattle.display_backend.specs.Goes.{fault_in}
 use Rattle.display_backend.specs.Machine.{part_refs, all_refs}
 use Rattle.display_backend.proofs.Nodes.{fault_more, fault_here}
-use Rattle.display_backend.proofs.display.fault_among.Goals as goal
+use Rattle.display_backend.proofs.display.connecting.fault_among.Goals as goal
 
 pub loop-part-init : goal.loop-part-init
 loop-part-init c = let same : c.args.parts ≡ c.args.parts - 0 = omega arith in ap (λ n. fault_in (all_refs c.args.nodes.now 0 n)) same

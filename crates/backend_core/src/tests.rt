@@ -1,0 +1,172 @@
+ghost use Rattle.std.specs.Prelude.{◌≡◌, true, None};
+ghost use Rattle.std.proofs.Common.{refl};
+ghost use Rattle.std.proofs.lemmas.Bool.{true≢false};
+
+use super::*;
+use display_backend::{Display, Step};
+use pv_words::{DomId, Half, HostEvent, HostRefusal, NodeValue, Place, Reason, Said, State, Words};
+use std::test::Fail;
+use xenbus_states::Nodes;
+
+// Domain 1 with eight frames, each of which its grant entry of the same number permits. All words of frames are 0.
+#[derive(Drop)]
+struct Domain {
+    frames: u32,
+}
+
+impl Words for Domain {
+    ghost use Rattle.std.specs.Prelude.{◌≡◌, true, None};
+    ghost use Rattle.pv_words.specs.Port.{no_listing};
+    ghost use Rattle.pv_words.specs.declared.access.Access.TheVariants.{Load, Store, Cas, Clear};
+
+    ghost frames_of = { λ w d. w.frames };
+
+    ghost grants_of = { λ w d. w.frames };
+
+    ghost port = { λ w. record { device = None; serves = λ dom. true; everywhere = true; listed = λ d. no_listing; told = λ at. None } };
+
+    ghost may = { λ w want. Unit {0} };
+
+    ghost makes = { λ old a new. new.frames ≡ old.frames };
+
+    ghost keeps_frames = { λ old a new made d. made };
+
+    ghost keeps_grants = { λ old a new made d. made };
+
+    ghost allows = { λ w want h. tt };
+
+    ghost leaves = { λ old a new made. record { device = refl; serves = λ dom. refl; everywhere = refl; listed = λ e d. absurd (true≢false e) } };
+
+    ghost tells = { λ old. elim [ Load at v ↦ λ new made. tt | Store at v ↦ λ new made. tt | Cas at from to seen ↦ λ new made. tt | Clear at mask seen ↦ λ new made. tt ] };
+
+    fn load(&mut self, at: Place) -> u32 {
+        match at {
+            Place::Grant(_, _, Half::Flags) => 1,
+            Place::Grant(_, gref, Half::FrameNo) => gref.0,
+            Place::Cell(_, _, _) => 0,
+        }
+    }
+
+    fn store(&mut self, _at: Place, _v: u32) {}
+
+    fn swap_if(&mut self, _at: Place, old: u32, _new: u32) -> u32 {
+        old
+    }
+
+    fn clear(&mut self, _at: Place, mask: u32) -> u32 {
+        mask
+    }
+
+    fn frames(&self, _dom: DomId) -> u32 {
+        self.frames
+    }
+
+    fn grants(&self, _dom: DomId) -> u32 {
+        self.frames
+    }
+}
+
+#[tactic(auto, using(crate::proofs::Hears::may_step_any))]
+fn steps(device: &mut Device, words: &mut Domain) -> Step {
+    device.step(words)
+}
+
+// Steps a device until it says this.
+fn steps_to(device: &mut Device, words: &mut Domain, said: Said) -> bool {
+    for _ in 0..100 {
+        if steps(device, words).said == Some(said) {
+            return true;
+        }
+    }
+    false
+}
+
+// What the device answers to an event of its host; None where it doesn't fit.
+fn answer(device: &mut Device, e: HostEvent) -> Option<Result<(), HostRefusal>> {
+    if !device.fits(&e) {
+        return None;
+    }
+    Some(device.host(e))
+}
+
+fn says(said: Said) -> Step {
+    Step {
+        access: None,
+        said: Some(said),
+    }
+}
+
+#[test]
+fn a_display_does_the_events_of_its_host(rt: HostRuntime) -> Result<(), Fail> {
+    let mut words = Domain { frames: 8 };
+    let mut device = Device::Display(Display::new(rt.alloc(), DomId(1), 2)?);
+    let not_connected = Some(Err(HostRefusal::NotConnected));
+    assert_eq!(rt; answer(&mut device, HostEvent::Blank(2)), None);
+    assert_eq!(rt; answer(&mut device, HostEvent::Tick(0, 1)), None);
+    assert_eq!(rt; answer(&mut device, HostEvent::Blank(0)), not_connected);
+    let mut nodes = Nodes::new();
+    for part in 0..2 {
+        for key in 0..4 {
+            nodes.set(part, key, NodeValue::Number(4 * part as u32 + key as u32));
+        }
+    }
+    device.bus(State::Initialised, &nodes);
+    assert_eq!(rt; answer(&mut device, HostEvent::Show(1)), not_connected);
+    assert!(rt; device.due() && steps_to(&mut device, &mut words, Said::State(State::Connected)));
+    for _ in 0..32 {
+        assert_eq!(rt; answer(&mut device, HostEvent::Blank(1)), Some(Ok(())));
+        assert_eq!(rt; answer(&mut device, HostEvent::Show(1)), Some(Ok(())));
+    }
+    assert_eq!(rt;
+        answer(&mut device, HostEvent::Blank(0)),
+        Some(Err(HostRefusal::Full))
+    );
+    assert_eq!(rt; steps(&mut device, &mut words), says(Said::Blank(1)));
+    assert_eq!(rt; answer(&mut device, HostEvent::Show(0)), Some(Ok(())));
+    assert_eq!(rt;
+        answer(&mut device, HostEvent::Show(0)),
+        Some(Err(HostRefusal::Full))
+    );
+    for _ in 1..32 {
+        assert_eq!(rt; steps(&mut device, &mut words), says(Said::Shown(1, 0, 0)));
+        assert_eq!(rt; steps(&mut device, &mut words), says(Said::Blank(1)));
+    }
+    assert_eq!(rt; steps(&mut device, &mut words), says(Said::Shown(1, 0, 0)));
+    assert_eq!(rt; steps(&mut device, &mut words), says(Said::Shown(0, 0, 0)));
+    assert!(rt; device.due() && steps(&mut device, &mut words).access.is_some());
+    Ok(())
+}
+
+#[test]
+fn a_closed_connection_takes_its_events_away(rt: HostRuntime) -> Result<(), Fail> {
+    let mut words = Domain { frames: 8 };
+    let mut device = Device::Display(Display::new(rt.alloc(), DomId(1), 1)?);
+    let mut nodes = Nodes::new();
+    for key in 0..4 {
+        nodes.set(0, key, NodeValue::Number(key as u32));
+    }
+    device.bus(State::Connected, &nodes);
+    assert!(rt; steps_to(&mut device, &mut words, Said::State(State::Connected)));
+    assert_eq!(rt; answer(&mut device, HostEvent::Blank(0)), Some(Ok(())));
+    device.bus(State::Initialising, &nodes);
+    let closed = Said::Closed(Reason::Asked(State::Initialising));
+    assert!(rt; steps_to(&mut device, &mut words, closed));
+    // the backend is still Connected
+    assert_eq!(rt; answer(&mut device, HostEvent::Show(0)), Some(Ok(())));
+    assert_eq!(rt;
+        steps(&mut device, &mut words),
+        says(Said::State(State::Closed))
+    );
+    assert_eq!(rt;
+        answer(&mut device, HostEvent::Show(0)),
+        Some(Err(HostRefusal::NotConnected))
+    );
+    assert_eq!(rt;
+        steps(&mut device, &mut words),
+        says(Said::State(State::InitWait))
+    );
+    device.bus(State::Initialised, &nodes);
+    assert!(rt; steps_to(&mut device, &mut words, Said::State(State::Connected)));
+    assert!(rt; steps(&mut device, &mut words).access.is_some());
+    Ok(())
+}

@@ -3,7 +3,7 @@ use Rattle.std.proofs.Common.{◌≡◌, refl}
 use Rattle.pv_words.specs.declared.access.Access.{Access}
 use Rattle.pv_words.specs.declared.device.HostEvent.{HostEvent}
 use Rattle.pv_words.specs.Plan.{Plan, Finished, Make, MayGo}
-use Rattle.link_core.specs.Order.{Order, Act, Either, Rest, Stand, Between, During, Telling, News, MayHear, MayStep, MayChoose, work_at, Heard, Others, May, next}
+use Rattle.device_core.specs.Order.{Order, Act, Either, Rest, Stand, Between, During, Telling, News, MayHear, MayStep, MayChoose, work_at, Heard, Others, May, next}
 use Rattle.display_backend.specs.Machine.{Site}
 use Rattle.display_backend.specs.Waiting.{is_for}
 use Rattle.display_backend.specs.Work.{Work, End, choice, display}

@@ -2,7 +2,7 @@
 use Rattle.std.specs.Prelude.{ℕ, Bool, List}
 use Rattle.pv_words.specs.declared.device.HostEvent.{HostEvent}
 use Rattle.pv_words.specs.declared.grant.Hold.{Hold}
-use Rattle.link_core.specs.Order.{Stand}
+use Rattle.device_core.specs.Order.{Stand}
 use Rattle.display_backend.specs.Display as display
 use Rattle.display_backend.specs.Machine.{Site}
 use Rattle.display_backend.specs.Waiting.{is_for}

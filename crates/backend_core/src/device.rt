@@ -15,7 +15,7 @@ pub enum Device {
 
 impl Device {
     ghost use Rattle.pv_words.specs.Plan.{Makes};
-    ghost use Rattle.link_core.specs.Order.{Heard, Hosts, Sets, MayStep, Steps, at_rest, next};
+    ghost use Rattle.device_core.specs.Order.{Heard, Hosts, Sets, MayStep, Steps, at_rest, next};
     ghost use Rattle.link_core.specs.Stays.{AccessIn};
     ghost use Rattle.display_backend.specs.Machine.{Site};
     ghost use Rattle.host_events.specs.Queue.{refusal_in};

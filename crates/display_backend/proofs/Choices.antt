@@ -21,9 +21,9 @@ use Rattle.xenbus_states.specs.Nodes.{node_at, needed}
 use Rattle.link_core.specs.declared.link.Link.{Link}
 use Rattle.link_core.specs.Activities.{Page, look_plan, take_plan, answer_plan}
 use Rattle.link_core.specs.Link.{dom_of, held_of, joined_of, idle, page_of, rsp_of}
-use Rattle.link_core.specs.Order.{Order, Act, Either, Rest, Stand, Between, Steps, GoesOn, MayChoose, rests_next, at_rest}
+use Rattle.device_core.specs.Order.{Order, Act, Either, Rest, Stand, Between, Steps, GoesOn, MayChoose, rests_next, at_rest}
 use Rattle.link_core.proofs.Links.{whole_take, whole_answer, rsp_joined, idle_rings}
-use Rattle.link_core.proofs.Steps.{steps_between, steps_first, steps_second, steps_second_said, steps_said, steps_rest}
+use Rattle.device_core.proofs.Steps.{steps_between, steps_first, steps_second, steps_second_said, steps_said, steps_rest}
 use Rattle.display_backend.specs.declared.display.Activity.{Activity}
 use Rattle.display_backend.specs.declared.display.Activity.TheVariants as activity
 use Rattle.display_backend.specs.declared.display.Ending.{Ending}

@@ -19,9 +19,9 @@ use Rattle.page_directory.specs.Walking.{walk_plan, entry_plan, rest_plan, with_
 use Rattle.link_core.specs.declared.link.Link.{Link}
 use Rattle.link_core.specs.Activities.{Joined, Page, stores, answer_plan, publish_plan, slot_place}
 use Rattle.link_core.specs.Link.{held_of, idle, joined_of, page_of, rsp_of}
-use Rattle.link_core.specs.Order.{Order, Act, Either, Stand, GoesOn, MayChoose, is_in_page}
+use Rattle.device_core.specs.Order.{Order, Act, Either, Stand, GoesOn, MayChoose, is_in_page}
 use Rattle.link_core.proofs.Links.{whole_answer}
-use Rattle.link_core.proofs.Steps.{place_wanted}
+use Rattle.device_core.proofs.Steps.{place_wanted}
 use Rattle.display_backend.specs.declared.display.Activity.{Activity}
 use Rattle.display_backend.specs.declared.display.Activity.TheVariants as activity
 use Rattle.display_backend.specs.Display.{answer_from, freeing_plan, stock_in}

@@ -15,7 +15,7 @@ use Rattle.display_backend.proofs.Order.{first_of_one, others_stay}
 use Rattle.page_directory.specs.declared.walk.Walk.{Walk}
 use Rattle.link_core.specs.declared.link.Link.{Link}
 use Rattle.link_core.specs.Activities.{unmaps}
-use Rattle.link_core.specs.Order.{Stand, Between, During, Went, GoesOn}
+use Rattle.device_core.specs.Order.{Stand, Between, During, Went, GoesOn}
 use Rattle.link_core.specs.Stays.{AccessIn}
 use Rattle.display_backend.specs.declared.display.Activity.{Activity}
 use Rattle.display_backend.specs.declared.display.Activity.TheVariants as activity

@@ -7,7 +7,7 @@ use Rattle.display_backend.specs.Stock.{Stock, pages_of}
 use Rattle.display_backend.specs.Store.{stock_of}
 use Rattle.page_directory.specs.declared.walk.Walk.{Walk}
 use Rattle.link_core.specs.declared.link.Link.{Link}
-use Rattle.link_core.specs.Order.{News, MayHear, work_at, Stand, Between, During, Telling, Heard, Others, May, next}
+use Rattle.device_core.specs.Order.{News, MayHear, work_at, Stand, Between, During, Telling, Heard, Others, May, next}
 use Rattle.display_backend.specs.declared.display.Activity.{Activity}
 use Rattle.display_backend.specs.declared.display.Activity.TheVariants as activity
 use Rattle.display_backend.specs.declared.display.Display.{Display}

@@ -14,7 +14,7 @@ use Rattle.page_directory.specs.declared.walk.Walk.{Walk}
 use Rattle.link_core.specs.declared.link.Link.{Link}
 use Rattle.link_core.specs.Activities.{Joined, Connected, Joins, connect_plan, unmaps}
 use Rattle.link_core.specs.Link.{dom_of, held_of, joined_of, idle, rings, connect_left, drop_left, Leads}
-use Rattle.link_core.specs.Order.{Stand, Went}
+use Rattle.device_core.specs.Order.{Stand, Went}
 use Rattle.link_core.proofs.Links.{whole_connect}
 use Rattle.display_backend.specs.declared.display.Activity.{Activity}
 use Rattle.display_backend.specs.declared.display.Activity.TheVariants as activity

@@ -12,8 +12,8 @@ use Rattle.pv_words.specs.Plan.{Plan, Finished, Make, Want, Goes, MayGo, IsUnfin
 use Rattle.grant_table.specs.Mapping.{flags_plan}
 use Rattle.link_core.specs.Activities.{Joined, hold_list, connect_plan, with_ring, unmaps}
 use Rattle.display_backend.specs.Stock.{Stock, pages_of}
-use Rattle.link_core.specs.Order.{Act, Stand, Between, Steps, Went, MayStep}
-use Rattle.link_core.proofs.Steps.{steps_during, steps_said}
+use Rattle.device_core.specs.Order.{Act, Stand, Between, Steps, Went, MayStep}
+use Rattle.device_core.proofs.Steps.{steps_during, steps_said}
 use Rattle.display_backend.specs.declared.display.Ending.{Ending}
 use Rattle.display_backend.specs.declared.display.Ending.TheVariants as ending
 use Rattle.display_backend.specs.Machine.{Site}

@@ -17,9 +17,9 @@ use Rattle.pv_words.specs.declared.device.HostRefusal.TheVariants.{NotConnected}
 use Rattle.pv_words.specs.declared.device.State.TheVariants as state
 use Rattle.display_backend.specs.declared.waiting.Waiting.{Waiting}
 use Rattle.host_events.specs.Queue.{refusal_of}
-use Rattle.link_core.specs.Order.{News, Sets, Hosts, Stand, Between, During, Went, GoesOn, Heard, next}
+use Rattle.device_core.specs.Order.{News, Sets, Hosts, Stand, Between, During, Went, GoesOn, Heard, next}
 use Rattle.link_core.proofs.Links.{whole_sleep, rsp_joined}
-use Rattle.link_core.proofs.Steps.{turn_ends, turn_goes_on}
+use Rattle.device_core.proofs.Steps.{turn_ends, turn_goes_on}
 use Rattle.display_backend.specs.declared.display.Activity.{Activity}
 use Rattle.display_backend.specs.declared.display.Activity.TheVariants as activity
 use Rattle.display_backend.specs.Machine.{Site}

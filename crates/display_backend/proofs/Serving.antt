@@ -8,7 +8,7 @@ use Rattle.displ_wire.specs.declared.Asked.TheVariants as asked
 use Rattle.displ_wire.specs.declared.Create.{Create}
 use Rattle.displ_wire.specs.declared.Request.{Request}
 use Rattle.link_core.specs.Activities.{Joined}
-use Rattle.link_core.specs.Order.{Order, Act, Rest, Stand, Between, GoesOn, MayChoose, rests_next}
+use Rattle.device_core.specs.Order.{Order, Act, Rest, Stand, Between, GoesOn, MayChoose, rests_next}
 use Rattle.display_backend.specs.declared.display.Progress.{Progress}
 use Rattle.display_backend.specs.declared.display.Progress.TheVariants as progress
 use Rattle.display_backend.specs.declared.display.Round.{Round}

@@ -1,7 +1,7 @@
 -- The display's order of work is sound: its accesses lie on the pages that it holds, and its ends are moves of the machine.
 use Rattle.std.proofs.Common.{inl, ℕ, [], refl, arith}
 use Rattle.pv_words.specs.Held.{IsProper, holding, holds_of}
-use Rattle.link_core.specs.Machine.{Sound}
+use Rattle.device_core.specs.Machine.{Sound}
 use Rattle.display_backend.specs.Work.{display, reading, first_work, first_naming}
 use Rattle.display_backend.proofs.SoundBegins.{begins}
 use Rattle.display_backend.proofs.SoundSettles.{no_buffers, settles, rests}

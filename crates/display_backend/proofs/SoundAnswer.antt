@@ -10,7 +10,7 @@ use Rattle.display_buffers.proofs.Names.{sound_with, sound_without}
 use Rattle.display_backend.specs.Stock.{Stock, Held, pages_of, pages_under}
 use Rattle.display_backend.proofs.Order.{creating_keeps, destroying_keeps}
 use Rattle.page_directory.specs.Same.{AreSame}
-use Rattle.link_core.specs.Names.{Name, all_drawn, cells_of, drawn, with_name, words_at}
+use Rattle.device_core.specs.Names.{Name, all_drawn, cells_of, drawn, with_name, words_at}
 use Rattle.display_backend.specs.declared.display.Progress.{Progress}
 use Rattle.display_backend.specs.declared.display.Progress.TheVariants as progress
 use Rattle.display_backend.specs.Machine.{Hand, replied_to, verdict, is_accepted, is_creation}

@@ -14,7 +14,7 @@ use Rattle.xenbus_states.specs.declared.back.Action.{Action}
 use Rattle.xenbus_states.specs.declared.back.Action.TheVariants as action
 use Rattle.xenbus_states.specs.Connection.{action_of}
 use Rattle.link_core.specs.Activities.{Joined, look_plan, take_plan}
-use Rattle.link_core.specs.Order.{Offers}
+use Rattle.device_core.specs.Order.{Offers}
 use Rattle.link_core.proofs.PlanFits.{fits_mapped}
 use Rattle.display_backend.specs.declared.display.Round.{Round}
 use Rattle.display_backend.specs.declared.display.Round.TheVariants as round

@@ -13,8 +13,8 @@ use Rattle.xenbus_states.specs.declared.back.Action.TheVariants as action
 use Rattle.xenbus_states.specs.Connection.{action_of}
 use Rattle.link_core.specs.Activities.{unmaps}
 use Rattle.link_core.specs.Laws.{AreOf}
-use Rattle.link_core.specs.Names.{Name, all_drawn}
-use Rattle.link_core.specs.Order.{Offers}
+use Rattle.device_core.specs.Names.{Name, all_drawn}
+use Rattle.device_core.specs.Order.{Offers}
 use Rattle.display_backend.specs.Machine.{all_refs}
 use Rattle.display_backend.specs.Work.{Work, Naming, End, Shut, all_pages, beginning, leaving, close, connect_all, with_action, reading, settled, rows_of, live_names, names_of, begins_close, begins_by}
 use Rattle.display_backend.proofs.SoundActions.{connects_apart}

@@ -15,9 +15,9 @@ use Rattle.page_directory.proofs.Counts.{times_append}
 use Rattle.page_directory.specs.Walking.{walk_plan}
 use Rattle.page_directory.specs.Walking as walking
 use Rattle.link_core.specs.Activities.{Joined, unmaps}
-use Rattle.link_core.specs.Machine.{Snapshot}
-use Rattle.link_core.specs.Names.{all_drawn}
-use Rattle.link_core.specs.Order.{Offers}
+use Rattle.device_core.specs.Machine.{Snapshot}
+use Rattle.device_core.specs.Names.{all_drawn}
+use Rattle.device_core.specs.Order.{Offers}
 use Rattle.display_backend.specs.declared.display.Progress.{Progress}
 use Rattle.display_backend.specs.declared.display.Progress.TheVariants as progress
 use Rattle.display_backend.specs.Machine.{Hand, Rows, is_accepted, verdict}

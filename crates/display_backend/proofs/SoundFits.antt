@@ -8,8 +8,8 @@ use Rattle.display_buffers.specs.Buffers.{AreDistinct, cookies}
 use Rattle.display_backend.specs.Stock.{pages_of}
 use Rattle.page_directory.specs.Same.{AreSame, times}
 use Rattle.link_core.specs.Activities.{Joined, answer_plan}
-use Rattle.link_core.specs.Machine.{Happening, HappensTo, IsRun, Snapshot, shown}
-use Rattle.link_core.specs.Order.{Act, Offers}
+use Rattle.device_core.specs.Machine.{Happening, HappensTo, IsRun, Snapshot, shown}
+use Rattle.device_core.specs.Order.{Act, Offers}
 use Rattle.link_core.proofs.PlanFits.{fits_mapped}
 use Rattle.display_backend.specs.declared.display.Progress.{Progress}
 use Rattle.display_backend.specs.Machine.{Event, Hand, Rows, is_accepted}

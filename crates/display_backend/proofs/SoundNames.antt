@@ -7,8 +7,8 @@ use Rattle.pv_words.specs.Memory.{Memory}
 use Rattle.display_buffers.specs.Buffers.{AreDistinct, IsFresh, cookies, has_cookie, without_buffer}
 use Rattle.display_buffers.proofs.Rows.{without_fresh}
 use Rattle.display_backend.specs.Stock.{Held, buffer_pages, pages_under, with_pages, bared, all_bared}
-use Rattle.link_core.specs.Machine.{Table, Snapshot, HappensTo, IsRun}
-use Rattle.link_core.specs.Names.{Name, all_drawn, cells_of, drawn}
+use Rattle.device_core.specs.Machine.{Table, Snapshot, HappensTo, IsRun}
+use Rattle.device_core.specs.Names.{Name, all_drawn, cells_of, drawn}
 use Rattle.display_backend.specs.Machine.{Event}
 use Rattle.display_backend.specs.Work.{live_names, named_if, names_under, numbers, all_gone, ids_without}
 use Rattle.display_backend.proofs.SoundRows.{AreAll, ids_fresh}

@@ -23,8 +23,8 @@ use Rattle.xenbus_states.specs.declared.back.Action.TheVariants as action
 use Rattle.xenbus_states.specs.Connection.{action_of}
 use Rattle.link_core.specs.Activities.{Joined}
 use Rattle.link_core.specs.Laws.{AreOf}
-use Rattle.link_core.specs.Machine.{Stays}
-use Rattle.link_core.specs.Order.{Order, Rest}
+use Rattle.device_core.specs.Machine.{Stays}
+use Rattle.device_core.specs.Order.{Order, Rest}
 use Rattle.display_backend.specs.declared.waiting.Waiting.{Waiting}
 use Rattle.display_backend.specs.declared.display.Progress.{Progress}
 use Rattle.display_backend.specs.declared.display.Progress.TheVariants as progress

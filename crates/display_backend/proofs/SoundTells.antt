@@ -19,8 +19,8 @@ use Rattle.page_directory.specs.declared.walk.Walked.TheVariants as walked
 use Rattle.page_directory.specs.Laws as walk
 use Rattle.ring_words.specs.declared.Looked.{Looked}
 use Rattle.ring_words.specs.declared.Looked.TheVariants as looked
-use Rattle.link_core.specs.Machine.{Moves, Stays}
-use Rattle.link_core.specs.Names.{all_drawn, words_at, with_name}
+use Rattle.device_core.specs.Machine.{Moves, Stays}
+use Rattle.device_core.specs.Names.{all_drawn, words_at, with_name}
 use Rattle.display_backend.specs.declared.display.Progress.TheVariants as progress
 use Rattle.display_backend.specs.declared.waiting.Waiting.{Waiting}
 use Rattle.display_backend.specs.declared.waiting.Waiting.TheVariants as waiting

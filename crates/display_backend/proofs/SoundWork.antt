@@ -23,8 +23,8 @@ use Rattle.ring_words.specs.declared.Looked.TheVariants as looked
 use Rattle.ring_words.specs.Ring.{looked_of}
 use Rattle.xenbus_states.specs.Connection.{Connection, first_ending, heard, is_start}
 use Rattle.link_core.specs.Laws.{AreOf}
-use Rattle.link_core.specs.Machine.{Moves}
-use Rattle.link_core.specs.Order.{News, Sets, Hosts, MayHear}
+use Rattle.device_core.specs.Machine.{Moves}
+use Rattle.device_core.specs.Order.{News, Sets, Hosts, MayHear}
 use Rattle.display_backend.specs.declared.display.Progress.{Progress}
 use Rattle.display_backend.specs.declared.display.Progress.TheVariants as progress
 use Rattle.display_backend.specs.declared.waiting.Waiting.{Waiting}

@@ -18,8 +18,8 @@ use Rattle.page_directory.specs.declared.walk.Walked.TheVariants as walked
 use Rattle.page_directory.specs.Joins.{TurnsOrEnds}
 use Rattle.page_directory.specs.WalkLeft.{walk_left, count_of, PagesByAccess}
 use Rattle.link_core.specs.declared.link.Link.{Link}
-use Rattle.link_core.specs.Order.{Stand, Between, During, GoesOn}
-use Rattle.link_core.proofs.Steps.{turn_ends, turn_goes_on}
+use Rattle.device_core.specs.Order.{Stand, Between, During, GoesOn}
+use Rattle.device_core.proofs.Steps.{turn_ends, turn_goes_on}
 use Rattle.display_backend.specs.declared.display.Activity.{Activity}
 use Rattle.display_backend.specs.declared.display.Activity.TheVariants as activity
 use Rattle.display_backend.specs.declared.display.Progress.{Progress}

@@ -7,7 +7,7 @@ use Rattle.pv_words.specs.declared.device.State.{State}
 use Rattle.xenbus_states.specs.Connection.{Connection}
 use Rattle.link_core.specs.declared.link.Link.{Link}
 use Rattle.link_core.specs.Activities.{Joined}
-use Rattle.link_core.specs.Order.{Between}
+use Rattle.device_core.specs.Order.{Between}
 use Rattle.link_core.specs.Link.{joined_of, answered_of}
 use Rattle.displ_wire.specs.declared.Request.{Request}
 use Rattle.display_backend.specs.Stock.{Stock}

@@ -18,7 +18,7 @@ use Rattle.ring_words.specs.declared.Looked.TheVariants as looked
 use Rattle.xenbus_states.specs.Nodes.{node_at, needed}
 use Rattle.link_core.specs.declared.link.Link.{Link}
 use Rattle.link_core.specs.Activities.{Joined, look_plan, unmaps}
-use Rattle.link_core.specs.Order.{Stand, Between, During}
+use Rattle.device_core.specs.Order.{Stand, Between, During}
 use Rattle.link_core.specs.Link as link
 use Rattle.display_backend.specs.declared.display.Display.{Display}
 use Rattle.display_backend.specs.declared.display.Activity.{Activity}

@@ -7,7 +7,7 @@ use Rattle.pv_words.specs.declared.device.Reason.{Reason}
 use Rattle.pv_words.specs.declared.device.Reason.TheVariants as reason
 use Rattle.pv_words.specs.Memory.{place_of}
 use Rattle.pv_words.specs.Plan.{Plan, Finished}
-use Rattle.link_core.specs.Order.{Order, Act, Either, Rest, Stand, Between, GoesOn, is_in_page}
+use Rattle.device_core.specs.Order.{Order, Act, Either, Rest, Stand, Between, GoesOn, is_in_page}
 use Rattle.display_backend.specs.Machine.{Site, Problem}
 use Rattle.display_backend.specs.Work.{Work, End, Denied, Shut, display, shut, said_at, settled}
 

@@ -26,7 +26,7 @@ use Rattle.host_events.specs.Queue.{refusal_of, unless}
 use Rattle.display_buffers.specs.declared.live.Live.{Live}
 use Rattle.display_buffers.specs.Buffers.{buffer_of, check_of, with_buffer, without_buffer}
 use Rattle.grant_table.specs.Laws.{IsCause}
-use Rattle.link_core.specs.Order.{News, Sets, Hosts}
+use Rattle.device_core.specs.Order.{News, Sets, Hosts}
 use Rattle.page_directory.specs.Laws as walk
 use Rattle.ring_words.specs.Ring.{since}
 use Rattle.xenbus_states.specs.declared.back.Action.TheVariants as action

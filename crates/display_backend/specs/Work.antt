@@ -33,9 +33,9 @@ use Rattle.xenbus_states.specs.Connection.{Connection, first_connection, heard, 
 use Rattle.xenbus_states.specs.Nodes.{no_nodes}
 use Rattle.link_core.specs.Activities.{Page, Joined, Connected, Joins, Refuses, page_at, look_plan, take_plan, answer_plan, sleep_plan, connect_plan, unmaps}
 use Rattle.link_core.specs.Activities as link
-use Rattle.link_core.specs.Machine.{Reading, Happening, Row, Gone}
-use Rattle.link_core.specs.Names.{Name, cells_of}
-use Rattle.link_core.specs.Order.{News, Sets, Hosts, Order, Act, Either, Rest, Rules, Stand, work_at}
+use Rattle.device_core.specs.Machine.{Reading, Happening, Row, Gone}
+use Rattle.device_core.specs.Names.{Name, cells_of}
+use Rattle.device_core.specs.Order.{News, Sets, Hosts, Order, Act, Either, Rest, Rules, Stand, work_at}
 use Rattle.display_backend.specs.declared.display.Progress.{Progress}
 use Rattle.display_backend.specs.declared.display.Progress.TheVariants as progress
 use Rattle.display_backend.specs.declared.display.Round.{Round}

@@ -118,7 +118,7 @@ impl Display {
     ghost use Rattle.pv_words.specs.Plan.{Makes};
     ghost use Rattle.link_core.specs.Link.{held_of as held};
     ghost use Rattle.link_core.specs.Stays.{AccessIn};
-    ghost use Rattle.link_core.specs.Order.{Between, MayChoose, MayStep, Steps, Heard, Sets, Hosts, next, at_rest, rests_next};
+    ghost use Rattle.device_core.specs.Order.{Between, MayChoose, MayStep, Steps, Heard, Sets, Hosts, next, at_rest, rests_next};
     ghost use Rattle.display_backend.specs.declared.display.Activity.TheVariants as activity;
     ghost use Rattle.display_backend.specs.Display.{dom_of, parts_of, Same, held_of, all_held, walk_pages, site_of, work_of, stand_of};
     ghost use Rattle.display_backend.specs.Goes.{Begins};

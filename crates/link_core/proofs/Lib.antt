@@ -1,11 +1,7 @@
 pub mod Connects
-pub mod Drawing
 pub mod Holding
 pub mod Links
-pub mod MachineRun
 pub mod PlanFits
 pub mod Ports
-pub mod Runs
 pub mod Stays
-pub mod Steps
 pub mod Transitions

@@ -7,8 +7,8 @@ use Rattle.pv_words.specs.declared.device.State.TheVariants as state
 use Rattle.xenbus_states.specs.declared.back.Action.{Action}
 use Rattle.xenbus_states.specs.declared.back.Action.TheVariants as action
 use Rattle.xenbus_states.specs.Connection.{Connection, action_from, asked_of}
-use Rattle.link_core.specs.Machine.{Happening, Row, Gone, Draw, HappensTo, IsRun, Snapshot}
-use Rattle.link_core.specs.Order.{Sets, Hosts}
+use Rattle.device_core.specs.Machine.{Happening, Row, Gone, Draw, HappensTo, IsRun, Snapshot}
+use Rattle.device_core.specs.Order.{Sets, Hosts}
 use Rattle.display_backend.specs.declared.waiting.Waiting.{Waiting}
 use Rattle.display_backend.specs.declared.waiting.Waiting.TheVariants as waiting
 use Rattle.display_backend.specs.Machine.{Serves, Site, Rows, Hand, Event, Says, Hears, Begins, Moves, Tells, Enters, IsStatus, first_rows, is_accepted, is_creation, replied_to, verdict}

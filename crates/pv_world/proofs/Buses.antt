@@ -13,7 +13,7 @@ use Rattle.pv_words.specs.declared.setup.DeviceSetup.{DeviceSetup}
 use Rattle.pv_words.specs.Held.{Holds}
 use Rattle.pv_words.specs.Port.{IsListed}
 use Rattle.xenbus_states.specs.Nodes.{with_node}
-use Rattle.link_core.specs.Order.{Sets, Hosts, Own, Heard, May}
+use Rattle.device_core.specs.Order.{Sets, Hosts, Own, Heard, May}
 use Rattle.backend_core.specs.declared.device.Device.{Device}
 use Rattle.backend_core.specs.Device as backend
 use Rattle.pv_world.specs.declared.world.Placed.{Placed}

@@ -3,9 +3,9 @@ use Rattle.std.proofs.Common.{ℕ, List, [], subst}
 use Rattle.pv_words.specs.declared.setup.DeviceSetup.{DeviceSetup}
 use Rattle.pv_words.specs.Held.{IsProper, holding, holds_of}
 use Rattle.pv_words.specs.Memory.{zeros}
-use Rattle.link_core.specs.Order.{Rules}
-use Rattle.link_core.specs.Machine.{Happening, HappensTo, IsRun, Reading}
-use Rattle.link_core.proofs.MachineRun.{memory_left, named_after, proper_after, run_after, snapshot_at}
+use Rattle.device_core.specs.Order.{Rules}
+use Rattle.device_core.specs.Machine.{Happening, HappensTo, IsRun, Reading}
+use Rattle.device_core.proofs.MachineRun.{memory_left, named_after, proper_after, run_after, snapshot_at}
 use Rattle.display_backend.specs.Machine.{Rows, Event}
 use Rattle.display_backend.specs.Work.{Work, End, Naming, display, first_naming, reading}
 use Rattle.display_backend.proofs.Sound.{sound, first_good, first_named}

@@ -7,7 +7,7 @@ use Rattle.pv_words.specs.Along.{after, Along}
 use Rattle.pv_words.specs.Held.{Holds, Made, holding}
 use Rattle.pv_words.specs.Memory.{memory_after, remembered}
 use Rattle.pv_words.specs.Port.{IsListed}
-use Rattle.link_core.specs.Order.{News, Own, Heard, Stand, May, IsExplained, next, made_by}
+use Rattle.device_core.specs.Order.{News, Own, Heard, Stand, May, IsExplained, next, made_by}
 use Rattle.backend_core.specs.Device as backend
 use Rattle.display_backend.specs.Machine.{Site}
 use Rattle.display_backend.specs.Work.{Work, End, display}

@@ -12,7 +12,7 @@ use Rattle.pv_words.specs.Held.{Made, holding, holds_of}
 use Rattle.pv_words.specs.Memory.{Memory, Finds, IsLawful, IsTrueOf, access_of, memory_after, place_of, remembered, without, written, zeros}
 use Rattle.pv_words.specs.Place.{InRange, same_place}
 use Rattle.pv_words.specs.Plan.{aim_of, wanted}
-use Rattle.link_core.specs.Order.{Own, Did, Spoke, Rested, Heard, Others, Rules, Stand, next, May, IsExplained, made_by, note_at}
+use Rattle.device_core.specs.Order.{Own, Did, Spoke, Rested, Heard, Others, Rules, Stand, next, May, IsExplained, made_by, note_at}
 use Rattle.display_backend.specs.Work.{Work, End, display}
 use Rattle.pv_world.specs.Marked.{Item, entries, own, own_from, nodes_in, nodes_next}
 use Rattle.pv_world.specs.History.{IsHistory, BelongsIn, IsExplainedIn, first_stand, held_in, made_in, site_of, stand_after}

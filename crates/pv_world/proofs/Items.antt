@@ -8,7 +8,7 @@ use Rattle.pv_words.specs.declared.device.Said.{Said}
 use Rattle.pv_words.specs.declared.device.Said.TheVariants as said
 use Rattle.pv_words.specs.declared.device.NodeValue.{NodeValue}
 use Rattle.pv_words.specs.Along.{after}
-use Rattle.link_core.specs.Order.{Own, Did, Spoke, Rested, Others, steps_of}
+use Rattle.device_core.specs.Order.{Own, Did, Spoke, Rested, Others, steps_of}
 use Rattle.pv_world.specs.Marked.{Item, Entered, Idle, Refuses, entries, told_by, told_in, own_from, node_set, nodes_next, entry_of, items_of, is_access, accesses_in, IsStepOf, AreSteps}
 use Rattle.pv_world.specs.Record.{progress}
 use Rattle.pv_world.proofs.Others.{AreOthers}

@@ -1,7 +1,7 @@
 -- The accesses of others leave a device where it stands, with what it holds.
 use Rattle.std.proofs.Common.{◌≡◌, List, [], ◌∷◌, refl, sym, subst, ◌∙◌, ap}
 use Rattle.pv_words.specs.Along.{after}
-use Rattle.link_core.specs.Order.{Own, Did, Spoke, Rested, Heard, Others, Rules, Stand, next, IsExplained, made_by}
+use Rattle.device_core.specs.Order.{Own, Did, Spoke, Rested, Heard, Others, Rules, Stand, next, IsExplained, made_by}
 use Rattle.display_backend.specs.Machine.{Site}
 use Rattle.display_backend.specs.Work.{Work, End, display}
 use Rattle.backend_core.specs.declared.device.Device.{Device}

@@ -11,7 +11,7 @@ use Rattle.pv_words.specs.Memory.{Memory, Answers, IsTrueOf, memory_after, place
 use Rattle.pv_words.specs.Place.{InRange}
 use Rattle.pv_words.specs.Port.{IsListed, Leaves, Turned}
 use Rattle.pv_words.proofs.Listing.{listed_domain, listed_turned}
-use Rattle.link_core.specs.Order.{Stand, next, IsExplained}
+use Rattle.device_core.specs.Order.{Stand, next, IsExplained}
 use Rattle.display_backend.specs.Work.{Work, End}
 use Rattle.backend_core.specs.Device as backend
 use Rattle.pv_world.specs.declared.world.Placed.{Placed}

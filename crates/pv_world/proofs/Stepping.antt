@@ -18,8 +18,8 @@ use Rattle.pv_words.specs.Place.{InRange}
 use Rattle.pv_words.specs.Plan.{Makes, Note, Want, aim_of, wanted}
 use Rattle.pv_words.specs.Port.{PortMay, IsListed}
 use Rattle.pv_words.proofs.Listing.{listed_other, listed_own, port_may}
-use Rattle.link_core.specs.Order.{Own, Did, Stand, Steps, MayStep, steps_of, next, May, IsExplained, made_by, note_at}
-use Rattle.link_core.proofs.MachineRun.{IsGood, good_after, proper_next, may_step}
+use Rattle.device_core.specs.Order.{Own, Did, Stand, Steps, MayStep, steps_of, next, May, IsExplained, made_by, note_at}
+use Rattle.device_core.proofs.MachineRun.{IsGood, good_after, proper_next, may_step}
 use Rattle.display_backend.specs.Machine.{Site}
 use Rattle.backend_core.specs.Device as backend
 use Rattle.display_backend.specs.Work.{Work, End, display, reading}

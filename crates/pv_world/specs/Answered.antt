@@ -1,7 +1,7 @@
 -- What becomes of an accepted request.
 use Rattle.std.specs.Prelude.{◌≡◌, ◌⊎◌, ℕ, ℤ, pos, Bool, true, false, List, [], ◌∷◌}
 use Rattle.pv_words.specs.declared.device.Said.TheVariants as said
-use Rattle.link_core.specs.Machine.{Happening, Row}
+use Rattle.device_core.specs.Machine.{Happening, Row}
 use Rattle.display_backend.specs.Machine.{Event, Says, Hand, is_creation, no_memory, no_access}
 
 -- an accepted request is answered by 0; or a CREATE by want of memory (ENOMEM), or, once a page was denied to it, by EACCES

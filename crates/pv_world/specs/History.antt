@@ -11,8 +11,8 @@ use Rattle.pv_words.specs.declared.setup.DeviceSetup.{DeviceSetup}
 use Rattle.pv_words.specs.Along.{after}
 use Rattle.pv_words.specs.Memory.{IsLawful, zeros}
 use Rattle.pv_words.specs.Held.{Holds, Made, KeepsToGrants, holding, holds_of}
-use Rattle.link_core.specs.Order.{Stand, Between, IsExplained, next, made_by}
-use Rattle.link_core.specs.Machine.{Happening, HappensTo, IsRun, Snapshot, Table, history}
+use Rattle.device_core.specs.Order.{Stand, Between, IsExplained, next, made_by}
+use Rattle.device_core.specs.Machine.{Happening, HappensTo, IsRun, Snapshot, Table, history}
 use Rattle.display_backend.specs.Work.{Work, End, display, reading, first_naming, first_work}
 use Rattle.display_backend.specs.Machine.{Event, Hand, Site, Rows, Moves, first_rows, makes, verdict}
 use Rattle.display_backend.specs.Waiting.{is_for}

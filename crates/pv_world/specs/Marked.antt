@@ -11,7 +11,7 @@ use Rattle.pv_words.specs.declared.device.HostEvent.{HostEvent}
 use Rattle.pv_words.specs.declared.device.HostRefusal.{HostRefusal}
 use Rattle.pv_words.specs.declared.device.NodeValue.{NodeValue}
 use Rattle.pv_words.specs.Along.{after}
-use Rattle.link_core.specs.Order.{Sets, Hosts, Own, Did, Spoke, Rested, Heard, Others}
+use Rattle.device_core.specs.Order.{Sets, Hosts, Own, Did, Spoke, Rested, Heard, Others}
 use Rattle.xenbus_states.specs.Nodes.{no_nodes, with_node}
 
 -- An entry; or a mark: the device of this number was stepped and was idle; or the two entries of an event that a host told a

@@ -51,7 +51,7 @@ impl Display {
     ghost use Rattle.link_core.specs.Link.{idle};
     ghost use Rattle.link_core.specs.Link.{held_of as held};
     ghost use Rattle.link_core.specs.Stays.{AccessIn};
-    ghost use Rattle.link_core.specs.Order.{Between, MayChoose, Went};
+    ghost use Rattle.device_core.specs.Order.{Between, MayChoose, Went};
     ghost use Rattle.display_backend.specs.declared.display.Activity.TheVariants as activity;
     ghost use Rattle.display_backend.specs.Display.{dom_of, parts_of, Same, held_of, given_up, site_of, work_of, stand_of, number_at, connecting, leaving_plan, reason_of, later, met_links};
     ghost use Rattle.display_backend.specs.Goes.{GoesOut, Begins};

@@ -72,7 +72,7 @@ impl Display {
     ghost use Rattle.link_core.specs.Stays.{AccessIn};
     ghost use Rattle.display_backend.specs.declared.display.Progress.TheVariants as progress;
     ghost use Rattle.display_backend.specs.declared.display.Round.TheVariants as round;
-    ghost use Rattle.link_core.specs.Order.{Between, GoesOn, MayChoose, rests_next};
+    ghost use Rattle.device_core.specs.Order.{Between, GoesOn, MayChoose, rests_next};
     ghost use Rattle.display_backend.specs.declared.display.Activity.TheVariants as activity;
     ghost use Rattle.display_backend.specs.Display.{dom_of, parts_of, Same, held_of, site_of, work_of, stand_of, hand_of, look_from, take_from, walk_from, freeing_plan, answer_from, sleeping};
     ghost use Rattle.display_backend.specs.Goes.{Comes, Begins};

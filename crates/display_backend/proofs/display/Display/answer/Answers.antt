@@ -8,7 +8,7 @@ use Rattle.displ_wire.specs.declared.Request.{Request}
 use Rattle.link_core.specs.Link.{answer_left, idle, joined_of, answered_of}
 use Rattle.display_backend.specs.Stock.{Stock}
 use Rattle.display_backend.specs.Store.{stock_of, is_whole}
-use Rattle.link_core.specs.Order.{Between}
+use Rattle.device_core.specs.Order.{Between}
 use Rattle.display_backend.specs.declared.display.Activity.TheVariants as activity
 use Rattle.display_backend.specs.Activity.{is_open}
 use Rattle.display_backend.specs.Display.{dom_of, parts_of, stand_of, work_of, answer_from, held_of}

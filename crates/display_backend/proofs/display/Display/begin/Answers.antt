@@ -2,7 +2,7 @@ use Rattle.std.proofs.Common.{◌≡◌, None, sym, ap, ◌∙◌}
 use Rattle.pv_words.specs.declared.device.State.TheVariants as state
 use Rattle.pv_words.specs.declared.device.Reason.TheVariants as reason
 use Rattle.xenbus_states.specs.declared.back.Action.TheVariants as action
-use Rattle.link_core.specs.Order.{Between}
+use Rattle.device_core.specs.Order.{Between}
 use Rattle.display_backend.specs.Display.{site_of, stand_of, work_of, hand_of}
 use Rattle.display_backend.specs.Work.{choice, Left, Renewed, close, with_action, with_hand}
 use Rattle.display_backend.proofs.Choices.{closing_is, kept_is, action_is, connected_is, apart_is, begins_entering, left_entering, renew_entering, begins_as, may_choose_as}

@@ -3,7 +3,7 @@ use Rattle.pv_words.specs.declared.device.Said.TheVariants as said
 use Rattle.pv_words.specs.Plan.{Plan, MayGo}
 use Rattle.xenbus_states.specs.Connection.{Connection, begun}
 use Rattle.link_core.specs.Link.{idle}
-use Rattle.link_core.specs.Order.{Between}
+use Rattle.device_core.specs.Order.{Between}
 use Rattle.display_backend.specs.Stock.{Stock, stripped}
 use Rattle.display_backend.specs.Store.{stock_of}
 use Rattle.display_backend.specs.declared.display.Activity.{Activity}

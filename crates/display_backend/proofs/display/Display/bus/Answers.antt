@@ -1,6 +1,6 @@
 use Rattle.std.proofs.Common.{◌≡◌, refl, sym, subst}
 use Rattle.xenbus_states.specs.Connection.{Connection}
-use Rattle.link_core.specs.Order.{Heard, Sets, next}
+use Rattle.device_core.specs.Order.{Heard, Sets, next}
 use Rattle.display_backend.specs.Activity.{is_open, is_connecting}
 use Rattle.display_backend.specs.Display.{dom_of, parts_of, held_of, stand_of, stand_in, work_of, parts_in, hand_of, stock_in}
 use Rattle.display_backend.specs.Work.{display}

@@ -1,5 +1,5 @@
 use Rattle.std.proofs.Common.{not, ap, sym, ◌∙◌, ◌&&◌}
-use Rattle.link_core.specs.Order.{Rest}
+use Rattle.device_core.specs.Order.{Rest}
 use Rattle.display_backend.specs.declared.display.Activity.{Activity}
 use Rattle.display_backend.specs.Activity.{is_open, is_connected}
 use Rattle.display_backend.specs.Display.{work_of}

@@ -4,7 +4,7 @@ use Rattle.pv_words.specs.Plan.{MayGo, joined}
 use Rattle.link_core.specs.declared.link.Link.{Link}
 use Rattle.link_core.specs.Activities.{Joins, Refuses}
 use Rattle.link_core.specs.Link.{dom_of as link_dom, held_of as link_held, joined_of, idle, connect_left, ending_of, Leads, Came}
-use Rattle.link_core.specs.Order.{Stand, Went}
+use Rattle.device_core.specs.Order.{Stand, Went}
 use Rattle.link_core.proofs.Links.{idle_rings, joins_by_access}
 use Rattle.display_backend.specs.Stock.{pages_of}
 use Rattle.display_backend.specs.Store.{stock_of}

@@ -6,7 +6,7 @@ use Rattle.displ_wire.specs.declared.Request.{Request}
 use Rattle.display_backend.specs.Stock.{Stock}
 use Rattle.display_backend.specs.Store.{stock_of, is_whole}
 use Rattle.link_core.specs.Link.{joined_of}
-use Rattle.link_core.specs.Order.{Act, GoesOn}
+use Rattle.device_core.specs.Order.{Act, GoesOn}
 use Rattle.display_backend.specs.declared.display.Activity.TheVariants as activity
 use Rattle.display_backend.specs.Activity.{is_open}
 use Rattle.display_backend.specs.Display.{dom_of, parts_of, held_of, parts_in, site_of, stand_of, work_of, answer_from, freeing_plan}

@@ -1,5 +1,5 @@
 use Rattle.std.proofs.Common.{not, ap, sym, ◌∙◌}
-use Rattle.link_core.specs.Order.{at_rest, Stand}
+use Rattle.device_core.specs.Order.{at_rest, Stand}
 use Rattle.display_backend.specs.Display.{stand_of, work_of}
 use Rattle.display_backend.specs.Work.{Work, End, display}
 use Rattle.display_backend.proofs.Choices.{stand_busy}

@@ -1,6 +1,6 @@
 use Rattle.std.proofs.Common.{◌≡◌, Bool, false, List, [], None, refl, sym, ap, ◌∙◌}
 use Rattle.xenbus_states.specs.Connection.{Connection, moved_to}
-use Rattle.link_core.specs.Order.{Between}
+use Rattle.device_core.specs.Order.{Between}
 use Rattle.display_backend.specs.Stock.{pages_of}
 use Rattle.display_backend.specs.Store.{stock_of}
 use Rattle.display_backend.specs.declared.display.Progress.TheVariants as progress

@@ -2,7 +2,7 @@ use Rattle.std.proofs.Common.{◌≡◌, ◌<◌, inr, true, [], length, refl, a
 use Rattle.pv_words.specs.Plan.{Finished}
 use Rattle.display_backend.specs.Stock.{Stock, pages_under}
 use Rattle.display_backend.specs.Store.{stock_of, is_whole}
-use Rattle.link_core.specs.Order.{Between}
+use Rattle.device_core.specs.Order.{Between}
 use Rattle.display_backend.specs.declared.display.Activity.{Activity}
 use Rattle.display_backend.specs.declared.display.Activity.TheVariants as activity
 use Rattle.display_backend.specs.declared.display.Progress.TheVariants as progress

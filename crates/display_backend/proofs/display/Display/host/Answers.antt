@@ -1,7 +1,7 @@
 use Rattle.std.proofs.Common.{◌≡◌, List, Some, refl, sym, ap, ◌∙◌}
 use Rattle.pv_words.specs.declared.device.HostRefusal.TheVariants.{NotConnected}
 use Rattle.pv_words.specs.declared.device.State.TheVariants as state
-use Rattle.link_core.specs.Order.{Hosts}
+use Rattle.device_core.specs.Order.{Hosts}
 use Rattle.display_backend.specs.declared.waiting.Waiting.{Waiting}
 use Rattle.display_backend.specs.Display.{dom_of, parts_of, held_of, stand_of, stand_in, work_of}
 use Rattle.display_backend.specs.Store.{stock_of}

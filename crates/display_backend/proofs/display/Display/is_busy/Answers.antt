@@ -1,6 +1,6 @@
 use Rattle.std.proofs.Common.{◌≡◌, ◌<◌, not, length, slice_get, map, sym, ap, subst, ◌∙◌, arith}
 use Rattle.link_core.specs.Link.{joined_of}
-use Rattle.link_core.specs.Order.{Order, rests_next}
+use Rattle.device_core.specs.Order.{Order, rests_next}
 use Rattle.display_backend.specs.declared.display.Round.{Round}
 use Rattle.display_backend.specs.declared.display.Round.TheVariants as round
 use Rattle.display_backend.specs.Activity.{is_open}

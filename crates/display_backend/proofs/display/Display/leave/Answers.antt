@@ -7,7 +7,7 @@ use Rattle.display_backend.specs.Stock.{pages_of, stripped}
 use Rattle.display_backend.specs.Store.{stock_of}
 use Rattle.display_backend.proofs.Order.{buffers_stay, first_goes}
 use Rattle.link_core.specs.Link.{held_of as link_held, rest_of, drop_left}
-use Rattle.link_core.specs.Order.{Went}
+use Rattle.device_core.specs.Order.{Went}
 use Rattle.display_backend.specs.declared.display.Activity.{Activity}
 use Rattle.display_backend.specs.Activity.{is_open}
 use Rattle.display_backend.specs.Display.{dom_of, parts_of, given_up, stand_of, work_of, stock_in, all_held, leaving_plan, end_of, reason_of}

@@ -6,7 +6,7 @@ use Rattle.pv_words.specs.declared.grant.Hold.{Hold}
 use Rattle.pv_words.specs.Plan.{Finished}
 use Rattle.display_backend.specs.Stock.{pages_of}
 use Rattle.display_backend.specs.Store.{stock_of}
-use Rattle.link_core.specs.Order.{Stand, Went}
+use Rattle.device_core.specs.Order.{Stand, Went}
 use Rattle.display_backend.specs.declared.display.Activity.{Activity}
 use Rattle.display_backend.specs.Display.{given_up, stand_of, stand_in, work_of, all_held, leaving_plan, end_of, reason_of}
 use Rattle.display_backend.specs.Work.{Work, End, display}

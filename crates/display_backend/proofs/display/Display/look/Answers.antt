@@ -4,7 +4,7 @@ use Rattle.std.proofs.lemmas.List.{length-set}
 use Rattle.pv_words.specs.Plan.{Finished}
 use Rattle.ring_words.specs.declared.Looked.TheVariants as looked
 use Rattle.link_core.specs.Link.{dom_of as link_dom, held_of as link_held, idle, joined_of}
-use Rattle.link_core.specs.Order.{Between}
+use Rattle.device_core.specs.Order.{Between}
 use Rattle.display_backend.specs.declared.display.Round.{Round}
 use Rattle.display_backend.specs.Activity.{is_open, is_serving}
 use Rattle.display_backend.specs.Display.{dom_of, parts_of, stand_of, work_of, look_from, held_of}

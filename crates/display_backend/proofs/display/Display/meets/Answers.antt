@@ -6,7 +6,7 @@ use Rattle.pv_words.specs.Plan.{Plan}
 use Rattle.xenbus_states.specs.Connection.{Connection, moved_to}
 use Rattle.link_core.specs.declared.link.Link.{Link}
 use Rattle.link_core.specs.Link.{joined_of}
-use Rattle.link_core.specs.Order.{Between, Went}
+use Rattle.device_core.specs.Order.{Between, Went}
 use Rattle.display_backend.specs.declared.display.Activity.{Activity}
 use Rattle.display_backend.specs.declared.display.Activity.TheVariants as activity
 use Rattle.display_backend.specs.Stock.{Stock, no_stock}

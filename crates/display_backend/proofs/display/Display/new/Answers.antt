@@ -1,7 +1,7 @@
 use Rattle.std.proofs.Common.{◌≡◌, inl, inr, length-append, ◌+◌, true, false, List, ◌∷◌, [], ◌++◌, length, slice_get, None, refl, sym, ap, subst, ◌∙◌, arith}
 use Rattle.xenbus_states.specs.Connection.{Connection, first_connection}
 use Rattle.xenbus_states.specs.Nodes.{no_nodes}
-use Rattle.link_core.specs.Order.{Between}
+use Rattle.device_core.specs.Order.{Between}
 use Rattle.display_backend.specs.declared.display.Round.TheVariants as round
 use Rattle.display_backend.proofs.Works.{work}
 use Rattle.link_core.specs.declared.link.Link.{Link}

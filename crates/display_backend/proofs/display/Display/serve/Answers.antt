@@ -1,6 +1,6 @@
 use Rattle.std.proofs.Common.{◌≡◌, ◌<◌, inl, List, Option, false, length, map, slice_get, refl, sym, ap, subst, ◌∙◌, arith}
 use Rattle.link_core.specs.Link.{joined_of}
-use Rattle.link_core.specs.Order.{Between}
+use Rattle.device_core.specs.Order.{Between}
 use Rattle.displ_wire.specs.declared.Request.{Request}
 use Rattle.display_backend.specs.Stock.{Stock}
 use Rattle.display_backend.specs.declared.display.Activity.{Activity}

@@ -4,7 +4,7 @@ use Rattle.std.proofs.lemmas.Bool.{false≢true}
 use Rattle.std.proofs.lemmas.List.{length-set}
 use Rattle.pv_words.specs.Plan.{Turns}
 use Rattle.link_core.specs.Link.{sleep_left, idle}
-use Rattle.link_core.specs.Order.{Between}
+use Rattle.device_core.specs.Order.{Between}
 use Rattle.display_backend.specs.declared.display.Activity.TheVariants as activity
 use Rattle.display_backend.specs.declared.display.Round.TheVariants as round
 use Rattle.display_backend.specs.Activity.{is_open}

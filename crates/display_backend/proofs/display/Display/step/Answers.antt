@@ -1,7 +1,7 @@
 use Rattle.std.proofs.Common.{inr, ◌<◌, ◌++◌, length, slice_get, refl, sym, ap, subst, ◌∙◌}
 use Rattle.pv_words.specs.Plan.{mapped}
-use Rattle.link_core.specs.Order.{MayStep, Steps}
-use Rattle.link_core.proofs.Steps.{steps_during}
+use Rattle.device_core.specs.Order.{MayStep, Steps}
+use Rattle.device_core.proofs.Steps.{steps_during}
 use Rattle.display_backend.specs.Stock.{pages_of}
 use Rattle.display_backend.proofs.Order.{none_left}
 use Rattle.display_backend.specs.declared.display.Activity.{Activity}

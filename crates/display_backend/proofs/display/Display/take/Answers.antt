@@ -8,7 +8,7 @@ use Rattle.std.proofs.lemmas.List.{length-set}
 use Rattle.pv_words.specs.declared.device.Said.TheVariants as said
 use Rattle.displ_wire.specs.declared.Request.{Request}
 use Rattle.link_core.specs.Link.{take_left}
-use Rattle.link_core.specs.Order.{Between}
+use Rattle.device_core.specs.Order.{Between}
 use Rattle.display_backend.specs.declared.display.Activity.TheVariants as activity
 use Rattle.display_backend.specs.declared.display.Progress.TheVariants as progress
 use Rattle.display_backend.specs.Display.{dom_of, parts_of, stand_of, work_of, take_from, held_of}

@@ -3,7 +3,7 @@ use Rattle.display_backend.specs.Stock.{Stock}
 use Rattle.display_backend.specs.Store.{stock_of, is_whole}
 use Rattle.page_directory.specs.WalkLeft.{walk_left}
 use Rattle.page_directory.specs.WalkLeft.{dom_of as walked_dom}
-use Rattle.link_core.specs.Order.{Between}
+use Rattle.device_core.specs.Order.{Between}
 use Rattle.display_backend.specs.declared.display.Activity.TheVariants as activity
 use Rattle.display_backend.specs.declared.display.Progress.TheVariants as progress
 use Rattle.display_backend.specs.Activity.{is_open}

@@ -3,7 +3,7 @@ use Rattle.pv_words.specs.Plan.{MayGo, mapped}
 use Rattle.display_backend.specs.Store.{stock_of, is_whole}
 use Rattle.page_directory.specs.declared.walk.Walk.{Walk}
 use Rattle.page_directory.specs.WalkLeft.{walk_left, count_of}
-use Rattle.link_core.specs.Order.{GoesOn}
+use Rattle.device_core.specs.Order.{GoesOn}
 use Rattle.display_backend.specs.declared.display.Activity.{Activity}
 use Rattle.display_backend.specs.declared.display.Activity.TheVariants as activity
 use Rattle.display_backend.specs.Activity.{is_open}

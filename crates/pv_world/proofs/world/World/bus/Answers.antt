@@ -7,7 +7,7 @@ use Rattle.pv_words.specs.declared.place.DevId.{DevId}
 use Rattle.pv_world.specs.declared.world.Placed.{Placed}
 use Rattle.pv_world.specs.Marked.{Entered}
 use Rattle.pv_words.specs.declared.entry.End.TheVariants as end
-use Rattle.link_core.specs.Order.{Sets}
+use Rattle.device_core.specs.Order.{Sets}
 use Rattle.backend_core.proofs.Hears.{hears_always}
 use Rattle.pv_world.specs.History.{IsHistory, site_of}
 use Rattle.pv_world.specs.World.{Stands, setups, sight}

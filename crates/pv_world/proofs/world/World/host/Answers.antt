@@ -6,7 +6,7 @@ use Rattle.pv_words.specs.declared.entry.Entry.{Entry}
 use Rattle.pv_words.specs.declared.entry.Entry.TheVariants as entry
 use Rattle.pv_words.specs.declared.place.DevId.{DevId}
 use Rattle.pv_words.specs.declared.setup.DeviceSetup.{DeviceSetup}
-use Rattle.link_core.specs.Order.{Hosts}
+use Rattle.device_core.specs.Order.{Hosts}
 use Rattle.display_backend.specs.Waiting.{is_for}
 use Rattle.display_backend.specs.Work.{refusal_at}
 use Rattle.backend_core.specs.Device as backend

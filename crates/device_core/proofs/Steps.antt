@@ -6,7 +6,7 @@ use Rattle.pv_words.specs.declared.device.Said.{Said}
 use Rattle.pv_words.specs.Along.{after, Along}
 use Rattle.pv_words.specs.Memory.{place_of}
 use Rattle.pv_words.specs.Plan.{Plan, Finished, Make, Want, aim_of, wanted, Goes, Turns, IsUnfinished, mapped}
-use Rattle.link_core.specs.Order.{Own, Did, Spoke, Rested, Order, Act, Either, Rest, Rules, Stand, Between, During, is_in_page, picked, ended, going, begun, next, May, MayBegin, Steps, Went, GoesOn}
+use Rattle.device_core.specs.Order.{Own, Did, Spoke, Rested, Order, Act, Either, Rest, Rules, Stand, Between, During, is_in_page, picked, ended, going, begun, next, due_at, May, MayBegin, Steps, Went, GoesOn}
 
 goes_mapped : {A B : Type 0} (f : A → B) (p : Plan A) (a : Access) (q : Plan A) → Goes p a q → Goes (mapped f p) a (mapped f q)
 goes_mapped f (Finished x) a q g = absurd g
@@ -38,19 +38,24 @@ module _ {W O : Type 0} (r : Rules W O) where
   went_leads w (Make want note more) None new h = (tt, h.1)
   went_leads w (Make want note more) (Some s) new h = let wrong : ⊥ = cc in absurd wrong
 
-  steps_from : (old : Stand W O) (a : Access) (said : Option Said) (new mid : Stand W O) → May r old (Did a) → next r old (Did a) ≡ mid → Along (next r) (May r) mid (rest_of said) × (new ≡ after (next r) mid (rest_of said)) → Steps r old (Some a) said new
+  -- no event is due where an activity goes on, or its event was said
+  went_whole : (w : W) (q : Plan O) (said : Option Said) (new : Stand W O) → Went r w q said new → due_at new ≡ None
+  went_whole w (Finished o) said new h = ap due_at h.1
+  went_whole w (Make want note more) said new h = ap due_at h.1
+
+  steps_from : (old : Stand W O) (a : Access) (said : Option Said) (new mid : Stand W O) → May r old (Did a) → next r old (Did a) ≡ mid → Along (next r) (May r) mid (rest_of said) × (new ≡ after (next r) mid (rest_of said)) → due_at new ≡ None → Steps r old (Some a) said new
   unfolding rest_of
-  steps_from old a None new mid m e h = record { explained = (m, tt); left = h.1 ∙ sym e }
-  steps_from old a (Some s) new mid m e h =
+  steps_from old a None new mid m e h d = record { comes = (m, tt); left = h.1 ∙ sym e; whole = d }
+  steps_from old a (Some s) new mid m e h d =
       let told : May r (next r old (Did a)) (Spoke s) = subst (λ (x : Stand W O). May r x (Spoke s)) (sym e) h.0.0 in
-      record { explained = (m, (told, tt)); left = h.1 ∙ ap (λ (x : Stand W O). next r x (Spoke s)) (sym e) }
+      record { comes = (m, (told, tt)); left = h.1 ∙ ap (λ (x : Stand W O). next r x (Spoke s)) (sym e); whole = d }
 
   -- a step of the activity under way
   pub steps_during : (w : W) (p : Plan O) (access : Option Access) (said : Option Said) (new : Stand W O) → GoesOn r w p access said new → Steps r (During w p) access said new
   steps_during w p None said new g = absurd g
   steps_during w (Finished o) (Some a) said new g = absurd g.1
   steps_during w (Make want note more) (Some a) said new g =
-      steps_from (During w (Make want note more)) a said new (going r w g.0) g.1.0 (ap (going r w) (sym g.1.1)) (went_leads w g.0 said new g.2)
+      steps_from (During w (Make want note more)) a said new (going r w g.0) g.1.0 (ap (going r w) (sym g.1.1)) (went_leads w g.0 said new g.2) (went_whole w g.0 said new g.2)
 
   -- a step that begins the activity that it picks
   began : (w v : W) (c : Order W O) (p : Plan O) (a : Access) → c ≡ Act v p → (q : Plan O) → Goes p a q → MayBegin r w c (Did a) × (begun r w c (Did a) ≡ going r v q)
@@ -61,7 +66,7 @@ module _ {W O : Type 0} (r : Rules W O) where
   steps_picked : (w v : W) (p : Plan O) (a : Access) (said : Option Said) (new : Stand W O) → picked (r.choice w) (Did a) ≡ Act v p → GoesOn r v p (Some a) said new → Steps r (Between w) (Some a) said new
   steps_picked w v p a said new e g =
       let b = began w v (picked (r.choice w) (Did a)) p a e g.0 g.1 in
-      steps_from (Between w) a said new (going r v g.0) b.0 b.1 (went_leads v g.0 said new g.2)
+      steps_from (Between w) a said new (going r v g.0) b.0 b.1 (went_leads v g.0 said new g.2) (went_whole v g.0 said new g.2)
 
   pub steps_between : (w v : W) (p : Plan O) (access : Option Access) (said : Option Said) (new : Stand W O) → r.choice w ≡ Act v p → GoesOn r v p access said new → Steps r (Between w) access said new
   steps_between w v p None said new e g = absurd g
@@ -80,8 +85,9 @@ module _ {W O : Type 0} (r : Rules W O) where
   tells_alone : (w v : W) (o : O) (t : Said) (new : Stand W O) → picked (r.choice w) (Spoke t) ≡ Act v (Finished o) → r.said_at v o ≡ Some t → new ≡ Between (r.settled v o) → Steps r (Between w) None (Some t) new
   tells_alone w v o t new e s n =
       record {
-        explained = (subst (λ (c : Order W O). MayBegin r w c (Spoke t)) (sym e) s, tt);
+        comes = (subst (λ (c : Order W O). MayBegin r w c (Spoke t)) (sym e) s, tt);
         left = n ∙ ap (λ (c : Order W O). begun r w c (Spoke t)) (sym e);
+        whole = ap due_at n;
       }
 
   pub steps_said : (w v : W) (o : O) (t : Said) (new : Stand W O) → r.choice w ≡ Act v (Finished o) → r.said_at v o ≡ Some t → new ≡ Between (r.settled v o) → Steps r (Between w) None (Some t) new
@@ -94,8 +100,9 @@ module _ {W O : Type 0} (r : Rules W O) where
   pub steps_rest : (w v : W) (new : Stand W O) → r.choice w ≡ Rest v → new ≡ Between v → Steps r (Between w) None None new
   steps_rest w v new e n =
       record {
-        explained = (subst (λ (c : Order W O). MayBegin r w (picked c Rested) Rested) (sym e) tt, tt);
+        comes = (subst (λ (c : Order W O). MayBegin r w (picked c Rested) Rested) (sym e) tt, tt);
         left = n ∙ ap (λ (c : Order W O). begun r w (picked c Rested) Rested) (sym e);
+        whole = ap due_at n;
       }
 
   -- the turn of a smaller activity is a step of the device's

@@ -7,14 +7,18 @@ use Rattle.pv_words.specs.declared.access.Access.TheVariants as access
 use Rattle.pv_words.specs.declared.place.Place.{Place}
 use Rattle.pv_words.specs.Memory.{Memory, written, put, without}
 use Rattle.pv_words.specs.Place.{same_place}
-use Rattle.link_core.specs.Names.{Name, Drawn, Writing, Stroke, Redraws, words_at, drawn, all_drawn, writing_of, strokes_on, all_strokes, strokes_by}
-use Rattle.link_core.specs.Machine.{Table, Draw, HappensTo, IsRun}
-use Rattle.link_core.proofs.Runs.{run_joins}
+use Rattle.device_core.specs.Names.{Name, Drawn, Writing, Stroke, Redraws, words_at, drawn, all_drawn, writing_of, strokes_on, all_strokes, strokes_by}
+use Rattle.device_core.specs.Machine.{Table, Snapshot, Draw, HappensTo, IsRun}
+use Rattle.device_core.proofs.Runs.{run_joins}
 
 module _ {R E : Type 0} (t : Table R E) (x : R) where
-  -- by these strokes the live names get from words to words; the rows stay
+  -- the live names, while the rows stay and no refusal is owed
+  abbrev shows : List Drawn → Snapshot R
+  shows names = record { rows = x; names = names; owes = None }
+
+  -- by these strokes the live names get from words to words
   abbrev Leads : List Drawn → List Stroke → List Drawn → Type 0
-  Leads old strokes new = IsRun (HappensTo t) (record { rows = x; names = old }) (map Draw strokes) (record { rows = x; names = new })
+  Leads old strokes new = IsRun (HappensTo t) (shows old) (map Draw strokes) (shows new)
 
   -- a name between others
   abbrev among : List Drawn → ℕ → List ℕ → List Drawn → List Drawn
@@ -22,8 +26,8 @@ module _ {R E : Type 0} (t : Table R E) (x : R) where
 
   leads_join : (old mid new : List Drawn) (some more : List Stroke) → Leads old some mid → Leads mid more new → Leads old (some ++ more) new
   leads_join old mid new some more a b =
-      subst (λ es. IsRun (HappensTo t) (record { rows = x; names = old }) es (record { rows = x; names = new })) (sym (map-append Draw some more))
-      (run_joins (HappensTo t) (record { rows = x; names = old }) (record { rows = x; names = mid }) (record { rows = x; names = new }) (map Draw some) (map Draw more) a b)
+      subst (λ es. IsRun (HappensTo t) (shows old) es (shows new)) (sym (map-append Draw some more))
+      (run_joins (HappensTo t) (shows old) (shows mid) (shows new) (map Draw some) (map Draw more) a b)
 
   leads_same : (old old' new new' : List Drawn) (strokes : List Stroke) → old ≡ old' → new ≡ new' → Leads old strokes new → Leads old' strokes new'
   leads_same old old' new new' strokes a b l = subst (λ k. Leads k strokes new') a (subst (λ k. Leads old strokes k) b l)
@@ -43,7 +47,7 @@ module _ {R E : Type 0} (t : Table R E) (x : R) where
   -- a word of a name that stands at the written place, or doesn't
   cell_draws : (b : Bool) (before behind : List Drawn) (number index : ℕ) (passed rest : List ℕ) (old new : ℕ) (strokes : List Stroke) (k : List Drawn) → index ≡ length passed → Leads (among before number (passed ++ (if b then new else old) ∷ rest) behind) strokes k → Leads (among before number (passed ++ old ∷ rest) behind) (if b then record { number = number; index = index; word = new } ∷ strokes else strokes) k
   cell_draws true before behind number index passed rest old new strokes k e l =
-      (record { rows = x; names = among before number (passed ++ new ∷ rest) behind }, (refl, stroke_draws before behind number index passed rest old new e), l)
+      (shows (among before number (passed ++ new ∷ rest) behind), (record { free = refl; rows = refl; owes = refl }, stroke_draws before behind number index passed rest old new e), l)
   cell_draws false before behind number index passed rest old new strokes k e l = l
 
   passes : (before behind : List Drawn) (number word : ℕ) (passed rest : List ℕ) → among before number ((passed ++ word ∷ []) ++ rest) behind ≡ among before number (passed ++ word ∷ rest) behind
@@ -73,7 +77,7 @@ module _ {R E : Type 0} (t : Table R E) (x : R) where
   swap_draws false m at new names = refl
 
   -- The strokes of an access lead from the words that the live names had to those that stand there after it.
-  pub draws_run : (memory : Memory) (a : Access) (names : List Name) → IsRun (HappensTo t) (record { rows = x; names = all_drawn memory names }) (map Draw (strokes_by (writing_of a) names)) (record { rows = x; names = all_drawn (written memory a) names })
+  pub draws_run : (memory : Memory) (a : Access) (names : List Name) → IsRun (HappensTo t) (shows (all_drawn memory names)) (map Draw (strokes_by (writing_of a) names)) (shows (all_drawn (written memory a) names))
   draws_run memory (access.Load at v) names = refl
   draws_run memory (access.Store at v) names = names_draw memory (record { place = at; word = v }) [] names
   draws_run memory (access.Cas at old new seen) names = swap_draws (seen == old) memory at new names

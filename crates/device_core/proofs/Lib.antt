@@ -1,0 +1,4 @@
+pub mod Drawing
+pub mod MachineRun
+pub mod Runs
+pub mod Steps

@@ -1,4 +1,5 @@
 pub mod Drawing
 pub mod MachineRun
+pub mod Passing
 pub mod Runs
 pub mod Steps

@@ -2,7 +2,6 @@ pub mod Choices
 pub mod Deciding
 pub mod Freeing
 pub mod Gets
-pub mod Hears
 pub mod Held
 pub mod HeldAll
 pub mod Leaving

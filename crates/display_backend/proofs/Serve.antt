@@ -109,7 +109,7 @@ last_is_quiet ls k false h = refl
 -- news that come in between
 stuck_told : (w : Work) (news : News) (why : Reason) → stuck (told w news) why ≡ told (stuck w why) news
 stuck_told w (Sets front nodes) why = refl
-stuck_told w (Hosts e answer) why = refl
+stuck_told w (Hosts e) why = refl
 
 heard_at : (site : Site) (w : Work) (news : News) (p : Plan End) → stand_at (told w news) p ≡ next (display site) (stand_at w p) (Heard news)
 heard_at site w news (Finished x) = ap (λ v. Between v) (stuck_told w news (why_of x))

@@ -6,7 +6,7 @@ use Rattle.display_backend.specs.Work.{display, reading, first_work, first_namin
 use Rattle.display_backend.proofs.SoundBegins.{begins}
 use Rattle.display_backend.proofs.SoundSettles.{no_buffers, settles, rests}
 use Rattle.display_backend.proofs.SoundTells.{tells, quiet}
-use Rattle.display_backend.proofs.SoundWork.{the_site, TellsHeld, IsNamed, IsSane, EndsWell, hears_sane, hears_well, hears_told, hears_move}
+use Rattle.display_backend.proofs.SoundWork.{the_site, TellsHeld, IsNamed, IsSane, EndsWell, hears_sane, hears_well, hears_told, hears_said, hears_move, hears_owed}
 
 module _ (frames grants : ℕ → ℕ) (dom parts : ℕ) where
   pub sound : Sound (display (the_site frames grants dom parts)) (reading (the_site frames grants dom parts)) (IsProper frames grants dom) (holding frames)
@@ -22,8 +22,10 @@ module _ (frames grants : ℕ → ℕ) (dom parts : ℕ) where
         rests = rests frames grants dom parts;
         tells = λ w o t m s q named e. tells frames grants dom parts w o t m s q named e;
         quiet = λ w o m s q named e. quiet frames grants dom parts w o m q named e;
-        hears = λ w news s may. let move = hears_move (the_site frames grants dom parts) w news may in (hears_sane frames grants dom parts w news s, move.0, move.1);
-        hears_end = λ w o news q. (hears_well frames grants dom parts w news o q, hears_told frames grants dom parts w news o);
+        hears = λ w news s. let move = hears_move (the_site frames grants dom parts) w news in (hears_sane frames grants dom parts w news s, move.0, move.1);
+        hears_end = λ w o news q. (hears_well frames grants dom parts w news o q, hears_said w news o, hears_told frames grants dom parts w news o);
+        owes_heard = λ w m news. hears_owed (the_site frames grants dom parts) w m news;
+        owes_nothing = λ x w o s. refl;
       }
 
   -- the work of a display that is declared is sane, and it holds nothing

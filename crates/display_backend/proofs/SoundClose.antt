@@ -60,8 +60,8 @@ module _ (frames grants : ℕ → ℕ) (dom parts : ℕ) (w v : Work) (p : Plan 
         let first = shown_of frames grants dom parts w m memory in
         let run = all_run table (rows_of w m) memory (names_of w m) in (
           named ∙ sym (like_length (all_bared w.stock.buffers) w.stock.buffers leaving_like),
-          subst (λ (rows : List (Live ℕ)). RunsTo frames grants dom parts first (begins_close w m) (record { rows = record (rows_of w m) { buffers = rows }; names = all_drawn memory (live_names (all_bared w.stock.buffers) m.ids) })) (sym (numbered_all_bared w.stock.buffers m.ids))
-              (subst (λ (names : List Name). RunsTo frames grants dom parts first (begins_close w m) (record { rows = rows_of w m; names = all_drawn memory names })) (sym (none_bared w.stock.buffers m.ids)) run),
+          subst (λ (rows : List (Live ℕ)). RunsTo frames grants dom parts first (begins_close w m) (record { rows = record (rows_of w m) { buffers = rows }; names = all_drawn memory (live_names (all_bared w.stock.buffers) m.ids); owes = None })) (sym (numbered_all_bared w.stock.buffers m.ids))
+              (subst (λ (names : List Name). RunsTo frames grants dom parts first (begins_close w m) (record { rows = rows_of w m; names = all_drawn memory names; owes = None })) (sym (none_bared w.stock.buffers m.ids)) run),
         )
 
     pub begins_leaving : Offers (close w why) v p → BeginsSo frames grants dom parts w v p (λ m. begins_close w m)
@@ -87,4 +87,4 @@ module _ (frames grants : ℕ → ℕ) (dom parts : ℕ) (w v : Work) (p : Plan 
       let plan = connect_all (the_site frames grants dom parts) (all_refs w.seen 0 parts) in
       let fits = λ (k : Holds) (t : TellsHeld w k). subst (λ (x : Holds). Fit frames grants dom (EndsSo frames grants dom parts (beginning w)) x plan) (sym (bare_pages bare k t)) (fits_all frames grants dom parts (beginning w) refl still bare.1 (all_refs w.seen 0 parts) refl) in
       chosen frames grants dom parts w v (beginning w) p plan (λ m. begins_by w m action.Connect)
-      (sane, fits, (λ m memory named. (named, (shown_of frames grants dom parts (beginning w) m memory, ((still, a, refl), refl), refl)))) o
+      (sane, fits, (λ m memory named. (named, (shown_of frames grants dom parts (beginning w) m memory, record { free = refl; move = (still, a, refl); names = refl; owes = refl }, refl)))) o

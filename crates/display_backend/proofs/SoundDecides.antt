@@ -83,7 +83,7 @@ module _ (frames grants : ℕ → ℕ) (dom parts : ℕ) (w v : Work) (p : Plan 
         let new = live_names (bared cookie w.stock.buffers) m.ids in
         let run = goes_run table (rows_of w m) memory (names_under cookie w.stock.buffers m.ids) old new (name_goes cookie w.stock.buffers m.ids) in (
           named ∙ sym (like_length (bared cookie w.stock.buffers) w.stock.buffers freed_like),
-          subst (λ (rows : List (Live ℕ)). RunsTo frames grants dom parts (record { rows = rows_of w m; names = all_drawn memory old }) (begins_decided w m (asked.Destroy cookie) true) (record { rows = record (rows_of w m) { buffers = rows }; names = all_drawn memory new })) (sym (numbered_bared cookie w.stock.buffers m.ids)) run,
+          subst (λ (rows : List (Live ℕ)). RunsTo frames grants dom parts (record { rows = rows_of w m; names = all_drawn memory old; owes = None }) (begins_decided w m (asked.Destroy cookie) true) (record { rows = record (rows_of w m) { buffers = rows }; names = all_drawn memory new; owes = None })) (sym (numbered_bared cookie w.stock.buffers m.ids)) run,
         )
 
     pub begins_release : (x : Option Joined) → Offers (frees w cookie x) v p → BeginsSo frames grants dom parts w v p (λ m. begins_decided w m (asked.Destroy cookie) true)
@@ -109,7 +109,7 @@ module _ (frames grants : ℕ → ℕ) (dom parts : ℕ) (w v : Work) (p : Plan 
         let is : IsAnswer (starved w) h = answers_at w.stock h progress.NoMemory (λ e. let wrong : ⊥ = cc in wrong) ((c, creating), none) in (
           starved_sane,
           answer_fits frames grants dom parts (starved w) h j starved_sane serving has at is,
-          λ m memory named. (named, ap (λ d. let k : Snapshot Rows = record { rows = record (rows_of w m) { denied = d }; names = all_drawn memory (names_of w m) } in k) (ap is_denied decided)),
+          λ m memory named. (named, ap (λ d. let k : Snapshot Rows = record { rows = record (rows_of w m) { denied = d }; names = all_drawn memory (names_of w m); owes = None } in k) (ap is_denied decided)),
         )
 
     abbrev walks : IsWalking w

@@ -1,5 +1,5 @@
 -- The names of the buffers that have pages: one comes with a CREATE, they go where the pages do.
-use Rattle.std.proofs.Common.{◌≡◌, ℕ, ◌<◌, Bool, true, false, not, cond, List, [], ◌∷◌, ◌++◌, refl, sym, ◌∙◌, ap, subst, arith, length}
+use Rattle.std.proofs.Common.{◌≡◌, ℕ, ◌<◌, Bool, true, false, not, cond, List, [], ◌∷◌, ◌++◌, refl, sym, ◌∙◌, ap, subst, arith, length, None}
 use Rattle.std.proofs.lemmas.Bool.{eqb-true}
 use Rattle.std.proofs.lemmas.List.{map-append}
 use Rattle.pv_words.specs.declared.grant.Hold.{Hold}
@@ -94,7 +94,7 @@ name_goes cookie (b ∷ bs) (n ∷ ns) = by_test (has_cookie cookie b) (name_goe
 module _ {R : Type 0} (t : Table R Event) (rows : R) (memory : Memory) where
   -- rows and names as a machine shows them
   abbrev pub shows : List Name → Snapshot R
-  shows names = record { rows = rows; names = all_drawn memory names }
+  shows names = record { rows = rows; names = all_drawn memory names; owes = None }
 
   -- a name goes
   pub goes_run : (gone old new : List Name) → GoesFrom gone old new → IsRun (HappensTo t) (shows old) (all_gone (numbers gone)) (shows new)
@@ -104,7 +104,7 @@ module _ {R : Type 0} (t : Table R Event) (rows : R) (memory : Memory) where
       let behind : new ≡ g.0 ++ g.1 = g.3 in (
         shows new,
         (
-          refl,
+          record { free = refl; rows = refl; owes = refl },
           record {
             before = all_drawn memory g.0;
             words = (drawn memory n).words;
@@ -121,4 +121,4 @@ module _ {R : Type 0} (t : Table R Event) (rows : R) (memory : Memory) where
   pub all_run : (names : List Name) → IsRun (HappensTo t) (shows names) (all_gone (numbers names)) (shows [])
   all_run [] = refl
   all_run (n ∷ names) =
-      (shows names, (refl, record { before = []; words = (drawn memory n).words; behind = all_drawn memory names; old_is = refl; new_is = refl }), all_run names)
+      (shows names, (record { free = refl; rows = refl; owes = refl }, record { before = []; words = (drawn memory n).words; behind = all_drawn memory names; old_is = refl; new_is = refl }), all_run names)

@@ -5,6 +5,7 @@ use Rattle.pv_words.specs.declared.device.HostRefusal.{HostRefusal}
 use Rattle.pv_words.specs.declared.device.NodeValue.{NodeValue}
 use Rattle.pv_words.specs.declared.device.Reason.{Reason}
 use Rattle.pv_words.specs.declared.device.Reason.TheVariants as reason
+use Rattle.pv_words.specs.declared.device.Said.{Said}
 use Rattle.pv_words.specs.declared.device.State.{State}
 use Rattle.pv_words.specs.declared.device.State.TheVariants as state
 use Rattle.pv_words.specs.declared.grant.Hold.{Hold}
@@ -24,15 +25,15 @@ use Rattle.ring_words.specs.Ring.{looked_of}
 use Rattle.xenbus_states.specs.Connection.{Connection, first_ending, heard, is_start}
 use Rattle.link_core.specs.Laws.{AreOf}
 use Rattle.device_core.specs.Machine.{Moves}
-use Rattle.device_core.specs.Order.{News, Sets, Hosts, MayHear}
+use Rattle.device_core.specs.Order.{News, Sets, Hosts, refused_by}
 use Rattle.display_backend.specs.declared.display.Progress.{Progress}
 use Rattle.display_backend.specs.declared.display.Progress.TheVariants as progress
 use Rattle.display_backend.specs.declared.waiting.Waiting.{Waiting}
 use Rattle.display_backend.specs.Waiting.{waiting_of}
 use Rattle.host_events.specs.Queue.{unless}
-use Rattle.display_backend.specs.Machine.{Hears, Site, Rows, Hand, Refs, IsReason, all_refs, IsStatus, first_rows, verdict, is_accepted}
+use Rattle.display_backend.specs.Machine.{Hears, Site, Rows, Hand, Refs, IsReason, all_refs, IsStatus, first_rows, owes, verdict, is_accepted}
 use Rattle.display_backend.specs.Reply.{status_in}
-use Rattle.display_backend.specs.Work.{Work, Naming, End, Saw, Took, Listed, Freed, Answered, Slept, Met, Denied, Lacked, Shut, Left, Renewed, Served, all_pages, after_look, after_sleep, after_answer, after_walk, settled, told, rows_of, is_denied, reading, display}
+use Rattle.display_backend.specs.Work.{Work, Naming, End, Saw, Took, Listed, Freed, Answered, Slept, Met, Denied, Lacked, Shut, Left, Renewed, Served, all_pages, after_look, after_sleep, after_answer, after_walk, settled, told, rows_of, is_denied, reading, display, refused_at, replied_in, said_at}
 use Rattle.display_backend.proofs.SoundPlans.{AllOwn}
 
 -- what the domain has, and how many parts
@@ -300,35 +301,67 @@ sets_hearing site w front =
       oldest = λ x later e. (later, e);
     }
 
-hosts_hearing : (site : Site) (w : Work) (e : HostEvent) (answer : Option HostRefusal) → Hearing site w w.connection (unless answer w.waiting (waiting_of e))
-hosts_hearing site w e answer =
+hosts_hearing : (site : Site) (w : Work) (e : HostEvent) → Hearing site w w.connection (unless (refused_at w) w.waiting (waiting_of e))
+hosts_hearing site w e =
     record {
       back = refl;
       due = λ why q. q;
       again = λ a. a;
-      oldest = λ x later i. stays_oldest answer w.waiting (waiting_of e) x later i;
+      oldest = λ x later i. stays_oldest (refused_at w) w.waiting (waiting_of e) x later i;
     }
+
+-- what an activity's end says doesn't hang on the connection, the nodes, or the events that wait
+same_said : (w : Work) (k : Connection) (nodes : List NodeValue) (ws : List Waiting) (o : End) → said_at (record w { connection = k; seen = nodes; waiting = ws }) o ≡ said_at w o
+unfolding said_at
+same_said w k nodes ws (Answered notified) = answered w.hand
+  where
+    answered : (h : Option Hand) → replied_in (record w { connection = k; seen = nodes; waiting = ws }) h notified ≡ replied_in w h notified
+    answered None = refl
+    answered (Some h) = refl
+same_said w k nodes ws (Saw l) = refl
+same_said w k nodes ws (Took words) = refl
+same_said w k nodes ws (Listed came) = refl
+same_said w k nodes ws Freed = refl
+same_said w k nodes ws (Slept quiet) = refl
+same_said w k nodes ws (Met parts) = refl
+same_said w k nodes ws (Denied why) = refl
+same_said w k nodes ws (Lacked problem) = refl
+same_said w k nodes ws (Shut why) = refl
+same_said w k nodes ws Left = refl
+same_said w k nodes ws Renewed = refl
+same_said w k nodes ws (Served e) = refl
 
 module _ (frames grants : ℕ → ℕ) (dom parts : ℕ) (w : Work) where
   pub hears_sane : (news : News) → IsSane frames grants dom parts w → IsSane frames grants dom parts (told w news)
   hears_sane (Sets front nodes) s =
       sane_now frames grants dom parts w (heard w.connection front) nodes w.waiting (sets_hearing (the_site frames grants dom parts) w front) s
-  hears_sane (Hosts e answer) s =
-      sane_now frames grants dom parts w w.connection w.seen (unless answer w.waiting (waiting_of e)) (hosts_hearing (the_site frames grants dom parts) w e answer) s
+  hears_sane (Hosts e) s =
+      sane_now frames grants dom parts w w.connection w.seen (unless (refused_at w) w.waiting (waiting_of e)) (hosts_hearing (the_site frames grants dom parts) w e) s
 
   pub hears_well : (news : News) (o : End) → EndsWell frames grants dom parts w o → EndsWell frames grants dom parts (told w news) o
   hears_well (Sets front nodes) o q =
       well_now frames grants dom parts w (heard w.connection front) nodes w.waiting (sets_hearing (the_site frames grants dom parts) w front) o q
-  hears_well (Hosts e answer) o q =
-      well_now frames grants dom parts w w.connection w.seen (unless answer w.waiting (waiting_of e)) (hosts_hearing (the_site frames grants dom parts) w e answer) o q
+  hears_well (Hosts e) o q =
+      well_now frames grants dom parts w w.connection w.seen (unless (refused_at w) w.waiting (waiting_of e)) (hosts_hearing (the_site frames grants dom parts) w e) o q
 
   pub hears_told : (news : News) (o : End) (h : Holds) → TellsHeld (settled (the_site frames grants dom parts) w o) h → TellsHeld (settled (the_site frames grants dom parts) (told w news) o) h
   hears_told (Sets front nodes) o h t =
       told_now frames grants dom parts w (heard w.connection front) nodes w.waiting (sets_hearing (the_site frames grants dom parts) w front) o h t
-  hears_told (Hosts e answer) o h t =
-      told_now frames grants dom parts w w.connection w.seen (unless answer w.waiting (waiting_of e)) (hosts_hearing (the_site frames grants dom parts) w e answer) o h t
+  hears_told (Hosts e) o h t =
+      told_now frames grants dom parts w w.connection w.seen (unless (refused_at w) w.waiting (waiting_of e)) (hosts_hearing (the_site frames grants dom parts) w e) o h t
+
+-- what is heard doesn't change what an activity's end says
+pub hears_said : (w : Work) (news : News) (o : End) → said_at (told w news) o ≡ said_at w o
+unfolding said_at
+hears_said w (Sets front nodes) o = same_said w (heard w.connection front) nodes w.waiting o
+hears_said w (Hosts e) o = same_said w w.connection w.seen (unless (refused_at w) w.waiting (waiting_of e)) o
 
 -- what is heard is a move of the machine, and leaves the pages and the names
-pub hears_move : (site : Site) (w : Work) (news : News) → MayHear (display site) w news → ((h : Holds) → TellsHeld w h → TellsHeld (told w news) h) × ((m : Naming) → IsNamed w m → IsNamed (told w news) m × Moves (reading site) w m (Hears news) [] (told w news) m)
-hears_move site w (Sets front nodes) may = ((λ h t. t), (λ m named. (named, record { move = refl; names = λ memory. refl })))
-hears_move site w (Hosts e answer) may = ((λ h t. t), (λ m named. (named, record { move = (may, refl); names = λ memory. refl })))
+pub hears_move : (site : Site) (w : Work) (news : News) → ((h : Holds) → TellsHeld w h → TellsHeld (told w news) h) × ((m : Naming) → IsNamed w m → IsNamed (told w news) m × Moves (reading site) w m (Hears news) [] (told w news) m)
+hears_move site w (Sets front nodes) = ((λ h t. t), (λ m named. (named, record { move = refl; names = λ memory. refl })))
+hears_move site w (Hosts e) = ((λ h t. t), (λ m named. (named, record { move = refl; names = λ memory. refl })))
+
+-- an event of the host leaves just the refusal owed that the work gives
+pub hears_owed : (site : Site) (w : Work) (m : Naming) (news : News) → owes (rows_of w m) (Hears news) ≡ refused_by (display site) w news
+hears_owed site w m (Sets front nodes) = refl
+hears_owed site w m (Hosts e) = refl

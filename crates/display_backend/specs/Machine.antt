@@ -1,6 +1,7 @@
 -- The display as a machine of rows: its connection, requests and replies, its buffers, and the events of its host (the
 -- operations of displif.h, the states of xenbus.h). It knows no ring, page or access.
 use Rattle.std.specs.Prelude.{◌≡◌, ◌⊎◌, ℕ, zero, suc, ◌<◌, ◌+◌, ◌==◌, ◌||◌, ◌&&◌, ℤ, pos, negsuc, Bool, true, false, List, [], ◌∷◌, Option, Some, None, is_some, Result, Ok, Err, if◌then◌else◌}
+use Rattle.pv_words.specs.declared.device.HostRefusal.{HostRefusal}
 use Rattle.pv_words.specs.declared.device.NodeFault.{NodeFault}
 use Rattle.pv_words.specs.declared.device.NodeValue.{NodeValue}
 use Rattle.pv_words.specs.declared.device.Said.{Said}
@@ -250,8 +251,8 @@ Tells site old other taken new = ⊥
 abbrev pub Moves : Site → Rows → Event → Rows → Type 0
 Moves site old (Says s taken) new = Tells site old s taken new
 Moves site old (Hears (Sets front nodes)) new = new ≡ record old { connection = heard old.connection front; seen = nodes }
-Moves site old (Hears (Hosts e answer)) new =
-    (answer ≡ refusal_of old.connection.back old.waiting) × (new ≡ record old { waiting = unless answer old.waiting (waiting_of e) })
+Moves site old (Hears (Hosts e)) new =
+    new ≡ record old { waiting = unless (refusal_of old.connection.back old.waiting) old.waiting (waiting_of e) }
 Moves site old Begins new =
     (old.closing ≡ false) × (action_of old.connection ≡ action.Connect)
     × (new ≡ record old { connection = begun old.connection; read = old.seen; connecting = true })
@@ -264,6 +265,11 @@ made_at (Some h) status number = if is_creation h.request.asked && is_accepted s
 abbrev pub makes : Rows → Event → Option ℕ
 makes old (Says (said.Replied part id status notified) taken) = made_at old.hand status old.replies
 makes old other = None
+
+-- an event of the host leaves its refusal owed where it is refused
+abbrev pub owes : Rows → Event → Option HostRefusal
+owes old (Hears (Hosts e)) = refusal_of old.connection.back old.waiting
+owes old other = None
 
 -- the machine at the beginning: nothing is set, it waits for its frontend, has no buffer, and no event waits
 abbrev pub first_rows : Rows

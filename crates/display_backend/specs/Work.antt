@@ -44,7 +44,7 @@ use Rattle.display_backend.specs.declared.waiting.Waiting.{Waiting}
 use Rattle.display_backend.specs.declared.waiting.Waiting.TheVariants as waiting
 use Rattle.display_backend.specs.Waiting.{waiting_of}
 use Rattle.host_events.specs.Queue.{behind, refusal_of, unless}
-use Rattle.display_backend.specs.Machine.{Site, Rows, Hand, Refs, Problem, Event, Says, Hears, Begins, Moves, all_refs, verdict, is_accepted, is_creation, makes}
+use Rattle.display_backend.specs.Machine.{Site, Rows, Hand, Refs, Problem, Event, Says, Hears, Begins, Moves, all_refs, verdict, is_accepted, is_creation, makes, owes}
 use Rattle.display_backend.specs.Reply.{reply_to, replied, status_in}
 
 -- what the display knows between two activities, and what of it stays known in one
@@ -339,17 +339,21 @@ said_at w Left = Some (said.State state.Closed)
 said_at w Renewed = Some (said.State state.InitWait)
 said_at w (Served e) = Some (said_of e)
 
--- the frontend set its state, while the nodes stood so; or the host told an event
+-- why an event of the host is refused, if it is
+abbrev pub refused_at : Work → Option HostRefusal
+refused_at w = refusal_of w.connection.back w.waiting
+
+-- the frontend set its state, while the nodes stood so; or the host told an event, which waits unless it is refused
 abbrev pub told : Work → News → Work
 told w (Sets front nodes) = record w { connection = heard w.connection front; seen = nodes }
-told w (Hosts e answer) = record w { waiting = unless answer w.waiting (waiting_of e) }
+told w (Hosts e) = record w { waiting = unless (refused_at w) w.waiting (waiting_of e) }
 
 -- why an event of the host is refused there, if it is
 abbrev pub refusal_at : Stand Work End → Option HostRefusal
-refusal_at s = refusal_of (work_at s).connection.back (work_at s).waiting
+refusal_at s = refused_at (work_at s)
 
 abbrev pub display : Site → Rules Work End
-display site = record { choice = choice site; said_at = said_at; settled = settled site; refuses = λ w e. refusal_of w.connection.back w.waiting; heard = told }
+display site = record { choice = choice site; said_at = said_at; settled = settled site; refuses = λ w e. refused_at w; heard = told }
 
 -- the display when it is declared: it waits for its frontend
 abbrev pub first_work : Work
@@ -488,7 +492,7 @@ begins_of w m false = begins_with w m w.kept
 abbrev pub reading : Site → Reading Work End Naming Rows Event
 reading site =
     record {
-      table = record { moves = Moves site; makes = makes };
+      table = record { moves = Moves site; makes = makes; owes = owes };
       rows = rows_of;
       names = names_of;
       event = λ w o s. Says s (taken_at o);

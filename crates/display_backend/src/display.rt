@@ -12,6 +12,7 @@ mod serving;
 
 use crate::store::Store;
 use crate::waiting::{Waiting, waiting_of};
+use device_core::Step;
 use displ_wire::Request;
 use host_events::Queue;
 use link_core::Link;
@@ -70,14 +71,6 @@ enum Activity {
     Answering,
     // A Sleep has come to this part.
     Sleeping(u8),
-}
-
-/// What one step of a device did. A step with neither is idle.
-#[derive(Clone, Copy, Debug, PartialEq, Eq)]
-pub struct Step {
-    pub access: Option<Access>,
-    /// What the device said; it rides on the access, if there is one.
-    pub said: Option<Said>,
 }
 
 /// A display, its connection to a frontend, and how far its work has come.
@@ -186,7 +179,7 @@ impl Display {
     /// NotConnected exactly where the backend isn't Connected, and else Full exactly where 64 wait; a refusal changes nothing.
     pub fn host(&mut self, e: HostEvent) -> Result<(), HostRefusal>
         requires { is_for (parts_of self.old) e ≡ true }
-        ensures hears { (site : Site) → stand_of site self.new ≡ next (display site) (stand_of site self.old) (Heard (Hosts e (refusal_in result))) }
+        ensures hears { (site : Site) → stand_of site self.new ≡ next (display site) (stand_of site self.old) (Heard (Hosts e)) }
         ensures refusal { (site : Site) → refusal_in result ≡ refusal_at (stand_of site self.old) }
         ensures err { OnErr result (self.new ≡ self.old) }
         ensures dom { dom_of self.new ≡ dom_of self.old }

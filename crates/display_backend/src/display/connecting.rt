@@ -5,7 +5,8 @@ ghost use Rattle.display_backend.specs.Activity.{is_open, is_connected};
 ghost use Rattle.display_backend.specs.Goes.{fault_in};
 ghost use Rattle.display_backend.specs.Machine.{part_refs, all_refs};
 
-use super::{Activity, Display, Ending, Progress, Round, Step};
+use super::{Activity, Display, Ending, Progress, Round};
+use device_core::Step;
 use pv_words::{GrantRef, Reason, Said, State, Words};
 use xenbus_states::Nodes;
 

@@ -7,9 +7,10 @@ ghost use Rattle.display_backend.specs.Store.{stock_of, is_whole};
 ghost use Rattle.display_backend.specs.Whole.{IsReady, IsDue, Creates};
 ghost use Rattle.display_backend.specs.Work.{stock_after};
 
-use super::{Activity, Display, Progress, Round, Step};
+use super::{Activity, Display, Progress, Round};
 use crate::store::Store;
 use crate::waiting::said_of;
+use device_core::Step;
 use displ_wire::{Asked, Create, Refused, Request, decode, encode_reply, is_zero};
 use page_directory::{Walk, Walked};
 use pv_words::{GrantRef, Mode, Reason, Said, Words};

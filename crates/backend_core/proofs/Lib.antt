@@ -1,1 +1,5 @@
-pub mod Hears
+pub mod Answers
+pub mod Consequences
+pub mod Histories
+pub mod Items
+pub mod EachKind

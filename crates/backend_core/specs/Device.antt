@@ -1,14 +1,20 @@
--- Where a device stands, by its kind.
-use Rattle.std.specs.Prelude.{ℕ, Bool, List}
+-- What a device stands for, by its kind, and what its calls make of that.
+use Rattle.std.specs.Prelude.{◌≡◌, ℕ, Bool, List, [], ◌∷◌, ◌++◌, Option, Some, None, Result, Ok, Err}
 use Rattle.pv_words.specs.declared.device.HostEvent.{HostEvent}
+use Rattle.pv_words.specs.declared.device.HostRefusal.{HostRefusal}
 use Rattle.pv_words.specs.declared.grant.Hold.{Hold}
-use Rattle.device_core.specs.Order.{Stand}
+use Rattle.pv_words.specs.declared.setup.DeviceKind.{DeviceKind}
+use Rattle.pv_words.specs.declared.setup.DeviceKind.TheVariants as kind
+use Rattle.pv_words.specs.Plan.{Want}
+use Rattle.device_core.specs.Order.{Own, Heard, Hosts, Refused, MayStep}
+use Rattle.device_core.specs.Site.{Site}
+use Rattle.display_backend.specs.declared.display.Display.{Display as Screen}
 use Rattle.display_backend.specs.Display as display
-use Rattle.display_backend.specs.Machine.{Site}
 use Rattle.display_backend.specs.Waiting.{is_for}
-use Rattle.display_backend.specs.Work.{Work, End}
+use Rattle.display_backend.specs.Work as work
 use Rattle.backend_core.specs.declared.device.Device.{Device}
 use Rattle.backend_core.specs.declared.device.Device.TheVariants.{Display}
+use Rattle.backend_core.specs.Kinds.{Continues, IsSettled, display_station}
 
 -- the domain that it serves
 abbrev pub dom_of : Device → ℕ
@@ -26,10 +32,42 @@ site_of frames grants d = record { dom = dom_of d; parts = parts_of d; frames = 
 abbrev pub held_of : Device → List Hold
 held_of (Display d) = display.held_of d
 
--- where it stands in its order of work
-abbrev pub stand_of : Site → Device → Stand Work End
-stand_of site (Display d) = display.stand_of site d
-
 -- the event is one of the device's kind, and the device has its part
 abbrev pub fits_to : Device → HostEvent → Bool
 fits_to (Display d) e = is_for (display.parts_of d) e
+
+-- a display of this site that stands where what it has done and heard leads
+pub record IsDisplay (site : Site) (connectors : ℕ) (d : Screen) (es : List Own) : Type 0 where
+  pub dom_is : display.dom_of d ≡ site.dom
+  pub parts_are : display.parts_of d ≡ site.parts
+  pub connectors_are : site.parts ≡ connectors
+  pub stands : display.stand_of site d ≡ (display_station site es).stand
+
+-- The device is one of this kind and site, and stands where what it has done and heard leads, the accesses of others among it.
+abbrev pub StandsFor : DeviceKind → Site → Device → List Own → Type 0
+StandsFor (kind.Display connectors) site (Display d) es = IsDisplay site connectors d es
+
+-- its next access may be made through a port
+abbrev pub MayMakeNext : (Want → Type 0) → Site → Device → Type 0
+MayMakeNext may site (Display d) = MayStep may (work.display site) (display.stand_of site d)
+
+-- it stands for what came before and for this, which is what comes next
+pub record GoesOn (kind : DeviceKind) (site : Site) (es more : List Own) (new : Device) : Type 0 where
+  pub comes : Continues kind site es more
+  pub stands : StandsFor kind site new (es ++ more)
+  pub settled : IsSettled kind site (es ++ more)
+
+-- Whatever list a device stood for, it stands for that list and this now.
+abbrev pub Adds : Device → List Own → Device → Type 0
+Adds old more new =
+    (kind : DeviceKind) (site : Site) (es : List Own) → StandsFor kind site old es → IsSettled kind site es → GoesOn kind site es more new
+
+-- the same of one site
+abbrev pub AddsAt : Site → Device → List Own → Device → Type 0
+AddsAt site old more new =
+    (kind : DeviceKind) (es : List Own) → StandsFor kind site old es → IsSettled kind site es → GoesOn kind site es more new
+
+-- an event of the host, and its refusal, where it is refused
+abbrev pub hosted : HostEvent → Result (Unit {0}) HostRefusal → List Own
+hosted e (Ok done) = Heard (Hosts e) ∷ []
+hosted e (Err why) = Heard (Hosts e) ∷ Refused why ∷ []

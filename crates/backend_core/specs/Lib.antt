@@ -1,1 +1,6 @@
+pub mod Answered
 pub mod Device
+pub mod History
+pub mod Kinds
+pub mod Laws
+pub mod Marked

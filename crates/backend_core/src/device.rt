@@ -1,8 +1,9 @@
 //! The kinds of device.
 
-ghost use Rattle.std.specs.Prelude.{◌≡◌, ◌<◌, OnErr, not, true, length, slice_get, Some};
+ghost use Rattle.std.specs.Prelude.{◌≡◌, ◌<◌, [], ◌∷◌, List, OnErr, not, true, length, slice_get, Some};
 
-use display_backend::{Display, Step};
+use device_core::Step;
+use display_backend::Display;
 use pv_words::{Hold, HostEvent, HostRefusal, State, Words};
 use xenbus_states::Nodes;
 
@@ -15,16 +16,16 @@ pub enum Device {
 
 impl Device {
     ghost use Rattle.pv_words.specs.Plan.{Makes};
-    ghost use Rattle.device_core.specs.Order.{Heard, Hosts, Sets, MayStep, Steps, at_rest, next};
+    ghost use Rattle.pv_words.specs.declared.setup.DeviceKind.{DeviceKind};
+    ghost use Rattle.device_core.specs.Order.{Own, Heard, Sets, steps_of};
     ghost use Rattle.link_core.specs.Stays.{AccessIn};
-    ghost use Rattle.display_backend.specs.Machine.{Site};
-    ghost use Rattle.host_events.specs.Queue.{refusal_in};
-    ghost use Rattle.display_backend.specs.Work.{display, refusal_at};
-    ghost use Rattle.backend_core.specs.Device.{dom_of, fits_to, held_of, parts_of, site_of, stand_of};
+    ghost use Rattle.device_core.specs.Site.{Site};
+    ghost use Rattle.backend_core.specs.Device.{Adds, AddsAt, MayMakeNext, StandsFor, dom_of, fits_to, held_of, hosted, parts_of, site_of};
+    ghost use Rattle.backend_core.specs.Kinds.{IsSettled, rests_after};
 
-    /// Hears that the frontend set its state, while its nodes stand so.
+    /// Hears that the frontend set its state, while its nodes stand so. Whatever it stood for, it stands for that and this state.
     pub fn bus(&mut self, front: State, nodes: &Nodes)
-        ensures hears { (site : Site) → stand_of site self.new ≡ next (display site) (stand_of site self.old) (Heard (Sets front nodes.now)) }
+        ensures hears { Adds self.old (Heard (Sets front nodes.now) ∷ []) self.new }
         ensures dom { dom_of self.new ≡ dom_of self.old }
         ensures parts { parts_of self.new ≡ parts_of self.old }
         ensures held { held_of self.new ≡ held_of self.old }
@@ -38,8 +39,7 @@ impl Device {
     /// NotConnected exactly where the backend isn't Connected, and else Full exactly where 64 wait; a refusal changes nothing.
     pub fn host(&mut self, e: HostEvent) -> Result<(), HostRefusal>
         requires { fits_to self.old e ≡ true }
-        ensures hears { (site : Site) → stand_of site self.new ≡ next (display site) (stand_of site self.old) (Heard (Hosts e (refusal_in result))) }
-        ensures refusal { (site : Site) → refusal_in result ≡ refusal_at (stand_of site self.old) }
+        ensures hears { Adds self.old (hosted e result) self.new }
         ensures err { OnErr result (self.new ≡ self.old) }
         ensures dom { dom_of self.new ≡ dom_of self.old }
         ensures parts { parts_of self.new ≡ parts_of self.old }
@@ -54,8 +54,8 @@ impl Device {
     /// where the order of work has nothing left. An access to a cell lies in the frame of a page that the device holds
     /// before the step, and one that may write in a page that is held for writing.
     pub fn step<W: Words>(&mut self, words: &mut W) -> Step
-        requires { MayStep (W.may words.old) (display (site_of (W.frames_of words.old) (W.grants_of words.old) self.old)) (stand_of (site_of (W.frames_of words.old) (W.grants_of words.old) self.old) self.old) }
-        ensures steps { Steps (display (site_of (W.frames_of words.old) (W.grants_of words.old) self.old)) (stand_of (site_of (W.frames_of words.old) (W.grants_of words.old) self.old) self.old) result.access result.said (stand_of (site_of (W.frames_of words.old) (W.grants_of words.old) self.old) self.new) }
+        requires { MayMakeNext (W.may words.old) (site_of (W.frames_of words.old) (W.grants_of words.old) self.old) self.old }
+        ensures steps { AddsAt (site_of (W.frames_of words.old) (W.grants_of words.old) self.old) self.old (steps_of result.access result.said) self.new }
         ensures made { Makes W.makes words.old result.access words.new }
         ensures stays { AccessIn (held_of self.old) result.access }
         ensures dom { dom_of self.new ≡ dom_of self.old }
@@ -68,7 +68,7 @@ impl Device {
 
     /// Whether the next step isn't idle.
     pub fn due(&self) -> bool
-        ensures { (site : Site) → site.parts ≡ parts_of self.now → result ≡ not (at_rest (display site) (stand_of site self.now)) }
+        ensures { (kind : DeviceKind) (site : Site) (es : List Own) → StandsFor kind site self.now es → IsSettled kind site es → result ≡ not (rests_after kind site es) }
     {
         match self {
             Device::Display(display) => display.due(),

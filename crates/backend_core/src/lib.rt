@@ -1,9 +1,11 @@
-//! A device of any kind, one step at a time.
+//! A device of any kind, one step at a time, and what every journal of devices is.
 #![tactic(auto)]
 
 mod device;
+mod laws;
 
 pub use device::Device;
+pub use laws::{fronts_are_histories, histories_are_runs, listing_suffices};
 
 #[cfg(test)]
 mod tests;

@@ -3,7 +3,8 @@ ghost use Rattle.std.proofs.Common.{refl};
 ghost use Rattle.std.proofs.lemmas.Bool.{true≢false};
 
 use super::*;
-use display_backend::{Display, Step};
+use device_core::Step;
+use display_backend::Display;
 use pv_words::{DomId, Half, HostEvent, HostRefusal, NodeValue, Place, Reason, Said, State, Words};
 use std::test::Fail;
 use xenbus_states::Nodes;

@@ -2,4 +2,5 @@ pub mod Drawing
 pub mod MachineRun
 pub mod Passing
 pub mod Runs
+pub mod Stations
 pub mod Steps

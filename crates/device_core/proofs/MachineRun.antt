@@ -309,7 +309,7 @@ module _ {W O N R E : Type 0} (r : Rules W O) (d : Reading W O N R E) (Proper : 
   proper_next (During w p) a h g m = proper_gone w p a h g.1 m
   proper_next (Telling t w o) a h g m = absurd m
 
-  proper_follow : (s : Stand W O) (owes : Option HostRefusal) (a : Access) (h : Holds) → IsGood s h → MayFollowWith r s owes (Did a) → Proper h (wanted a) (note_at r s (Did a))
+  pub proper_follow : (s : Stand W O) (owes : Option HostRefusal) (a : Access) (h : Holds) → IsGood s h → MayFollowWith r s owes (Did a) → Proper h (wanted a) (note_at r s (Did a))
   proper_follow s None a h g m = proper_next s a h g m
   proper_follow s (Some why) a h g m = absurd m
 

@@ -31,7 +31,8 @@ use Rattle.display_backend.specs.declared.display.Round.{Round}
 use Rattle.display_backend.specs.Activity.{is_connected}
 use Rattle.display_backend.specs.Display.{stand_at, stand_in, stock_in, all_held, parts_in, connecting, number_in, number_at, refs_at, refs_from, look_from, take_from, answer_from, sleeping}
 use Rattle.display_backend.specs.Goes.{Closes, GoesOut, Told, Comes, Begins, fault_in}
-use Rattle.display_backend.specs.Machine.{Site, Refs, Problem, part_refs, all_refs, with_ring_ref, with_channel, with_event_ref, with_channels, added, all_with}
+use Rattle.device_core.specs.Site.{Site}
+use Rattle.display_backend.specs.Machine.{Refs, Problem, part_refs, all_refs, with_ring_ref, with_channel, with_event_ref, with_channels, added, all_with}
 use Rattle.display_backend.specs.Reply.{reply_to}
 use Rattle.display_backend.specs.Whole.{Whole}
 use Rattle.display_backend.specs.Work.{Work, End, Saw, Took, Listed, Freed, Answered, Slept, Met, Denied, Lacked, Shut, Left, Renewed, Served, display, choice, settled, said_at, shut, entered, all_pages, sleep_all, connect_all, status_of, with_closing, with_kept, with_action, with_state, with_hand, close, answers, takes_from, looks_at}

@@ -26,7 +26,8 @@ use Rattle.display_backend.specs.declared.display.Activity.{Activity}
 use Rattle.display_backend.specs.declared.display.Activity.TheVariants as activity
 use Rattle.display_backend.specs.Display.{answer_from, freeing_plan, stock_in}
 use Rattle.display_backend.specs.Goes.{Comes, Begins}
-use Rattle.display_backend.specs.Machine.{Site, Hand, is_accepted, no_memory}
+use Rattle.device_core.specs.Site.{Site}
+use Rattle.display_backend.specs.Machine.{Hand, is_accepted, no_memory}
 use Rattle.display_backend.specs.Reply.{reply_to}
 use Rattle.display_backend.specs.Work.{Work, End, Listed, Answered, display, answers, answer_of, decides, frees, freeing, maps, part_of, starved}
 use Rattle.display_backend.proofs.Choices.{answers_is}

@@ -24,7 +24,8 @@ use Rattle.display_backend.specs.declared.display.Progress.TheVariants as progre
 use Rattle.display_backend.specs.declared.display.Round.{Round}
 use Rattle.display_backend.specs.Activity.{is_open, is_walking}
 use Rattle.display_backend.specs.Display.{stock_in, freeing_plan}
-use Rattle.display_backend.specs.Machine.{Site, verdict}
+use Rattle.device_core.specs.Site.{Site}
+use Rattle.display_backend.specs.Machine.{verdict}
 use Rattle.display_backend.specs.Reply.{status_in}
 use Rattle.display_backend.specs.Whole.{Whole, HavePagesBut, InHand, ComesTo, IsReleased, IsFreeing, Stands, Stored}
 use Rattle.display_backend.specs.Work.{Work, End, Freed, display, said_at, settled}

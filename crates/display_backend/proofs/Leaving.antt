@@ -24,7 +24,7 @@ use Rattle.display_backend.specs.declared.display.Round.TheVariants as round
 use Rattle.display_backend.specs.Activity.{is_open}
 use Rattle.display_backend.specs.Display.{all_held, parts_in, met_links, later, connect_from, stand_in, number_at, refs_from, leaving_plan, stand_at}
 use Rattle.display_backend.specs.Goes.{GoesOut}
-use Rattle.display_backend.specs.Machine.{Site}
+use Rattle.device_core.specs.Site.{Site}
 use Rattle.display_backend.specs.Whole.{Whole}
 use Rattle.display_backend.specs.Work.{Work, End, Met, display, all_pages, after_part, connect_parts}
 use Rattle.display_backend.proofs.Held.{cons_of, nil_of, held_so_far}

@@ -16,7 +16,7 @@ use Rattle.device_core.specs.Order.{Act, Stand, Between, Steps, Went, MayStep}
 use Rattle.device_core.proofs.Steps.{steps_during, steps_said}
 use Rattle.display_backend.specs.declared.display.Ending.{Ending}
 use Rattle.display_backend.specs.declared.display.Ending.TheVariants as ending
-use Rattle.display_backend.specs.Machine.{Site}
+use Rattle.device_core.specs.Site.{Site}
 use Rattle.display_backend.specs.Display.{why_of, stuck, stand_at, end_of, reason_of, refs_from, refs_at}
 use Rattle.display_backend.specs.Goes.{Closes, GoesOut}
 use Rattle.display_backend.proofs.Stocks.{bare_stripped}

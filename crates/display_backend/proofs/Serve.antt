@@ -22,7 +22,7 @@ use Rattle.link_core.proofs.Links.{whole_sleep, rsp_joined}
 use Rattle.device_core.proofs.Steps.{turn_ends, turn_goes_on}
 use Rattle.display_backend.specs.declared.display.Activity.{Activity}
 use Rattle.display_backend.specs.declared.display.Activity.TheVariants as activity
-use Rattle.display_backend.specs.Machine.{Site}
+use Rattle.device_core.specs.Site.{Site}
 use Rattle.display_backend.specs.Display.{why_of, stuck, stand_at, stand_in, sleep_from, sleeping}
 use Rattle.display_backend.specs.Work.{Work, End, Slept, display, settled, said_at, sleep_all, sleeps_on, ring_page, told, refusal_at}
 use Rattle.display_backend.proofs.Held.{page_shown}

@@ -16,7 +16,8 @@ use Rattle.display_backend.specs.declared.waiting.Waiting.{Waiting}
 use Rattle.host_events.specs.Queue.{behind}
 use Rattle.display_backend.specs.Display.{hand_of}
 use Rattle.display_backend.specs.Goes.{Begins}
-use Rattle.display_backend.specs.Machine.{Site, Hand, verdict, is_accepted}
+use Rattle.device_core.specs.Site.{Site}
+use Rattle.display_backend.specs.Machine.{Hand, verdict, is_accepted}
 use Rattle.display_backend.specs.Reply.{status_in}
 use Rattle.display_backend.specs.Work.{Work, End, display, with_hand, with_waiting, with_left, Served, said_of, said_at, settled, in_round, goes_on, decides, maps, frees, answers, part_of, takes_from}
 use Rattle.display_backend.proofs.Choices.{comes_on}

@@ -3,7 +3,8 @@ use Rattle.std.proofs.Common.{◌≡◌, ℕ, zero, suc, ◌+◌, ◌<◌, ◌�
 use Rattle.pv_words.specs.declared.device.NodeFault.{NodeFault}
 use Rattle.pv_words.specs.declared.device.NodeValue.{NodeValue}
 use Rattle.xenbus_states.specs.Nodes.{node_at, needed}
-use Rattle.display_backend.specs.Machine.{Site, Refs, Problem, IsAskedFor, with_channels, with_event_ref, with_channel, with_ring_ref, part_refs, all_with, all_refs}
+use Rattle.device_core.specs.Site.{Site}
+use Rattle.display_backend.specs.Machine.{Refs, Problem, IsAskedFor, with_channels, with_event_ref, with_channel, with_ring_ref, part_refs, all_with, all_refs}
 
 channels_of : (part ring event : ℕ) (x : Result ℕ NodeFault) (r : Refs) → with_channels part ring event x ≡ Ok r → (ring ≡ r.ring) × (event ≡ r.event)
 channels_of part ring event (Err f) r e = let wrong : ⊥ = cc in absurd wrong

@@ -30,7 +30,8 @@ use Rattle.display_backend.specs.declared.display.Progress.{Progress}
 use Rattle.display_backend.specs.declared.display.Progress.TheVariants as progress
 use Rattle.display_backend.specs.declared.display.Round.{Round}
 use Rattle.display_backend.specs.declared.display.Round.TheVariants as round
-use Rattle.display_backend.specs.Machine.{Site, Hand, is_accepted, verdict}
+use Rattle.device_core.specs.Site.{Site}
+use Rattle.display_backend.specs.Machine.{Hand, is_accepted, verdict}
 use Rattle.display_backend.specs.Work.{Work, Naming, End, Saw, Took, Listed, Freed, Answered, Slept, Met, Denied, Lacked, Shut, Left, Renewed, Served, all_pages, looks_at, in_round, takes_from, with_left, with_waiting, answers, maps, frees, decides, goes_on, part_of, status_of, with_hand, with_state, with_action, with_kept, with_closing, choice, reading, settled, shut, entered, after_look, after_sleep, after_answer, after_walk, stock_after}
 use Rattle.display_backend.proofs.SoundActions.{closed_apart}
 use Rattle.display_backend.proofs.SoundAnswer.{answer_same, answer_sound, answer_none, answered_done}

@@ -31,7 +31,8 @@ use Rattle.display_backend.specs.declared.display.Progress.TheVariants as progre
 use Rattle.display_backend.specs.declared.waiting.Waiting.{Waiting}
 use Rattle.display_backend.specs.Waiting.{waiting_of}
 use Rattle.host_events.specs.Queue.{unless}
-use Rattle.display_backend.specs.Machine.{Hears, Site, Rows, Hand, Refs, IsReason, all_refs, IsStatus, first_rows, owes, verdict, is_accepted}
+use Rattle.device_core.specs.Site.{Site}
+use Rattle.display_backend.specs.Machine.{Hears, Rows, Hand, Refs, IsReason, all_refs, IsStatus, first_rows, owes, verdict, is_accepted}
 use Rattle.display_backend.specs.Reply.{status_in}
 use Rattle.display_backend.specs.Work.{Work, Naming, End, Saw, Took, Listed, Freed, Answered, Slept, Met, Denied, Lacked, Shut, Left, Renewed, Served, all_pages, after_look, after_sleep, after_answer, after_walk, settled, told, rows_of, is_denied, reading, display, refused_at, replied_in, said_at}
 use Rattle.display_backend.proofs.SoundPlans.{AllOwn}

@@ -28,7 +28,8 @@ use Rattle.display_backend.specs.declared.display.Round.{Round}
 use Rattle.display_backend.specs.Activity.{is_open}
 use Rattle.display_backend.specs.Display.{stock_in}
 use Rattle.display_backend.specs.Goes.{Comes}
-use Rattle.display_backend.specs.Machine.{Site, verdict}
+use Rattle.device_core.specs.Site.{Site}
+use Rattle.display_backend.specs.Machine.{verdict}
 use Rattle.display_backend.specs.Reply.{reply_to, status_in}
 use Rattle.display_backend.specs.Whole.{Whole, Settled, ComesTo, Creates, Walks, IsWalking, Stands, Stored}
 use Rattle.display_backend.specs.Work.{Work, End, Listed, display, said_at, settled, after_walk}

@@ -20,7 +20,8 @@ use Rattle.display_backend.specs.declared.display.Round.{Round}
 use Rattle.display_backend.specs.declared.waiting.Waiting.{Waiting}
 use Rattle.display_backend.specs.Activity.{is_open, is_connected, is_connecting, is_serving, MayServe}
 use Rattle.display_backend.specs.Display.{parts_in, hand_of, stock_in, stand_in}
-use Rattle.display_backend.specs.Machine.{Hand, Site, is_accepted}
+use Rattle.device_core.specs.Site.{Site}
+use Rattle.display_backend.specs.Machine.{Hand, is_accepted}
 use Rattle.display_backend.specs.Work.{Work, counted, status_of, after_answer}
 use Rattle.display_backend.specs.Work.{stock_after as after_stock}
 use Rattle.display_backend.proofs.Lists.{map_set_same, map_set, get_map}

@@ -26,7 +26,8 @@ use Rattle.display_backend.specs.declared.display.Activity.TheVariants as activi
 use Rattle.display_backend.specs.declared.display.Ending.{Ending}
 use Rattle.display_backend.specs.declared.display.Ending.TheVariants as ending
 use Rattle.display_backend.specs.Activity.{is_open, is_connecting}
-use Rattle.display_backend.specs.Machine.{Site, Hand, Refs}
+use Rattle.device_core.specs.Site.{Site}
+use Rattle.display_backend.specs.Machine.{Hand, Refs}
 use Rattle.display_backend.specs.Work.{Work, End, Took, Listed, Freed, Answered, Slept, Denied, Shut, sleeps_on, sleep_all, after_part, connect_parts}
 
 -- the domain that it serves

@@ -8,7 +8,8 @@ use Rattle.pv_words.specs.declared.device.Reason.TheVariants as reason
 use Rattle.pv_words.specs.Memory.{place_of}
 use Rattle.pv_words.specs.Plan.{Plan, Finished}
 use Rattle.device_core.specs.Order.{Order, Act, Either, Rest, Stand, Between, GoesOn, is_in_page}
-use Rattle.display_backend.specs.Machine.{Site, Problem}
+use Rattle.device_core.specs.Site.{Site}
+use Rattle.display_backend.specs.Machine.{Problem}
 use Rattle.display_backend.specs.Work.{Work, End, Denied, Shut, display, shut, said_at, settled}
 
 -- an activity that closes the connection, for this reason

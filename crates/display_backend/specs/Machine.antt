@@ -28,6 +28,7 @@ use Rattle.display_buffers.specs.declared.live.Live.{Live}
 use Rattle.display_buffers.specs.Buffers.{buffer_of, check_of, with_buffer, without_buffer}
 use Rattle.grant_table.specs.Laws.{IsCause}
 use Rattle.device_core.specs.Order.{News, Sets, Hosts}
+use Rattle.device_core.specs.Site.{Site}
 use Rattle.page_directory.specs.Laws as walk
 use Rattle.ring_words.specs.Ring.{since}
 use Rattle.xenbus_states.specs.declared.back.Action.TheVariants as action
@@ -107,13 +108,6 @@ all_with (Ok r) rest = added r rest
 abbrev pub all_refs : List NodeValue → ℕ → ℕ → Result (List Refs) Problem
 all_refs nodes part zero = Ok []
 all_refs nodes part (suc n) = all_with (part_refs nodes part) (all_refs nodes (part + 1) n)
-
--- whose device it is, how many parts it has, and how many frames and grant entries the domain has
-pub record Site : Type 0 where
-  pub dom : ℕ
-  pub parts : ℕ
-  pub frames : ℕ
-  pub grants : ℕ
 
 -- a request, and the part whose ring it came by
 pub record Hand : Type 0 where

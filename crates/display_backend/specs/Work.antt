@@ -44,7 +44,8 @@ use Rattle.display_backend.specs.declared.waiting.Waiting.{Waiting}
 use Rattle.display_backend.specs.declared.waiting.Waiting.TheVariants as waiting
 use Rattle.display_backend.specs.Waiting.{waiting_of}
 use Rattle.host_events.specs.Queue.{behind, refusal_of, unless}
-use Rattle.display_backend.specs.Machine.{Site, Rows, Hand, Refs, Problem, Event, Says, Hears, Begins, Moves, all_refs, verdict, is_accepted, is_creation, makes, owes}
+use Rattle.device_core.specs.Site.{Site}
+use Rattle.display_backend.specs.Machine.{Rows, Hand, Refs, Problem, Event, Says, Hears, Begins, Moves, all_refs, verdict, is_accepted, is_creation, makes, owes}
 use Rattle.display_backend.specs.Reply.{reply_to, replied, status_in}
 
 -- what the display knows between two activities, and what of it stays known in one

@@ -115,7 +115,7 @@ impl Display {
     ghost use Rattle.display_backend.specs.declared.display.Activity.TheVariants as activity;
     ghost use Rattle.display_backend.specs.Display.{dom_of, parts_of, Same, held_of, all_held, walk_pages, site_of, work_of, stand_of};
     ghost use Rattle.display_backend.specs.Goes.{Begins};
-    ghost use Rattle.display_backend.specs.Machine.{Site};
+    ghost use Rattle.device_core.specs.Site.{Site};
     ghost use Rattle.display_backend.specs.Waiting.{is_for};
     ghost use Rattle.host_events.specs.Queue.{refusal_in};
     ghost use Rattle.display_backend.specs.Work.{display, refusal_at, first_work, choice};

@@ -9,7 +9,7 @@ use Rattle.pv_words.specs.Memory.{memory_after, remembered}
 use Rattle.pv_words.specs.Port.{IsListed}
 use Rattle.device_core.specs.Order.{News, Own, Heard, Stand, May, IsExplained, next, made_by}
 use Rattle.backend_core.specs.Device as backend
-use Rattle.display_backend.specs.Machine.{Site}
+use Rattle.device_core.specs.Site.{Site}
 use Rattle.display_backend.specs.Work.{Work, End, display}
 use Rattle.pv_world.specs.declared.world.Placed.{Placed}
 use Rattle.pv_world.specs.Marked.{Item, entries, nodes_in, nodes_next, told_in}

@@ -20,7 +20,7 @@ use Rattle.pv_words.specs.Port.{PortMay, IsListed}
 use Rattle.pv_words.proofs.Listing.{listed_other, listed_own, port_may}
 use Rattle.device_core.specs.Order.{Own, Did, Stand, Steps, MayStep, steps_of, next, May, IsExplained, made_by, note_at}
 use Rattle.device_core.proofs.MachineRun.{IsGood, good_after, proper_next, may_step}
-use Rattle.display_backend.specs.Machine.{Site}
+use Rattle.device_core.specs.Site.{Site}
 use Rattle.backend_core.specs.Device as backend
 use Rattle.display_backend.specs.Work.{Work, End, display, reading}
 use Rattle.display_backend.proofs.Sound.{sound, first_good}

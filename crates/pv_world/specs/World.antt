@@ -22,7 +22,7 @@ use Rattle.pv_world.specs.declared.world.World.{World}
 use Rattle.pv_world.specs.Record.{Shows, progress}
 use Rattle.pv_world.specs.Marked.{Item, Entered, Idle, entries, host_item, nodes_in, items_of, accesses_in, IsStepOf, AreSteps}
 use Rattle.xenbus_states.specs.Nodes.{no_nodes}
-use Rattle.display_backend.specs.Machine.{Site}
+use Rattle.device_core.specs.Site.{Site}
 use Rattle.pv_world.specs.History.{IsHistory, AreApart, first_stand, parts_of, site_of, stand_after, held_in}
 
 -- what a machine shows of itself

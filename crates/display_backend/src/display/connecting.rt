@@ -56,7 +56,7 @@ impl Display {
     ghost use Rattle.display_backend.specs.declared.display.Activity.TheVariants as activity;
     ghost use Rattle.display_backend.specs.Display.{dom_of, parts_of, Same, held_of, given_up, site_of, work_of, stand_of, number_at, connecting, leaving_plan, reason_of, later, met_links};
     ghost use Rattle.display_backend.specs.Goes.{GoesOut, Begins};
-    ghost use Rattle.display_backend.specs.Machine.{Site};
+    ghost use Rattle.device_core.specs.Site.{Site};
     ghost use Rattle.display_backend.specs.Work.{display, shut, close, with_action, entered};
     ghost use Rattle.xenbus_states.specs.Connection.{action_of};
     ghost use Rattle.xenbus_states.specs.declared.back.Action.TheVariants as action;

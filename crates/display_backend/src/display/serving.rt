@@ -77,7 +77,7 @@ impl Display {
     ghost use Rattle.display_backend.specs.declared.display.Activity.TheVariants as activity;
     ghost use Rattle.display_backend.specs.Display.{dom_of, parts_of, Same, held_of, site_of, work_of, stand_of, hand_of, look_from, take_from, walk_from, freeing_plan, answer_from, sleeping};
     ghost use Rattle.display_backend.specs.Goes.{Comes, Begins};
-    ghost use Rattle.display_backend.specs.Machine.{Site};
+    ghost use Rattle.device_core.specs.Site.{Site};
     ghost use Rattle.display_backend.specs.Work.{display, Saw, Took, Listed, Answered, Slept, with_hand, maps, decides, next_look, part_in};
 
     // The first step of what comes next while all parts are connected.

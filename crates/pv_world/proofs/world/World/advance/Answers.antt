@@ -3,7 +3,7 @@ use Rattle.pv_world.specs.Marked.{items_of}
 use Rattle.pv_words.specs.declared.place.DevId.{DevId}
 use Rattle.pv_words.specs.declared.place.Who.TheVariants.{Dev}
 use Rattle.device_core.specs.Order.{Steps}
-use Rattle.display_backend.specs.Machine.{Site}
+use Rattle.device_core.specs.Site.{Site}
 use Rattle.display_backend.specs.Work.{display}
 use Rattle.backend_core.specs.Device as backend
 use Rattle.pv_world.specs.declared.world.Placed.{Placed}

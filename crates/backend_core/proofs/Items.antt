@@ -9,9 +9,9 @@ use Rattle.pv_words.specs.declared.device.Said.TheVariants as said
 use Rattle.pv_words.specs.declared.device.NodeValue.{NodeValue}
 use Rattle.pv_words.specs.Along.{after}
 use Rattle.device_core.specs.Order.{Own, Did, Spoke, Rested, Others, steps_of}
-use Rattle.pv_world.specs.Marked.{Item, Entered, Idle, Refuses, entries, told_by, told_in, own_from, node_set, nodes_next, entry_of, items_of, is_access, accesses_in, IsStepOf, AreSteps}
-use Rattle.pv_world.specs.Record.{progress}
-use Rattle.pv_world.proofs.Others.{AreOthers}
+use Rattle.backend_core.specs.Marked.{Item, Entered, Idle, entries, told_by, told_in, own_from, node_set, nodes_next, entry_of, items_of, is_access, accesses_in, IsStepOf, AreSteps}
+use Rattle.backend_core.specs.Marked.{progress}
+use Rattle.device_core.proofs.Stations.{AreOthers}
 
 abbrev pub rest_of : DevId → Option Said → List Item
 rest_of dev None = []
@@ -33,7 +33,6 @@ pub entries_append : (m n : List Item) → entries (m ++ n) ≡ entries m ++ ent
 entries_append [] n = refl
 entries_append (Entered e ∷ m) n = ap (λ (es : List Entry). e ∷ es) (entries_append m n)
 entries_append (Idle d ∷ m) n = entries_append m n
-entries_append (Refuses dev e why ∷ m) n = ap (λ (es : List Entry). entry.Host dev e ∷ entry.Refused dev why ∷ es) (entries_append m n)
 
 pub own_append : (d : ℕ) (nodes : List NodeValue) (m n : List Item) → own_from d nodes (m ++ n) ≡ own_from d nodes m ++ own_from d (after (nodes_next d) nodes m) n
 own_append d nodes [] n = refl
@@ -194,12 +193,10 @@ steps_front : (d : ℕ) (m : List Item) (due : Entry) (n : List Item) → AreSte
 steps_front d [] due n h = (tt, h.0)
 steps_front d (Entered e ∷ m) due n h = let t = steps_front d m due n h.1 in ((h.0, t.0), t.1)
 steps_front d (Idle dev ∷ m) due n h = absurd h
-steps_front d (Refuses dev e why ∷ m) due n h = absurd h
 
 has_entry : (m : List Item) (due : Entry) (n : List Item) (d : ℕ) → m ++ Entered due ∷ n ≡ Idle d ∷ [] → ⊥
 has_entry [] due n d e = cc
 has_entry (Entered f ∷ m) due n d e = cc
-has_entry (Refuses dev f why ∷ m) due n d e = cc
 has_entry (Idle c ∷ []) due n d e = let rest : Entered due ∷ n ≡ [] = cc in let wrong : ⊥ = cc in wrong
 has_entry (Idle c ∷ i ∷ m) due n d e = let rest : i ∷ (m ++ Entered due ∷ n) ≡ [] = cc in let wrong : ⊥ = cc in wrong
 
@@ -213,4 +210,3 @@ pub steps_append : (d : ℕ) (m n : List Item) → AreSteps d m → AreSteps d n
 steps_append d [] n a b = b
 steps_append d (Entered e ∷ m) n a b = (a.0, steps_append d m n a.1 b)
 steps_append d (Idle c ∷ m) n a b = absurd a
-steps_append d (Refuses dev e why ∷ m) n a b = absurd a

@@ -1,4 +1,4 @@
--- A journal with marks where a device was idle, and with each refused event of a host beside its refusal.
+-- A journal with marks where a device was idle, and what one device does and hears in it.
 use Rattle.std.specs.Prelude.{◌≡◌, ℕ, ◌==◌, ◌+◌, Bool, true, false, List, [], ◌∷◌, ◌++◌, Option, Some, None, if◌then◌else◌}
 use Rattle.pv_words.specs.declared.access.Access.{Access}
 use Rattle.pv_words.specs.declared.entry.Entry.{Entry}
@@ -11,63 +11,49 @@ use Rattle.pv_words.specs.declared.device.HostEvent.{HostEvent}
 use Rattle.pv_words.specs.declared.device.HostRefusal.{HostRefusal}
 use Rattle.pv_words.specs.declared.device.NodeValue.{NodeValue}
 use Rattle.pv_words.specs.Along.{after}
-use Rattle.device_core.specs.Order.{Sets, Hosts, Own, Did, Spoke, Rested, Heard, Others}
+use Rattle.device_core.specs.Order.{Sets, Hosts, Own, Did, Spoke, Rested, Heard, Refused, Others}
 use Rattle.xenbus_states.specs.Nodes.{no_nodes, with_node}
 
--- An entry; or a mark: the device of this number was stepped and was idle; or the two entries of an event that a host told a
--- device, and of its refusal, which directly follows it.
+-- An entry; or a mark: the device of this number was stepped and was idle.
 pub data Item : Type 0 where
   Entered : Entry → Item
   Idle : ℕ → Item
-  Refuses : DevId → HostEvent → HostRefusal → Item
 
 -- the journal itself
 abbrev pub entries : List Item → List Entry
 entries [] = []
 entries (Entered e ∷ m) = e ∷ entries m
 entries (Idle d ∷ m) = entries m
-entries (Refuses dev e why ∷ m) = entry.Host dev e ∷ entry.Refused dev why ∷ entries m
 
 -- the nodes of the device of this number, after one more entry
 abbrev pub node_set : ℕ → List NodeValue → Entry → List NodeValue
 node_set d nodes (entry.Node dev part key v) = if dev.0 == d then with_node nodes part key v else nodes
-node_set d nodes (entry.Back dev a) = nodes
-node_set d nodes (entry.Said dev s) = nodes
-node_set d nodes (entry.Bus dev end s) = nodes
-node_set d nodes (entry.Front dom a) = nodes
-node_set d nodes (entry.Wake dev) = nodes
-node_set d nodes (entry.Host dev e) = nodes
-node_set d nodes (entry.Refused dev r) = nodes
-node_set d nodes (entry.Told dom t) = nodes
+node_set d nodes other = nodes
 
 abbrev pub nodes_next : ℕ → List NodeValue → Item → List NodeValue
 nodes_next d nodes (Entered e) = node_set d nodes e
 nodes_next d nodes (Idle dev) = nodes
-nodes_next d nodes (Refuses dev e why) = nodes
 
 -- the nodes as they were set in the journal
 abbrev pub nodes_in : ℕ → List Item → List NodeValue
 nodes_in d m = after (nodes_next d) no_nodes m
 
 -- What an entry tells of the device of this number, while its nodes stand so: a state that it says is entered as a state
--- of the bus, and one that its frontend sets is heard, and so is an event of its host, which isn't refused where it stands
--- alone. An access of a domain, or of another device, is another's.
+-- of the bus, and one that its frontend sets is heard, and so is an event of its host, which it may refuse. An access of a
+-- domain, or of another device, is another's.
 abbrev pub told_by : ℕ → List NodeValue → Entry → List Own
 told_by d nodes (entry.Back dev a) = if dev.0 == d then Did a ∷ [] else Others a ∷ []
 told_by d nodes (entry.Said dev s) = if dev.0 == d then Spoke s ∷ [] else []
 told_by d nodes (entry.Bus dev end.Back s) = if dev.0 == d then Spoke (said.State s) ∷ [] else []
 told_by d nodes (entry.Bus dev end.Front s) = if dev.0 == d then Heard (Sets s nodes) ∷ [] else []
+told_by d nodes (entry.Host dev e) = if dev.0 == d then Heard (Hosts e) ∷ [] else []
+told_by d nodes (entry.Refused dev why) = if dev.0 == d then Refused why ∷ [] else []
 told_by d nodes (entry.Front dom a) = Others a ∷ []
-told_by d nodes (entry.Wake dev) = []
-told_by d nodes (entry.Host dev e) = if dev.0 == d then Heard (Hosts e None) ∷ [] else []
-told_by d nodes (entry.Refused dev r) = []
-told_by d nodes (entry.Node dev p k v) = []
-told_by d nodes (entry.Told dom t) = []
+told_by d nodes other = []
 
 abbrev pub told_in : ℕ → List NodeValue → Item → List Own
 told_in d nodes (Entered e) = told_by d nodes e
 told_in d nodes (Idle dev) = if dev == d then Rested ∷ [] else []
-told_in d nodes (Refuses dev e why) = if dev.0 == d then Heard (Hosts e (Some why)) ∷ [] else []
 
 -- what the device of this number does and hears, with the accesses of others, in order
 abbrev pub own_from : ℕ → List NodeValue → List Item → List Own
@@ -80,22 +66,12 @@ own d m = own_from d no_nodes m
 -- how what a device says is entered
 abbrev pub entry_of : DevId → Said → Entry
 entry_of dev (said.State s) = entry.Bus dev end.Back s
-entry_of dev (said.Request part id op) = entry.Said dev (said.Request part id op)
-entry_of dev (said.Denied r) = entry.Said dev (said.Denied r)
-entry_of dev (said.Replied part id status n) = entry.Said dev (said.Replied part id status n)
-entry_of dev (said.Raised part cookie) = entry.Said dev (said.Raised part cookie)
-entry_of dev (said.Pos part position) = entry.Said dev (said.Pos part position)
-entry_of dev (said.Full part) = entry.Said dev (said.Full part)
-entry_of dev (said.Blank part) = entry.Said dev (said.Blank part)
-entry_of dev (said.Shown part pixels mark) = entry.Said dev (said.Shown part pixels mark)
-entry_of dev (said.Moved part octets mark) = entry.Said dev (said.Moved part octets mark)
-entry_of dev (said.Published events) = entry.Said dev (said.Published events)
-entry_of dev (said.Closed why) = entry.Said dev (said.Closed why)
+entry_of dev other = entry.Said dev other
 
 -- an event of a host, and its refusal, if it is refused
-abbrev pub host_item : DevId → HostEvent → Option HostRefusal → Item
-host_item dev e None = Entered (entry.Host dev e)
-host_item dev e (Some why) = Refuses dev e why
+abbrev pub host_items : DevId → HostEvent → Option HostRefusal → List Item
+host_items dev e None = Entered (entry.Host dev e) ∷ []
+host_items dev e (Some why) = Entered (entry.Host dev e) ∷ Entered (entry.Refused dev why) ∷ []
 
 -- the entries of one step of a device, or the mark where it was idle
 abbrev pub items_of : DevId → Option Access → Option Said → List Item
@@ -109,36 +85,26 @@ abbrev pub IsStepOf : ℕ → Entry → Type 0
 IsStepOf d (entry.Back dev a) = dev.0 ≡ d
 IsStepOf d (entry.Said dev s) = dev.0 ≡ d
 IsStepOf d (entry.Bus dev end.Back s) = dev.0 ≡ d
-IsStepOf d (entry.Bus dev end.Front s) = ⊥
-IsStepOf d (entry.Front dom a) = ⊥
-IsStepOf d (entry.Wake dev) = ⊥
-IsStepOf d (entry.Host dev e) = ⊥
-IsStepOf d (entry.Refused dev r) = ⊥
-IsStepOf d (entry.Node dev p k v) = ⊥
-IsStepOf d (entry.Told dom t) = ⊥
+IsStepOf d other = ⊥
 
 -- steps of a device, with no mark
 abbrev pub AreSteps : ℕ → List Item → Type 0
 AreSteps d [] = Unit {0}
 AreSteps d (Entered e ∷ m) = IsStepOf d e × AreSteps d m
 AreSteps d (Idle dev ∷ m) = ⊥
-AreSteps d (Refuses dev e why ∷ m) = ⊥
 
 -- an access of the device
 abbrev pub is_access : Item → Bool
 is_access (Entered (entry.Back dev a)) = true
-is_access (Entered (entry.Said dev s)) = false
-is_access (Entered (entry.Bus dev end s)) = false
-is_access (Entered (entry.Front dom a)) = false
-is_access (Entered (entry.Wake dev)) = false
-is_access (Entered (entry.Host dev e)) = false
-is_access (Entered (entry.Refused dev r)) = false
-is_access (Entered (entry.Node dev p k v)) = false
-is_access (Entered (entry.Told dom t)) = false
-is_access (Idle dev) = false
-is_access (Refuses dev e why) = false
+is_access other = false
 
 -- how many accesses of devices there are
 abbrev pub accesses_in : List Item → ℕ
 accesses_in [] = 0
 accesses_in (i ∷ m) = (if is_access i then 1 else 0) + accesses_in m
+
+-- what a step did: it made an access (true), or said something alone (false), or was idle (None)
+abbrev pub progress : Option Access → Option Said → Option Bool
+progress None None = None
+progress None (Some s) = Some false
+progress (Some a) s = Some true

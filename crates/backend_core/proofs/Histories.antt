@@ -1,5 +1,6 @@
 -- A history goes on.
-use Rattle.std.proofs.Common.{◌≡◌, ℕ, ◌<◌, ◌==◌, cond, List, [], ◌∷◌, ◌++◌, refl, sym, subst, ◌∙◌, ap}
+use Rattle.std.proofs.Common.{◌≡◌, ℕ, ◌<◌, ◌==◌, cond, List, [], ◌∷◌, ◌++◌, refl, sym, subst, ◌∙◌, ap, append_assoc}
+use Rattle.std.proofs.lemmas.List.{append-nil}
 use Rattle.std.specs.List.{AllByRecursion}
 use Rattle.pv_words.specs.declared.access.Access.{Access}
 use Rattle.pv_words.specs.declared.access.Access.TheVariants as access
@@ -8,19 +9,15 @@ use Rattle.pv_words.specs.declared.place.Place.{Place}
 use Rattle.pv_words.specs.declared.place.Place.TheVariants.{Cell, Grant}
 use Rattle.pv_words.specs.declared.setup.DeviceSetup.{DeviceSetup}
 use Rattle.pv_words.specs.Along.{after, Along, after-append, Along-append}
-use Rattle.pv_words.specs.Held.{Made, holding, holds_of}
 use Rattle.pv_words.specs.Memory.{Memory, Finds, IsLawful, IsTrueOf, access_of, memory_after, place_of, remembered, without, written, zeros}
 use Rattle.pv_words.specs.Place.{InRange, same_place}
 use Rattle.pv_words.specs.Plan.{aim_of, wanted}
-use Rattle.device_core.specs.Order.{Own, Did, Spoke, Rested, Heard, Others, Rules, Stand, next, May, IsExplained, made_by, note_at}
-use Rattle.display_backend.specs.Work.{Work, End, display}
-use Rattle.pv_world.specs.Marked.{Item, entries, own, own_from, nodes_in, nodes_next}
-use Rattle.pv_world.specs.History.{IsHistory, BelongsIn, IsExplainedIn, first_stand, held_in, made_in, site_of, stand_after}
-use Rattle.pv_world.proofs.Items.{entries_append, own_append}
-
-pub along_front : {S E : Type 0} (step : S → E → S) (may : S → E → Type 0) (s : S) (es fs : List E) → Along step may s (es ++ fs) → Along step may s es
-along_front step may s [] fs h = tt
-along_front step may s (e ∷ es) fs h = (h.0, along_front step may (step s e) es fs h.1)
+use Rattle.device_core.specs.Order.{Own}
+use Rattle.backend_core.specs.Marked.{Item, entries, own, own_from, nodes_in, nodes_next}
+use Rattle.backend_core.specs.History.{IsHistory, BelongsIn, IsDirect, IsExplainedIn, IsPromptIn, site_of}
+use Rattle.backend_core.specs.Kinds.{Continues, IsExplained, due_after, owed_after}
+use Rattle.backend_core.proofs.Items.{entries_append, own_append}
+use Rattle.backend_core.proofs.EachKind.{along_front, continues_append, continues_front}
 
 pub all_front : {X : Type 0} (P : X → Type 0) (xs ys : List X) → AllByRecursion P (xs ++ ys) → AllByRecursion P xs
 all_front P [] ys h = tt
@@ -41,15 +38,6 @@ all_with P Q R f (x ∷ xs) h k = (f x h.0 k.0, all_with P Q R f xs h.1 k.1)
 pub all_of : {X : Type 0} (P : X → Type 0) → ((x : X) → P x) → (xs : List X) → AllByRecursion P xs
 all_of P f [] = tt
 all_of P f (x ∷ xs) = (f x, all_of P f xs)
-
--- the accesses of what a device does and then does
-made_append : {W O : Type 0} (r : Rules W O) (s : Stand W O) (es fs : List Own) → made_by r s (es ++ fs) ≡ made_by r s es ++ made_by r (after (next r) s es) fs
-made_append r s [] fs = refl
-made_append r s (Did a ∷ es) fs = ap (λ (ms : List Made). record { access = a; note = note_at r s (Did a) } ∷ ms) (made_append r (next r s (Did a)) es fs)
-made_append r s (Spoke t ∷ es) fs = made_append r (next r s (Spoke t)) es fs
-made_append r s (Rested ∷ es) fs = made_append r (next r s Rested) es fs
-made_append r s (Heard news ∷ es) fs = made_append r (next r s (Heard news)) es fs
-made_append r s (Others a ∷ es) fs = made_append r (next r s (Others a)) es fs
 
 -- places in range are in range of equal sizes
 pub in_range_from : (f g h k : ℕ → ℕ) → ((d : ℕ) → f d ≡ g d) → ((d : ℕ) → h d ≡ k d) → (q : Place) → InRange f h q → InRange g k q
@@ -84,9 +72,6 @@ abbrev pub IsTrueNext : (frames grants : ℕ → ℕ) → Memory → Entry → T
 IsTrueNext frames grants m e = IsTrueOf frames grants m (access_of e)
 
 module _ (frames grants : ℕ → ℕ) where
-  abbrev pub rules : DeviceSetup → Rules Work End
-  rules s = display (site_of frames grants s)
-
   -- what a device does and hears in further items
   abbrev pub own_more : List Item → List Item → DeviceSetup → List Own
   own_more m n s = own_from s.dev.0 (nodes_in s.dev.0 m) n
@@ -94,26 +79,16 @@ module _ (frames grants : ℕ → ℕ) where
   pub own_is : (m n : List Item) (s : DeviceSetup) → own s.dev.0 (m ++ n) ≡ own s.dev.0 m ++ own_more m n s
   own_is m n s = own_append s.dev.0 _ m n
 
-  pub stand_more : (m n : List Item) (s : DeviceSetup) → stand_after frames grants (m ++ n) s ≡ after (next (rules s)) (stand_after frames grants m s) (own_more m n s)
-  stand_more m n s =
-      ap (λ (es : List Own). after (next (rules s)) first_stand es) (own_is m n s) ∙ after-append (next (rules s)) first_stand (own s.dev.0 m) (own_more m n s)
-
   pub nodes_more : (m n : List Item) (d : ℕ) → nodes_in d (m ++ n) ≡ after (nodes_next d) (nodes_in d m) n
   nodes_more m n d = after-append (nodes_next d) _ m n
 
-  pub held_more : (m n : List Item) (s : DeviceSetup) → held_in frames grants (m ++ n) s ≡ after (λ h k. holding frames h k.note k.access) (held_in frames grants m s) (made_by (rules s) (stand_after frames grants m s) (own_more m n s))
-  held_more m n s =
-      ap (λ (es : List Own). after (λ h (k : Made). holding frames h k.note k.access) (holds_of []) (made_by (rules s) first_stand es)) (own_is m n s)
-      ∙ (ap (λ (ms : List Made). after (λ h (k : Made). holding frames h k.note k.access) (holds_of []) ms) (made_append (rules s) first_stand (own s.dev.0 m) (own_more m n s))
-      ∙ after-append (λ h (k : Made). holding frames h k.note k.access) (holds_of []) (made_in frames grants m s) (made_by (rules s) (stand_after frames grants m s) (own_more m n s)))
-
   -- what comes next of a device
   abbrev pub IsNextIn : List Item → List Item → DeviceSetup → Type 0
-  IsNextIn m n s = IsExplained (rules s) (stand_after frames grants m s) (own_more m n s)
+  IsNextIn m n s = Continues s.kind (site_of frames grants s) (own s.dev.0 m) (own_more m n s)
 
   explained_more : (m n : List Item) (s : DeviceSetup) → IsExplainedIn frames grants m s → IsNextIn m n s → IsExplainedIn frames grants (m ++ n) s
   explained_more m n s h k =
-      subst (λ (es : List Own). IsExplained (rules s) first_stand es) (sym (own_is m n s)) (Along-append (next (rules s)) (May (rules s)) first_stand (own s.dev.0 m) (own_more m n s) h k)
+      subst (λ (es : List Own). IsExplained s.kind (site_of frames grants s) es) (sym (own_is m n s)) (continues_append s.kind (site_of frames grants s) [] (own s.dev.0 m) (own_more m n s) h k)
 
   pub history_more : (devices : List DeviceSetup) (m n : List Item) → IsHistory frames grants devices m → Along remembered (IsTrueNext frames grants) (memory_after (entries m)) (entries n) → AllByRecursion (BelongsIn devices) n → AllByRecursion (IsNextIn m n) devices → IsHistory frames grants devices (m ++ n)
   history_more devices m n h t b x =
@@ -125,7 +100,7 @@ module _ (frames grants : ℕ → ℕ) where
 
   explained_front : (m n : List Item) (s : DeviceSetup) → IsExplainedIn frames grants (m ++ n) s → IsExplainedIn frames grants m s
   explained_front m n s h =
-      along_front (next (rules s)) (May (rules s)) first_stand (own s.dev.0 m) (own_more m n s) (subst (λ (es : List Own). IsExplained (rules s) first_stand es) (own_is m n s) h)
+      continues_front s.kind (site_of frames grants s) [] (own s.dev.0 m) (own_more m n s) (subst (λ (es : List Own). IsExplained s.kind (site_of frames grants s) es) (own_is m n s) h)
 
   -- the front of a history is one
   pub history_front : (devices : List DeviceSetup) (m n : List Item) → IsHistory frames grants devices (m ++ n) → IsHistory frames grants devices m
@@ -135,3 +110,22 @@ module _ (frames grants : ℕ → ℕ) where
         belongs = all_front (BelongsIn devices) m n h.belongs;
         explained = all_weaker (IsExplainedIn frames grants (m ++ n)) (IsExplainedIn frames grants m) (explained_front m n) devices h.explained;
       }
+
+  -- and is prompt, where the whole is
+  pub prompt_front : (devices : List DeviceSetup) (m n : List Item) → AllByRecursion (IsPromptIn frames grants (m ++ n)) devices → AllByRecursion (IsPromptIn frames grants m) devices
+  prompt_front devices m n h = all_weaker (IsPromptIn frames grants (m ++ n)) (IsPromptIn frames grants m) (λ s k. along_front (λ before x. before ++ x ∷ []) _ [] m n k) devices h
+
+  -- the items so far
+  items_so_far : (front m : List Item) → after (λ before x. before ++ x ∷ []) front m ≡ front ++ m
+  items_so_far front [] = sym (append-nil front)
+  items_so_far front (i ∷ m) = items_so_far (front ++ i ∷ []) m ∙ append_assoc front (i ∷ []) m
+
+  -- what is directly behind a prompt journal
+  abbrev pub IsDirectAt : List Item → Item → DeviceSetup → Type 0
+  IsDirectAt before i s =
+      IsDirect s.dev (due_after s.kind (site_of frames grants s) (own s.dev.0 before)) (owed_after s.kind (site_of frames grants s) (own s.dev.0 before)) i
+
+  pub prompt_more : (m n : List Item) (s : DeviceSetup) → IsPromptIn frames grants m s → Along (λ before x. before ++ x ∷ []) (λ before i. IsDirectAt before i s) m n → IsPromptIn frames grants (m ++ n) s
+  prompt_more m n s h k =
+      Along-append (λ before x. before ++ x ∷ []) (λ before i. IsDirectAt before i s) [] m n h
+      (subst (λ x. Along (λ before x. before ++ x ∷ []) (λ before i. IsDirectAt before i s) x n) (sym (items_so_far [] m)) k)

@@ -7,13 +7,14 @@ use Rattle.pv_words.specs.declared.device.State.TheVariants as state
 use Rattle.xenbus_states.specs.declared.back.Action.{Action}
 use Rattle.xenbus_states.specs.declared.back.Action.TheVariants as action
 use Rattle.xenbus_states.specs.Connection.{Connection, action_from, asked_of}
-use Rattle.device_core.specs.Machine.{Happening, Row, Gone, Draw, HappensTo, IsRun, Snapshot}
+use Rattle.device_core.specs.Machine.{Happening, Row, Refuses, Gone, Draw, HappensTo, IsRun, Snapshot}
 use Rattle.device_core.specs.Order.{Sets, Hosts}
 use Rattle.display_backend.specs.declared.waiting.Waiting.{Waiting}
 use Rattle.display_backend.specs.declared.waiting.Waiting.TheVariants as waiting
-use Rattle.display_backend.specs.Machine.{Serves, Site, Rows, Hand, Event, Says, Hears, Begins, Moves, Tells, Enters, IsStatus, first_rows, is_accepted, is_creation, replied_to, verdict}
-use Rattle.pv_world.specs.Answered.{IsAnswer, IsAnsweredIn}
-use Rattle.pv_world.specs.History.{first_snapshot, machine}
+use Rattle.device_core.specs.Site.{Site}
+use Rattle.display_backend.specs.Machine.{Serves, Rows, Hand, Event, Says, Hears, Begins, Moves, Tells, Enters, IsStatus, first_rows, is_accepted, is_creation, replied_to, verdict}
+use Rattle.backend_core.specs.Answered.{IsAnswer, IsAnsweredIn}
+use Rattle.backend_core.specs.Kinds.{first_snapshot, machine}
 
 -- a run in two parts
 pub run_parts : {M E : Type 0} (moves : M → E → M → Type 0) (m n : M) (es fs : List E) → IsRun moves m (es ++ fs) n → (k : M) × IsRun moves m es k × IsRun moves k fs n
@@ -114,14 +115,15 @@ module _ (site : Site) where
   moves_calm : (old new : Rows) (e : Event) → Moves site old e new → IsCalm old → IsCalm new
   moves_calm old new (Says s taken) x c = says_calm old new s taken x c
   moves_calm old new (Hears (Sets front nodes)) x c = subst (λ (r : Rows). IsCalm r) (sym x) (record { served = c.served; waits = c.waits; creates = c.creates })
-  moves_calm old new (Hears (Hosts e answer)) x c = subst (λ (r : Rows). IsCalm r) (sym x.1) (record { served = c.served; waits = c.waits; creates = c.creates })
+  moves_calm old new (Hears (Hosts e)) x c = subst (λ (r : Rows). IsCalm r) (sym x) (record { served = c.served; waits = c.waits; creates = c.creates })
   moves_calm old new Begins x c =
       subst (λ (r : Rows). IsCalm r) (sym x.2) (record { served = c.served; waits = λ t. connects_from old.connection.back old.connection x.1; creates = c.creates })
 
   happens_calm : (m k : Snapshot Rows) (e : Happening Event) → HappensTo (machine site) m e k → IsCalm m.rows → IsCalm k.rows
-  happens_calm m k (Row e words) x c = moves_calm m.rows k.rows e x.0 c
-  happens_calm m k (Gone number) x c = subst (λ (r : Rows). IsCalm r) (sym x.0) c
-  happens_calm m k (Draw s) x c = subst (λ (r : Rows). IsCalm r) (sym x.0) c
+  happens_calm m k (Row e words) x c = moves_calm m.rows k.rows e x.move c
+  happens_calm m k (Refuses why) x c = subst (λ (s : Snapshot Rows). IsCalm s.rows) (sym x.1) c
+  happens_calm m k (Gone number) x c = subst (λ (r : Rows). IsCalm r) (sym x.0.rows) c
+  happens_calm m k (Draw s) x c = subst (λ (r : Rows). IsCalm r) (sym x.0.rows) c
 
   pub run_calm : (m n : Snapshot Rows) (es : List (Happening Event)) → IsRun (HappensTo (machine site)) m es n → IsCalm m.rows → IsCalm n.rows
   run_calm m n [] x c = subst (λ (k : Snapshot Rows). IsCalm k.rows) x c
@@ -163,13 +165,14 @@ module _ (site : Site) where
   moves_same : (old a b : Rows) (e : Event) → Moves site old e a → Moves site old e b → a ≡ b
   moves_same old a b (Says s taken) x y = says_same old a b s taken x y
   moves_same old a b (Hears (Sets front nodes)) x y = x ∙ sym y
-  moves_same old a b (Hears (Hosts e answer)) x y = x.1 ∙ sym y.1
+  moves_same old a b (Hears (Hosts e)) x y = x ∙ sym y
   moves_same old a b Begins x y = x.2 ∙ sym y.2
 
   happens_same : (m n k l : Snapshot Rows) (e : Happening Event) → m.rows ≡ n.rows → HappensTo (machine site) m e k → HappensTo (machine site) n e l → k.rows ≡ l.rows
-  happens_same m n k l (Row e words) same x y = moves_same n.rows k.rows l.rows e (subst (λ (r : Rows). Moves site r e k.rows) same x.0) y.0
-  happens_same m n k l (Gone number) same x y = x.0 ∙ (same ∙ sym y.0)
-  happens_same m n k l (Draw s) same x y = x.0 ∙ (same ∙ sym y.0)
+  happens_same m n k l (Row e words) same x y = moves_same n.rows k.rows l.rows e (subst (λ (r : Rows). Moves site r e k.rows) same x.move) y.move
+  happens_same m n k l (Refuses why) same x y = ap (λ (s : Snapshot Rows). s.rows) x.1 ∙ (same ∙ sym (ap (λ (s : Snapshot Rows). s.rows) y.1))
+  happens_same m n k l (Gone number) same x y = x.0.rows ∙ (same ∙ sym y.0.rows)
+  happens_same m n k l (Draw s) same x y = x.0.rows ∙ (same ∙ sym y.0.rows)
 
   pub runs_same : (m n k l : Snapshot Rows) (es : List (Happening Event)) → m.rows ≡ n.rows → IsRun (HappensTo (machine site)) m es k → IsRun (HappensTo (machine site)) n es l → k.rows ≡ l.rows
   runs_same m n k l [] same x y = ap (λ (s : Snapshot Rows). s.rows) (sym x) ∙ (same ∙ ap (λ (s : Snapshot Rows). s.rows) y)
@@ -202,7 +205,7 @@ module _ (site : Site) where
   pub answered : (es : List (Happening Event)) (m n : Snapshot Rows) (h : Hand) → IsCalm m.rows → IsInHand m.rows h → IsRun (HappensTo (machine site)) m es n → IsAnsweredIn h m.rows.denied es
   answered [] m n h c i x = tt
   answered (Row (Says (said.Replied part id status notified) taken) words ∷ es) m n h c i x =
-      let reply = x.1.0 in
+      let reply = x.1.move in
       let same : record { part = part; request = reply.request } ≡ h = some_same _ h (sym reply.in_hand ∙ i.hand) in
       record {
         part_is = ap (λ (k : Hand). k.part) same;
@@ -211,35 +214,38 @@ module _ (site : Site) where
       }
   answered (Row (Says (said.Closed why) taken) words ∷ es) m n h c i x = tt
   answered (Row (Says (said.Denied why) taken) words ∷ es) m n h c i x =
-      let now = x.1.0.done in
+      let now = x.1.move.done in
       subst (λ (d : Bool). IsAnsweredIn h d es) (ap (λ (r : Rows). r.denied) now) (answered es x.0 n h (happens_calm m x.0 (Row (Says (said.Denied why) taken) words) x.1 c) (subst (λ (r : Rows). IsInHand r h) (sym now) (record { hand = i.hand; accepted = i.accepted })) x.2)
-  answered (Row (Says (said.Request part id op) taken) words ∷ es) m n h c i x = none_some h (sym x.1.0.empty ∙ i.hand)
-  answered (Row (Says (said.State s) taken) words ∷ es) m n h c i x = enters_none m.rows x.0.rows h s c i.hand x.1.0
-  answered (Row (Says (said.Raised part cookie) taken) words ∷ es) m n h c i x = absurd x.1.0
-  answered (Row (Says (said.Pos part position) taken) words ∷ es) m n h c i x = absurd x.1.0
-  answered (Row (Says (said.Full part) taken) words ∷ es) m n h c i x = absurd x.1.0
+  answered (Row (Says (said.Request part id op) taken) words ∷ es) m n h c i x = none_some h (sym x.1.move.empty ∙ i.hand)
+  answered (Row (Says (said.State s) taken) words ∷ es) m n h c i x = enters_none m.rows x.0.rows h s c i.hand x.1.move
+  answered (Row (Says (said.Raised part cookie) taken) words ∷ es) m n h c i x = absurd x.1.move
+  answered (Row (Says (said.Pos part position) taken) words ∷ es) m n h c i x = absurd x.1.move
+  answered (Row (Says (said.Full part) taken) words ∷ es) m n h c i x = absurd x.1.move
   answered (Row (Says (said.Blank part) taken) words ∷ es) m n h c i x =
-      let now = x.1.0.done in
+      let now = x.1.move.done in
       subst (λ (d : Bool). IsAnsweredIn h d es) (ap (λ (r : Rows). r.denied) now) (answered es x.0 n h (happens_calm m x.0 (Row (Says (said.Blank part) taken) words) x.1 c) (subst (λ (r : Rows). IsInHand r h) (sym now) (record { hand = i.hand; accepted = i.accepted })) x.2)
   answered (Row (Says (said.Shown part pixels mark) taken) words ∷ es) m n h c i x =
-      let now = x.1.0.2.done in
+      let now = x.1.move.2.done in
       subst (λ (d : Bool). IsAnsweredIn h d es) (ap (λ (r : Rows). r.denied) now) (answered es x.0 n h (happens_calm m x.0 (Row (Says (said.Shown part pixels mark) taken) words) x.1 c) (subst (λ (r : Rows). IsInHand r h) (sym now) (record { hand = i.hand; accepted = i.accepted })) x.2)
-  answered (Row (Says (said.Moved part octets mark) taken) words ∷ es) m n h c i x = absurd x.1.0
-  answered (Row (Says (said.Published events) taken) words ∷ es) m n h c i x = absurd x.1.0
+  answered (Row (Says (said.Moved part octets mark) taken) words ∷ es) m n h c i x = absurd x.1.move
+  answered (Row (Says (said.Published events) taken) words ∷ es) m n h c i x = absurd x.1.move
   answered (Row (Hears (Sets front nodes)) words ∷ es) m n h c i x =
-      let now = x.1.0 in
+      let now = x.1.move in
       subst (λ (d : Bool). IsAnsweredIn h d es) (ap (λ (r : Rows). r.denied) now) (answered es x.0 n h (happens_calm m x.0 (Row (Hears (Sets front nodes)) words) x.1 c) (subst (λ (r : Rows). IsInHand r h) (sym now) (record { hand = i.hand; accepted = i.accepted })) x.2)
-  answered (Row (Hears (Hosts e answer)) words ∷ es) m n h c i x =
-      let now = x.1.0.1 in
-      subst (λ (d : Bool). IsAnsweredIn h d es) (ap (λ (r : Rows). r.denied) now) (answered es x.0 n h (happens_calm m x.0 (Row (Hears (Hosts e answer)) words) x.1 c) (subst (λ (r : Rows). IsInHand r h) (sym now) (record { hand = i.hand; accepted = i.accepted })) x.2)
+  answered (Row (Hears (Hosts e)) words ∷ es) m n h c i x =
+      let now = x.1.move in
+      subst (λ (d : Bool). IsAnsweredIn h d es) (ap (λ (r : Rows). r.denied) now) (answered es x.0 n h (happens_calm m x.0 (Row (Hears (Hosts e)) words) x.1 c) (subst (λ (r : Rows). IsInHand r h) (sym now) (record { hand = i.hand; accepted = i.accepted })) x.2)
   answered (Row Begins words ∷ es) m n h c i x =
-      let now = x.1.0.2 in
+      let now = x.1.move.2 in
       subst (λ (d : Bool). IsAnsweredIn h d es) (ap (λ (r : Rows). r.denied) now) (answered es x.0 n h (happens_calm m x.0 (Row Begins words) x.1 c) (subst (λ (r : Rows). IsInHand r h) (sym now) (record { hand = i.hand; accepted = i.accepted })) x.2)
+  answered (Refuses why ∷ es) m n h c i x =
+      let now = ap (λ (s : Snapshot Rows). s.rows) x.1.1 in
+      subst (λ (d : Bool). IsAnsweredIn h d es) (ap (λ (r : Rows). r.denied) now) (answered es x.0 n h (happens_calm m x.0 (Refuses why) x.1 c) (subst (λ (r : Rows). IsInHand r h) (sym now) i) x.2)
   answered (Gone number ∷ es) m n h c i x =
-      let now = x.1.0 in
+      let now = x.1.0.rows in
       subst (λ (d : Bool). IsAnsweredIn h d es) (ap (λ (r : Rows). r.denied) now) (answered es x.0 n h (happens_calm m x.0 (Gone number) x.1 c) (subst (λ (r : Rows). IsInHand r h) (sym now) i) x.2)
   answered (Draw s ∷ es) m n h c i x =
-      let now = x.1.0 in
+      let now = x.1.0.rows in
       subst (λ (d : Bool). IsAnsweredIn h d es) (ap (λ (r : Rows). r.denied) now) (answered es x.0 n h (happens_calm m x.0 (Draw s) x.1 c) (subst (λ (r : Rows). IsInHand r h) (sym now) i) x.2)
 
   -- the machine at the beginning

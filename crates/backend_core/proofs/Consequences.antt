@@ -1,0 +1,25 @@
+-- What is so of every history.
+use Rattle.std.proofs.Common.{List}
+use Rattle.pv_words.specs.Plan.{Want}
+use Rattle.pv_words.specs.Port.{PortMay}
+use Rattle.pv_words.proofs.Listing.{port_may}
+use Rattle.backend_core.specs.History.{AnswersIn, IsExplainedIn, IsMachineRunIn, KeepsIn, held_after}
+use Rattle.backend_core.specs.Laws.{FrontsAreHistories, HistoriesAreRuns, ListingSuffices}
+use Rattle.backend_core.specs.Marked.{own}
+use Rattle.backend_core.proofs.Histories.{all_weaker, history_front, prompt_front}
+use Rattle.backend_core.proofs.EachKind.{answers, keeps, next_may, runs}
+
+pub histories_are_runs : HistoriesAreRuns
+histories_are_runs frames grants devices m h = (
+  all_weaker (IsExplainedIn frames grants m) (IsMachineRunIn frames grants m) (λ s x. runs frames grants s.dom.0 s.kind (own s.dev.0 m) x) devices h.explained,
+  all_weaker (IsExplainedIn frames grants m) (AnswersIn frames grants m) (λ s x. answers frames grants s.dom.0 s.kind (own s.dev.0 m) x) devices h.explained,
+  all_weaker (IsExplainedIn frames grants m) (KeepsIn frames grants m) (λ s x. keeps frames grants s.dom.0 s.kind (own s.dev.0 m) x) devices h.explained,
+)
+
+pub fronts_are_histories : FrontsAreHistories
+fronts_are_histories frames grants devices m n h = (history_front frames grants devices m n h, prompt_front frames grants devices m n)
+
+pub listing_suffices : ListingSuffices
+listing_suffices frames grants s d es p stands explained acts serves listed =
+    next_may frames grants s.dom.0 (PortMay frames grants p) s.kind d es
+    (λ want note proper. port_may frames grants p s.dev.0 s.dom.0 (held_after frames grants s es) want note listed acts serves proper) stands explained

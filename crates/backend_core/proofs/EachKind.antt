@@ -1,0 +1,184 @@
+-- What is so of devices of every kind, from what is so of each kind's order of work.
+use Rattle.std.proofs.Common.{◌≡◌, ℕ, true, List, [], ◌∷◌, ◌++◌, Option, Some, None, refl, sym, subst, ◌∙◌, ap, append_assoc}
+use Rattle.pv_words.specs.declared.access.Access.{Access}
+use Rattle.pv_words.specs.declared.device.Said.{Said}
+use Rattle.pv_words.specs.declared.setup.DeviceKind.{DeviceKind}
+use Rattle.pv_words.specs.declared.setup.DeviceKind.TheVariants as kind
+use Rattle.pv_words.specs.declared.setup.DeviceSetup.{DeviceSetup}
+use Rattle.pv_words.specs.Along.{after, Along, after-append, Along-append}
+use Rattle.pv_words.specs.Held.{Holds, Made, IsProper, holding, holds_of, KeepsToGrants}
+use Rattle.pv_words.specs.Memory.{zeros}
+use Rattle.pv_words.specs.Plan.{Plan, Finished, Make, Note, Want, MayGo, wanted}
+use Rattle.device_core.specs.Machine.{Happening, HappensTo, IsRun, Reading}
+use Rattle.device_core.specs.Order as order
+use Rattle.device_core.specs.Order.{Own, Did, Spoke, Rules, Stand, Between, Station, MayStep, at_stand, due_at, followed, made_by, note_at, steps_of}
+use Rattle.device_core.specs.Site.{Site}
+use Rattle.device_core.proofs.MachineRun.{IsGood, good_after, may_step, memory_left, named_after, proper_after, proper_follow, run_after, snapshot_at}
+use Rattle.device_core.proofs.Stations.{AreOthers, made_append, others_follow, others_made, station_is, told_is_due}
+use Rattle.display_backend.specs.Display as screen
+use Rattle.display_backend.specs.Machine.{Rows, Event}
+use Rattle.display_backend.specs.Work.{Work, End, Naming, choice, display, first_naming, first_work, reading}
+use Rattle.display_backend.proofs.Sound.{sound, first_good, first_named}
+use Rattle.backend_core.specs.declared.device.Device.{Device}
+use Rattle.backend_core.specs.declared.device.Device.TheVariants.{Display}
+use Rattle.backend_core.specs.Device.{IsDisplay, MayMakeNext, StandsFor}
+use Rattle.backend_core.specs.History.{held_after, site_of}
+use Rattle.backend_core.specs.Kinds.{AnswersAll, Continues, IsExplained, IsMachineRun, IsSettled, display_events, display_station, due_after, first_snapshot, machine, made_after, owed_after, parts_of}
+use Rattle.backend_core.proofs.Answers.{answers_then}
+
+pub along_front : {S E : Type 0} (step : S → E → S) (may : S → E → Type 0) (s : S) (es fs : List E) → Along step may s (es ++ fs) → Along step may s es
+along_front step may s [] fs h = tt
+along_front step may s (e ∷ es) fs h = (h.0, along_front step may (step s e) es fs h.1)
+
+-- a display's station after more
+pub station_more : (site : Site) (es more : List Own) → display_station site (es ++ more) ≡ after (followed (display site)) (display_station site es) more
+station_more site es more = after-append (followed (display site)) (at_stand (Between first_work)) es more
+
+-- what comes next, and then next, comes next together; and so does its front
+pub continues_append : (k : DeviceKind) (site : Site) (es more then : List Own) → Continues k site es more → Continues k site (es ++ more) then → Continues k site es (more ++ then)
+continues_append (kind.Display n) site es more then a b =
+    Along-append (followed (display site)) (order.MayFollow (display site)) (display_station site es) more then a
+    (subst (λ p. order.IsExplained (display site) p then) (station_more site es more) b)
+
+pub continues_front : (k : DeviceKind) (site : Site) (es more then : List Own) → Continues k site es (more ++ then) → Continues k site es more
+continues_front (kind.Display n) site es more then h =
+    along_front (followed (display site)) (order.MayFollow (display site)) (display_station site es) more then h
+
+-- of a display that is settled, the station is its stand's
+pub station_settled : (n : ℕ) (site : Site) (es : List Own) → IsSettled (kind.Display n) site es → display_station site es ≡ at_stand (display_station site es).stand
+station_settled n site es h = station_is (display_station site es) (display_station site es).stand refl h.answered
+
+-- the accesses of others may come, and change nothing of a device that is settled
+pub others_continue : (k : DeviceKind) (site : Site) (es more : List Own) → IsSettled k site es → AreOthers more → Continues k site es more
+others_continue (kind.Display n) site es more h o =
+    subst (λ p. order.IsExplained (display site) p more) (sym (station_settled n site es h)) (others_follow (display site) (display_station site es).stand more o).0
+
+others_station : (n : ℕ) (site : Site) (es more : List Own) → IsSettled (kind.Display n) site es → AreOthers more → display_station site (es ++ more) ≡ display_station site es
+others_station n site es more h o =
+    station_more site es more
+    ∙ (ap (λ p. after (followed (display site)) p more) (station_settled n site es h)
+    ∙ ((others_follow (display site) (display_station site es).stand more o).1 ∙ sym (station_settled n site es h)))
+
+pub others_settled : (k : DeviceKind) (site : Site) (es more : List Own) → IsSettled k site es → AreOthers more → IsSettled k site (es ++ more)
+others_settled (kind.Display n) site es more h o =
+    let is = others_station n site es more h o in
+    record { said = ap (λ (p : Station Work End). due_at p.stand) is ∙ h.said; answered = ap (λ (p : Station Work End). p.owes) is ∙ h.answered }
+
+pub others_stand : (k : DeviceKind) (site : Site) (d : Device) (es more : List Own) → IsSettled k site es → AreOthers more → StandsFor k site d es → StandsFor k site d (es ++ more)
+others_stand (kind.Display n) site (Display d) es more h o s =
+    record {
+      dom_is = s.dom_is;
+      parts_are = s.parts_are;
+      connectors_are = s.connectors_are;
+      stands = s.stands ∙ sym (ap (λ (p : Station Work End). p.stand) (others_station n site es more h o));
+    }
+
+-- a settled device's event is due once its access was made, and is what it then says
+pub told_due : (k : DeviceKind) (site : Site) (es : List Own) (a : Access) (t u : Said) → IsSettled k site es → Continues k site es (Did a ∷ Spoke t ∷ []) → due_after k site (es ++ Did a ∷ []) ≡ Some u → t ≡ u
+told_due (kind.Display n) site es a t u h c e =
+    let there = followed (display site) (at_stand (display_station site es).stand) (Did a) in
+    let x = subst (λ p. order.IsExplained (display site) p (Did a ∷ Spoke t ∷ [])) (station_settled n site es h) c in
+    let is = station_more site es (Did a ∷ []) ∙ ap (λ p. followed (display site) p (Did a)) (station_settled n site es h) in
+    told_is_due (display site) there.stand t u x.1 (sym (ap (λ (p : Station Work End). due_at p.stand) is) ∙ e)
+
+-- an access leaves no refusal owed
+pub did_owes : (k : DeviceKind) (site : Site) (es : List Own) (a : Access) → IsSettled k site es → owed_after k site (es ++ Did a ∷ []) ≡ None
+did_owes (kind.Display n) site es a h =
+    ap (λ (p : Station Work End). p.owes) (station_more site es (Did a ∷ []) ∙ ap (λ p. followed (display site) p (Did a)) (station_settled n site es h))
+
+module _ (frames grants : ℕ → ℕ) (s : DeviceSetup) where
+  abbrev site : Site
+  site = site_of frames grants s
+
+  abbrev hold : Holds → Made → Holds
+  hold h x = holding frames h x.note x.access
+
+  -- what is held after more
+  pub held_more : (es more : List Own) (x : List Made) → made_after s.kind site (es ++ more) ≡ made_after s.kind site es ++ x → held_after frames grants s (es ++ more) ≡ after hold (held_after frames grants s es) x
+  held_more es more x e = ap (λ ms. after hold (holds_of []) ms) e ∙ after-append hold (holds_of []) (made_after s.kind site es) x
+
+-- the accesses of others leave what is held
+pub others_held : (frames grants : ℕ → ℕ) (s : DeviceSetup) (es more : List Own) → AreOthers more → held_after frames grants s (es ++ more) ≡ held_after frames grants s es
+others_held frames grants s es more o = held_more frames grants s es more [] (made_is s.kind)
+  where
+    made_is : (k : DeviceKind) → made_after k (site_of frames grants s) (es ++ more) ≡ made_after k (site_of frames grants s) es ++ []
+    made_is (kind.Display n) =
+        made_append (display (site_of frames grants s)) (at_stand (Between first_work)) es more
+        ∙ ap (λ ms. made_after (kind.Display n) (site_of frames grants s) es ++ ms) (others_made (display (site_of frames grants s)) (display_station (site_of frames grants s) es) more o)
+
+module _ (frames grants : ℕ → ℕ) (dom : ℕ) where
+  -- the site of a device of this kind that serves this domain, and what it holds
+  abbrev pub site_as : DeviceKind → Site
+  site_as k = record { dom = dom; parts = parts_of k; frames = frames dom; grants = grants dom }
+
+  abbrev pub holds_as : DeviceKind → List Own → Holds
+  holds_as k es = after (λ h (x : Made). holding frames h x.note x.access) (holds_of []) (made_after k (site_as k) es)
+
+  -- where explained work leaves a display, what it knows is true and tells what it holds
+  good : (n : ℕ) (es : List Own) → IsExplained (kind.Display n) (site_as (kind.Display n)) es → IsGood (display (site_as (kind.Display n))) (reading (site_as (kind.Display n))) (IsProper frames grants dom) (holding frames) (sound frames grants dom n) (display_station (site_as (kind.Display n)) es).stand (holds_as (kind.Display n) es)
+  good n es h =
+      good_after (display (site_as (kind.Display n))) (reading (site_as (kind.Display n))) (IsProper frames grants dom) (holding frames) (sound frames grants dom n) (at_stand (Between first_work)) es (holds_of []) (first_good frames grants dom n) h
+
+  first_may : (site : Site) (p : Station Work End) (a : Access) (t : Option Said) → order.IsExplained (display site) p (steps_of (Some a) t) → order.MayFollow (display site) p (Did a)
+  first_may site p a None h = h.0
+  first_may site p a (Some t) h = h.0
+
+  made_step : (site : Site) (p : Station Work End) (a : Access) (t : Option Said) → made_by (display site) p (steps_of (Some a) t) ≡ record { access = a; note = note_at (display site) p.stand (Did a) } ∷ []
+  made_step site p a None = refl
+  made_step site p a (Some t) = refl
+
+  -- a device's access is as what it holds allows, and leaves it holding what it makes of that
+  pub step_holds : (k : DeviceKind) (es : List Own) (a : Access) (t : Option Said) → IsExplained k (site_as k) es → Continues k (site_as k) es (steps_of (Some a) t) → (note : Note) × IsProper frames grants dom (holds_as k es) (wanted a) note × (holds_as k (es ++ steps_of (Some a) t) ≡ holding frames (holds_as k es) note a)
+  step_holds (kind.Display n) es a t x h =
+      let site = site_as (kind.Display n) in
+      let p = display_station site es in
+      let note = note_at (display site) p.stand (Did a) in (
+        note,
+        proper_follow (display site) (reading site) (IsProper frames grants dom) (holding frames) (sound frames grants dom n) p.stand p.owes a (holds_as (kind.Display n) es) (good n es x) (first_may site p a t h),
+        ap (λ ms. after (λ k (y : Made). holding frames k y.note y.access) (holds_of []) ms) (made_append (display site) (at_stand (Between first_work)) es (steps_of (Some a) t))
+            ∙ (after-append (λ k (y : Made). holding frames k y.note y.access) (holds_of []) (made_after (kind.Display n) site es) (made_by (display site) p (steps_of (Some a) t))
+            ∙ ap (λ ms. after (λ k (y : Made). holding frames k y.note y.access) (holds_as (kind.Display n) es) ms) (made_step site p a t)),
+      )
+
+  -- where each access may be made that what a device holds allows, its next one may
+  pub next_may : (may : Want → Type 0) (k : DeviceKind) (d : Device) (es : List Own) → ((want : Want) (note : Note) → IsProper frames grants dom (holds_as k es) want note → may want) → StandsFor k (site_as k) d es → IsExplained k (site_as k) es → MayMakeNext may (site_as k) d
+  next_may may (kind.Display n) (Display d) es all s x =
+      let site = site_as (kind.Display n) in
+      subst (λ (y : Stand Work End). MayStep may (display site) y) (sym s.stands)
+      (may_step (display site) (reading site) (IsProper frames grants dom) (holding frames) (sound frames grants dom n) may (holds_as (kind.Display n) es) all (display_station site es).stand (good n es x))
+
+  pub runs : (k : DeviceKind) (es : List Own) → IsExplained k (site_as k) es → IsMachineRun k (site_as k) es
+  runs (kind.Display n) es h =
+      let site = site_as (kind.Display n) in (
+        snapshot_at (display site) (reading site) (display_station site es) (named_after (display site) (reading site) (at_stand (Between first_work)) first_naming es) (memory_left (display site) (reading site) zeros es),
+        run_after (display site) (reading site) (IsProper frames grants dom) (holding frames) (sound frames grants dom n) (at_stand (Between first_work)) es (holds_of []) first_naming zeros (first_good frames grants dom n) (first_named frames grants dom n) h,
+      )
+
+  pub answers : (k : DeviceKind) (es : List Own) → IsExplained k (site_as k) es → AnswersAll k (site_as k) es
+  answers (kind.Display n) es h = λ before later now hand split front in_hand accepted.
+      let site = site_as (kind.Display n) in
+      let run = runs (kind.Display n) es h in
+      answers_then site before later now run.0 hand (subst (λ (x : List (Happening Event)). IsRun (HappensTo (machine site)) first_snapshot x run.0) split run.1) front (record { hand = in_hand; accepted = accepted })
+
+  pub keeps : (k : DeviceKind) (es : List Own) → IsExplained k (site_as k) es → KeepsToGrants frames grants dom (holds_of []) (made_after k (site_as k) es)
+  keeps (kind.Display n) es h =
+      let site = site_as (kind.Display n) in
+      proper_after (display site) (reading site) (IsProper frames grants dom) (holding frames) (sound frames grants dom n) (at_stand (Between first_work)) es (holds_of []) (first_good frames grants dom n) h
+
+-- a device steps within the work that it was made for
+pub may_weaker : (may also : Want → Type 0) → ((want : Want) → may want → also want) → (site : Site) (d : Device) → MayMakeNext may site d → MayMakeNext also site d
+may_weaker may also f site (Display d) h = steps_weaker (screen.stand_of site d) h
+  where
+    goes_weaker : {A : Type 0} (p : Plan A) → MayGo may p → MayGo also p
+    goes_weaker (Finished x) g = tt
+    goes_weaker (Make want note more) g = f want g
+
+    chooses_weaker : (c : order.Order Work End) → order.MayChoose may c → order.MayChoose also c
+    chooses_weaker (order.Act v p) g = goes_weaker p g
+    chooses_weaker (order.Either v p u q) g = (goes_weaker p g.0, goes_weaker q g.1)
+    chooses_weaker (order.Rest v) g = tt
+
+    steps_weaker : (x : Stand Work End) → MayStep may (display site) x → MayStep also (display site) x
+    steps_weaker (Between w) g = chooses_weaker (choice site w) g
+    steps_weaker (order.During w p) g = goes_weaker p g
+    steps_weaker (order.Telling t w o) g = tt

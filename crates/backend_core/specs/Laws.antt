@@ -1,0 +1,32 @@
+-- What is so of every history of devices.
+use Rattle.std.specs.Prelude.{◌≡◌, ℕ, true, List, ◌++◌, Some}
+use Rattle.std.specs.List.{AllByRecursion}
+use Rattle.pv_words.specs.declared.setup.DeviceSetup.{DeviceSetup}
+use Rattle.pv_words.specs.Port.{Port, PortMay, IsListed}
+use Rattle.device_core.specs.Order.{Own}
+use Rattle.backend_core.specs.declared.device.Device.{Device}
+use Rattle.backend_core.specs.Device.{StandsFor, MayMakeNext}
+use Rattle.backend_core.specs.History.{AnswersIn, IsHistory, IsMachineRunIn, IsPromptIn, KeepsIn, held_after, site_of}
+use Rattle.backend_core.specs.Kinds.{IsExplained}
+use Rattle.backend_core.specs.Marked.{Item}
+
+-- what its devices say and hear are runs of their machines, accepted requests are answered, and the devices stay in their pages
+abbrev pub HistoriesAreRuns : Type 0
+HistoriesAreRuns =
+    (frames grants : ℕ → ℕ) (devices : List DeviceSetup) (m : List Item) → IsHistory frames grants devices m
+    → AllByRecursion (IsMachineRunIn frames grants m) devices × AllByRecursion (AnswersIn frames grants m) devices
+    × AllByRecursion (KeepsIn frames grants m) devices
+
+-- every front of a history is one, and prompt where the whole is
+abbrev pub FrontsAreHistories : Type 0
+FrontsAreHistories =
+    (frames grants : ℕ → ℕ) (devices : List DeviceSetup) (m n : List Item) → IsHistory frames grants devices (m ++ n)
+    → IsHistory frames grants devices m × (AllByRecursion (IsPromptIn frames grants (m ++ n)) devices → AllByRecursion (IsPromptIn frames grants m) devices)
+
+-- Over a port of a device that lists what the device holds, whatever comes next may be made.
+abbrev pub ListingSuffices : Type 0
+ListingSuffices =
+    (frames grants : ℕ → ℕ) (s : DeviceSetup) (d : Device) (es : List Own) (p : Port)
+    → StandsFor s.kind (site_of frames grants s) d es → IsExplained s.kind (site_of frames grants s) es
+    → p.device ≡ Some s.dev.0 → p.serves s.dom.0 ≡ true → IsListed p s.dev.0 (held_after frames grants s es)
+    → MayMakeNext (PortMay frames grants p) (site_of frames grants s) d

@@ -1,0 +1,19 @@
+//! What is so of every journal of devices.
+
+ghost use Rattle.backend_core.specs.Laws.{FrontsAreHistories, HistoriesAreRuns, ListingSuffices};
+
+/// Whatever was played, what a device said and heard is a run of its machine, its accepted requests are answered, and each of
+/// its accesses lies in a page that it mapped and holds.
+pub fn histories_are_runs()
+    ensures { HistoriesAreRuns }
+{}
+
+/// Every front of a history is one.
+pub fn fronts_are_histories()
+    ensures { FrontsAreHistories }
+{}
+
+/// Over a port that lists what a device holds, whatever comes next of the device may be made.
+pub fn listing_suffices()
+    ensures { ListingSuffices }
+{}

@@ -126,13 +126,13 @@ fn declare(alloc: Global, setup: &DeviceSetup) -> Result<Placed, AllocError>
     requires most { parts_of setup.now.kind ≤ 4 }
     ensures { IfOk result (λ p. IsDeclaredAs setup.now p) }
 {
-    let device = match setup.kind {
+    let device = match &setup.kind {
         DeviceKind::Display(connectors) => {
-            Device::Display(Display::new(alloc, setup.dom, connectors)?)
+            Device::Display(Display::new(alloc, setup.dom, *connectors)?)
         }
     };
     Ok(Placed {
-        setup: *setup,
+        setup: setup.clone()?,
         device,
         nodes: Nodes::new(),
     })

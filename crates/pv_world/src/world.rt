@@ -128,7 +128,7 @@ fn declare(alloc: Global, setup: &DeviceSetup) -> Result<Placed, AllocError>
 {
     let device = match &setup.kind {
         DeviceKind::Display(connectors) => {
-            Device::Display(Display::new(alloc, setup.dom, *connectors)?)
+            Device::Display(Display::new(alloc, setup.dev, setup.dom, *connectors)?)
         }
     };
     Ok(Placed {

@@ -2,8 +2,8 @@
 
 ghost use Rattle.std.specs.Prelude.{◌≡◌, ◌<◌, OnErr, not, true, length, slice_get, Some};
 
-use display_backend::{Display, Step};
-use pv_words::{Hold, HostEvent, HostRefusal, State, Words};
+use display_backend::Display;
+use pv_words::{Hold, HostEvent, HostRefusal, State, Step, Words};
 use xenbus_states::Nodes;
 
 /// A device, with its connection to a frontend.

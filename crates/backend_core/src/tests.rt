@@ -3,8 +3,10 @@ ghost use Rattle.std.proofs.Common.{refl};
 ghost use Rattle.std.proofs.lemmas.Bool.{true≢false};
 
 use super::*;
-use display_backend::{Display, Step};
-use pv_words::{DevId, DomId, Half, HostEvent, HostRefusal, NodeValue, Place, Reason, Said, State, Words};
+use display_backend::Display;
+use pv_words::{
+    DevId, DomId, Half, HostEvent, HostRefusal, NodeValue, Place, Reason, Said, State, Step, Words,
+};
 use std::test::Fail;
 use xenbus_states::Nodes;
 

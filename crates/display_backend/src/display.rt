@@ -17,7 +17,7 @@ use host_events::Queue;
 use link_core::Link;
 use page_directory::Walk;
 use pv_words::{
-    Access, DevId, DomId, GrantRefusal, Hold, HostEvent, HostRefusal, Reason, Said, State, Words,
+    DevId, DomId, GrantRefusal, Hold, HostEvent, HostRefusal, Reason, State, Step, Words,
 };
 use std::alloc::{AllocError, Global};
 use xenbus_states::{Action, Back, Nodes};
@@ -70,14 +70,6 @@ enum Activity {
     Answering,
     // A Sleep has come to this part.
     Sleeping(u8),
-}
-
-/// What one step of a device did. A step with neither is idle.
-#[derive(Clone, Copy, Debug, PartialEq, Eq)]
-pub struct Step {
-    pub access: Option<Access>,
-    /// What the device said; it rides on the access, if there is one.
-    pub said: Option<Said>,
 }
 
 /// A display, its connection to a frontend, and how far its work has come.

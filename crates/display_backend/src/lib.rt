@@ -7,7 +7,7 @@ mod left;
 mod store;
 mod waiting;
 
-pub use display::{Display, Step};
+pub use display::Display;
 pub use laws::{frees_in_order, gives_up_in_order, keeps_pages};
 
 #[cfg(test)]

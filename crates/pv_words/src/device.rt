@@ -1,5 +1,6 @@
 //! What devices say, and what hosts and frontends tell them.
 
+use crate::access::Access;
 use crate::grant::GrantRefusal;
 
 /// The states of a split device's end (xenbus.h).
@@ -115,4 +116,12 @@ pub enum Said {
     Moved(u8, u32, u32),
     Published(u32),
     Closed(Reason),
+}
+
+/// What one step of a device did. A step with neither is idle.
+#[derive(Clone, Copy, Debug, PartialEq, Eq)]
+pub struct Step {
+    pub access: Option<Access>,
+    /// What the device said; it rides on the access, if there is one.
+    pub said: Option<Said>,
 }

@@ -13,7 +13,7 @@ pub mod setup;
 pub mod words;
 
 pub use access::{Access, Turn};
-pub use device::{HostEvent, HostRefusal, NodeFault, NodeValue, Reason, Said, State, Touch};
+pub use device::{HostEvent, HostRefusal, NodeFault, NodeValue, Reason, Said, State, Step, Touch};
 pub use entry::{End, Entry, Told};
 pub use grant::{GrantRefusal, Hold, Mode};
 pub use journal::{JOURNAL_LIMIT, Journal, Stop};

@@ -13,11 +13,12 @@ ghost use Rattle.pv_world.specs.Owner.{EntersTurn};
 
 use crate::owner::{Owning, news, place};
 use backend_core::Device;
-use display_backend::{Display, Step};
+use display_backend::Display;
 use grant_table::{Owned, OwnerStep};
 use pv_words::{
     Access, DevId, DeviceKind, DeviceSetup, DomId, End, Entry, Frame, GrantRef, HostEvent,
-    JOURNAL_LIMIT, Journal, Machine, Mode, NodeValue, Place, Said, Setup, State, Stop, Turn, Who,
+    JOURNAL_LIMIT, Journal, Machine, Mode, NodeValue, Place, Said, Setup, State, Step, Stop, Turn,
+    Who,
 };
 use std::alloc::{AllocError, Global};
 use xenbus_states::Nodes;

@@ -16,6 +16,10 @@ use Rattle.backend_core.specs.declared.device.Device.{Device}
 use Rattle.backend_core.specs.declared.device.Device.TheVariants.{Display}
 use Rattle.backend_core.specs.Kinds.{Continues, IsSettled, display_station}
 
+-- its number
+abbrev pub dev_of : Device → ℕ
+dev_of (Display d) = display.dev_of d
+
 -- the domain that it serves
 abbrev pub dom_of : Device → ℕ
 dom_of (Display d) = display.dom_of d

@@ -5,7 +5,9 @@ ghost use Rattle.std.proofs.lemmas.Bool.{true≢false};
 use super::*;
 use device_core::Step;
 use display_backend::Display;
-use pv_words::{DomId, Half, HostEvent, HostRefusal, NodeValue, Place, Reason, Said, State, Words};
+use pv_words::{
+    DevId, DomId, Half, HostEvent, HostRefusal, NodeValue, Place, Reason, Said, State, Words,
+};
 use std::test::Fail;
 use xenbus_states::Nodes;
 
@@ -100,7 +102,7 @@ fn says(said: Said) -> Step {
 #[test]
 fn a_display_does_the_events_of_its_host(rt: HostRuntime) -> Result<(), Fail> {
     let mut words = Domain { frames: 8 };
-    let mut device = Device::Display(Display::new(rt.alloc(), DomId(1), 2)?);
+    let mut device = Device::Display(Display::new(rt.alloc(), DevId(1), DomId(1), 2)?);
     let not_connected = Some(Err(HostRefusal::NotConnected));
     assert_eq!(rt; answer(&mut device, HostEvent::Blank(2)), None);
     assert_eq!(rt; answer(&mut device, HostEvent::Tick(0, 1)), None);
@@ -141,7 +143,7 @@ fn a_display_does_the_events_of_its_host(rt: HostRuntime) -> Result<(), Fail> {
 #[test]
 fn a_closed_connection_takes_its_events_away(rt: HostRuntime) -> Result<(), Fail> {
     let mut words = Domain { frames: 8 };
-    let mut device = Device::Display(Display::new(rt.alloc(), DomId(1), 1)?);
+    let mut device = Device::Display(Display::new(rt.alloc(), DevId(1), DomId(1), 1)?);
     let mut nodes = Nodes::new();
     for key in 0..4 {
         nodes.set(0, key, NodeValue::Number(key as u32));

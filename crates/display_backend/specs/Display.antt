@@ -30,6 +30,10 @@ use Rattle.device_core.specs.Site.{Site}
 use Rattle.display_backend.specs.Machine.{Hand, Refs}
 use Rattle.display_backend.specs.Work.{Work, End, Took, Listed, Freed, Answered, Slept, Denied, Shut, sleeps_on, sleep_all, after_part, connect_parts}
 
+-- its number
+abbrev pub dev_of : Display → ℕ
+dev_of d = d.dev.0
+
 -- the domain that it serves
 unfoldable pub dom_of : Display → ℕ
 dom_of d = d.dom.0
@@ -38,9 +42,13 @@ dom_of d = d.dom.0
 unfoldable pub parts_of : Display → ℕ
 parts_of d = length d.links.items
 
--- it serves the same domain with the same parts
+-- whose it is: the domain that it serves, and its number
+abbrev pub whose : Display → ℕ × ℕ
+whose d = (dom_of d, dev_of d)
+
+-- it has the same number, and serves the same domain with the same parts
 abbrev pub Same : Display → Display → Type 0
-Same old new = (dom_of new ≡ dom_of old) × (parts_of new ≡ parts_of old)
+Same old new = (whose new ≡ whose old) × (parts_of new ≡ parts_of old)
 
 -- the display over these numbers of frames and grant entries
 abbrev pub site_of : (frames grants : ℕ → ℕ) → Display → Site

@@ -18,7 +18,7 @@ use host_events::Queue;
 use link_core::Link;
 use page_directory::Walk;
 use pv_words::{
-    Access, DomId, GrantRefusal, Hold, HostEvent, HostRefusal, Reason, Said, State, Words,
+    DevId, DomId, GrantRefusal, Hold, HostEvent, HostRefusal, Reason, State, Words,
 };
 use std::alloc::{AllocError, Global};
 use xenbus_states::{Action, Back, Nodes};
@@ -76,6 +76,7 @@ enum Activity {
 /// A display, its connection to a frontend, and how far its work has come.
 #[derive(Drop)]
 pub struct Display {
+    dev: DevId,
     dom: DomId,
     connection: Back,
     // The nodes as they stood when the frontend last set its state, and those that the last Connect read.
@@ -113,18 +114,19 @@ impl Display {
     ghost use Rattle.link_core.specs.Stays.{AccessIn};
     ghost use Rattle.device_core.specs.Order.{Between, MayChoose, MayStep, Steps, Heard, Sets, Hosts, next, at_rest, rests_next};
     ghost use Rattle.display_backend.specs.declared.display.Activity.TheVariants as activity;
-    ghost use Rattle.display_backend.specs.Display.{dom_of, parts_of, Same, held_of, all_held, walk_pages, site_of, work_of, stand_of};
+    ghost use Rattle.display_backend.specs.Display.{dev_of, dom_of, parts_of, Same, held_of, all_held, walk_pages, site_of, work_of, stand_of};
     ghost use Rattle.display_backend.specs.Goes.{Begins};
     ghost use Rattle.device_core.specs.Site.{Site};
     ghost use Rattle.display_backend.specs.Waiting.{is_for};
     ghost use Rattle.host_events.specs.Queue.{refusal_in};
     ghost use Rattle.display_backend.specs.Work.{display, refusal_at, first_work, choice};
 
-    /// A display of so many parts of this domain, which waits for its frontend.
-    pub fn new(alloc: Global, dom: DomId, connectors: u8) -> Result<Display, AllocError>
+    /// The display of this number, of so many parts and of this domain, which waits for its frontend.
+    pub fn new(alloc: Global, dev: DevId, dom: DomId, connectors: u8) -> Result<Display, AllocError>
         requires some { 1 ≤ connectors }
         requires few { connectors ≤ 4 }
         ensures between { IfOk result (λ d. (site : Site) → stand_of site d ≡ Between first_work) }
+        ensures dev { IfOk result (λ d. dev_of d ≡ dev.0) }
         ensures dom { IfOk result (λ d. dom_of d ≡ dom.0) }
         ensures parts { IfOk result (λ d. parts_of d ≡ connectors) }
         ensures bare { IfOk result (λ d. held_of d ≡ []) }
@@ -136,6 +138,7 @@ impl Display {
         let store = Store::new(alloc)?;
         let waiting = Queue::new(alloc)?;
         Ok(Display {
+            dev,
             dom,
             connection: Back::new(),
             seen: Nodes::new(),
@@ -167,6 +170,7 @@ impl Display {
     /// Hears that the frontend set its state, while its nodes stand so.
     pub fn bus(&mut self, front: State, nodes: &Nodes)
         ensures hears { (site : Site) → stand_of site self.new ≡ next (display site) (stand_of site self.old) (Heard (Sets front nodes.now)) }
+        ensures dev { dev_of self.new ≡ dev_of self.old }
         ensures dom { dom_of self.new ≡ dom_of self.old }
         ensures parts { parts_of self.new ≡ parts_of self.old }
         ensures held { held_of self.new ≡ held_of self.old }
@@ -182,6 +186,7 @@ impl Display {
         ensures hears { (site : Site) → stand_of site self.new ≡ next (display site) (stand_of site self.old) (Heard (Hosts e)) }
         ensures refusal { (site : Site) → refusal_in result ≡ refusal_at (stand_of site self.old) }
         ensures err { OnErr result (self.new ≡ self.old) }
+        ensures dev { dev_of self.new ≡ dev_of self.old }
         ensures dom { dom_of self.new ≡ dom_of self.old }
         ensures parts { parts_of self.new ≡ parts_of self.old }
         ensures held { held_of self.new ≡ held_of self.old }
@@ -279,6 +284,7 @@ impl Display {
         ensures steps { Steps (display (site_of (W.frames_of words.old) (W.grants_of words.old) self.old)) (stand_of (site_of (W.frames_of words.old) (W.grants_of words.old) self.old) self.old) result.access result.said (stand_of (site_of (W.frames_of words.old) (W.grants_of words.old) self.old) self.new) }
         ensures made { Makes W.makes words.old result.access words.new }
         ensures stays { AccessIn (held_of self.old) result.access }
+        ensures dev { dev_of self.new ≡ dev_of self.old }
         ensures dom { dom_of self.new ≡ dom_of self.old }
         ensures parts { parts_of self.new ≡ parts_of self.old }
     {

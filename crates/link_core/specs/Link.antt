@@ -17,6 +17,10 @@ use Rattle.link_core.specs.Stage.{taken_in, answered_in, slept_in, held_in, ring
 unfoldable pub dom_of : Link → ℕ
 dom_of l = l.dom.0
 
+-- the part of its device whose pages they are
+abbrev pub part_of : Link → ℕ
+part_of l = l.part
+
 -- the pages that it holds: the ring's page before the event page
 unfoldable pub held_of : Link → List Hold
 held_of l = held_in l.kept l.ring_page l.event_page
@@ -139,13 +143,14 @@ answered_of j = record { ring = j.ring; event = j.event; rsp = next_index j.rsp;
 -- an activity on the ring changes nothing of what the link holds
 pub record Keeps (old new : Link) : Type 0 where
   pub dom : dom_of new ≡ dom_of old
+  pub part : part_of new ≡ part_of old
   pub held : held_of new ≡ held_of old
   pub is_joined : is_joined new ≡ is_joined old
   pub page : page_of new ≡ page_of old
 
--- what a step of a Connect makes of a link
+-- what a step of a Connect makes of a link, which isn't joined until it ends with Ok
 abbrev pub AfterConnect : Option (Result (Unit {0}) GrantRefusal) → Link → Type 0
-AfterConnect None new = connects new ≡ true
+AfterConnect None new = (connects new ≡ true) × (is_joined new ≡ false)
 AfterConnect (Some (Ok u)) new = (idle new ≡ true) × (is_joined new ≡ true) × (held_of new ≡ pages_of (joined_of new))
 AfterConnect (Some (Err r)) new = (idle new ≡ true) × (is_joined new ≡ false)
 

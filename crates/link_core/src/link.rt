@@ -86,11 +86,12 @@ impl Link {
     ghost use Rattle.link_core.specs.declared.link.Kept.TheVariants as kept;
     ghost use Rattle.link_core.specs.declared.link.Stage.TheVariants as stage;
     ghost use Rattle.link_core.specs.Activities.{Page, Joined, look_plan, take_plan, answer_plan, sleep_plan, pages_of};
-    ghost use Rattle.link_core.specs.Link.{dom_of, held_of, is_joined, joined_of, page_of, rsp_of, take_left, answer_left, sleep_left, idle, connect_left, drop_left, Leads, refs_of, ending_of, rest_of, answered_of, Keeps, AfterConnect, rings, Came, CameBy};
+    ghost use Rattle.link_core.specs.Link.{dom_of, part_of, held_of, is_joined, joined_of, page_of, rsp_of, take_left, answer_left, sleep_left, idle, connect_left, drop_left, Leads, refs_of, ending_of, rest_of, answered_of, Keeps, AfterConnect, rings, Came, CameBy};
 
-    /// The link of this part of a device of the domain, which holds no page.
+    /// The link of this part of a device of the domain, which holds no page. It stays that part's.
     pub fn new(dom: DomId, part: u8) -> Link
         ensures dom { dom_of result ≡ dom.0 }
+        ensures part { part_of result ≡ part }
         ensures bare { held_of result ≡ [] }
         ensures apart { is_joined result ≡ false }
         ensures idle { idle result ≡ true }
@@ -192,6 +193,7 @@ impl Link {
         ensures kept { self.new.kept ≡ kept.Nothing }
         ensures ring { self.new.ring ≡ 0 }
         ensures dom { self.new.dom ≡ self.old.dom }
+        ensures part { part_of self.new ≡ part_of self.old }
         ensures map { (frames grants : ℕ) → mapping.map_left frames grants self.new.map ≡ map_plan frames grants self.old.dom.0 gref.0 Write }
     {
         self.kept = Kept::Nothing;
@@ -210,9 +212,11 @@ impl Link {
         ensures made { Makes W.makes words.old result.access words.new }
         ensures stays { (held : List Hold) → AccessIn held result.access }
         ensures dom { dom_of self.new ≡ dom_of self.old }
+        ensures part { part_of self.new ≡ part_of self.old }
         ensures ends { AfterConnect result.done self.new }
         ensures came { Came result.done self.new }
     {
+        self.joined = false;
         let turn = self.map.step(words);
         let access = turn.access;
         let Some(end) = turn.done else {
@@ -227,7 +231,6 @@ impl Link {
                 Turn { access, done: None }
             }
             Err(refusal) => {
-                self.joined = false;
                 self.stage = Stage::Rest;
                 Turn {
                     access,
@@ -249,16 +252,17 @@ impl Link {
         ensures made { Makes W.makes words.old result.access words.new }
         ensures stays { AccessIn (held_of self.old) result.access }
         ensures dom { dom_of self.new ≡ dom_of self.old }
+        ensures part { part_of self.new ≡ part_of self.old }
         ensures ends { AfterConnect result.done self.new }
         ensures came { Came result.done self.new }
     {
+        self.joined = false;
         let known = event.0 < words.grants(self.dom);
         let at = Place::Cell(self.ring_page.dom, self.ring_page.frame, RSP_PROD);
         let rsp = words.load(at);
         let access = Some(Access::Load(at, rsp));
         self.ring = BackRing::new(rsp);
         if !known {
-            self.joined = false;
             self.stage = Stage::Rest;
             return Turn {
                 access,
@@ -278,9 +282,11 @@ impl Link {
         ensures made { Makes W.makes words.old result.access words.new }
         ensures stays { (held : List Hold) → AccessIn held result.access }
         ensures dom { dom_of self.new ≡ dom_of self.old }
+        ensures part { part_of self.new ≡ part_of self.old }
         ensures ends { AfterConnect result.done self.new }
         ensures came { rings self.old ≡ true → Came result.done self.new }
     {
+        self.joined = false;
         let turn = self.map.step(words);
         let access = turn.access;
         let Some(end) = turn.done else {
@@ -295,7 +301,6 @@ impl Link {
                 Turn { access, done: None }
             }
             Err(refusal) => {
-                self.joined = false;
                 self.stage = Stage::Rest;
                 Turn {
                     access,
@@ -313,6 +318,7 @@ impl Link {
         ensures made { Makes W.makes words.old result.access words.new }
         ensures stays { AccessIn (held_of self.old) result.access }
         ensures dom { dom_of self.new ≡ dom_of self.old }
+        ensures part { part_of self.new ≡ part_of self.old }
         ensures ends { AfterConnect result.done self.new }
         ensures came { rings self.old ≡ true → Came result.done self.new }
     {
@@ -330,7 +336,8 @@ impl Link {
     /// Makes the next access of a Connect: it maps the ring's page and loads rsp_prod, where it is given a ring, and maps
     /// the event page and loads in_prod; both pages for loads and stores. It begins on a link that holds no page, and what
     /// it mapped is held from then on. Done is Ok with the load of in_prod, or why a page was refused; then the link still
-    /// holds the page that was mapped. Where the domain has no entry for the first page, it is done without an access.
+    /// holds the page that was mapped. Where the domain has no entry for the first page, it is done without an access. The
+    /// link isn't joined until the Connect ends with Ok.
     pub fn connect_step<W: Words>(
         &mut self,
         words: &mut W,
@@ -342,6 +349,7 @@ impl Link {
         ensures made { Makes W.makes words.old result.access words.new }
         ensures stays { AccessIn (held_of self.old) result.access }
         ensures dom { dom_of self.new ≡ dom_of self.old }
+        ensures part { part_of self.new ≡ part_of self.old }
         ensures ends { AfterConnect result.done self.new }
         ensures came { CameBy (refs_of ring) (rings self.old) result.done self.new }
     {
@@ -373,6 +381,7 @@ impl Link {
         ensures stays { AccessIn (held_of self.old) result.access }
         ensures held { held_of self.new ≡ rest_of (held_of self.old) }
         ensures dom { dom_of self.new ≡ dom_of self.old }
+        ensures part { part_of self.new ≡ part_of self.old }
         ensures apart { is_joined self.new ≡ false }
         ensures idle { idle self.new ≡ true }
     {

@@ -28,14 +28,14 @@ pub struct DomainSize {
 }
 
 /// What kind of device it is.
-#[derive(Clone, Copy, Debug, PartialEq, Eq)]
+#[derive(Clone, Debug, Drop, PartialEq, Eq)]
 pub enum DeviceKind {
     /// A display with this many connectors, 1 to 4.
     Display(u8),
 }
 
 /// A device, and whose frontend it serves.
-#[derive(Clone, Copy, Debug, PartialEq, Eq)]
+#[derive(Clone, Debug, Drop, PartialEq, Eq)]
 pub struct DeviceSetup {
     pub dev: DevId,
     pub dom: DomId,

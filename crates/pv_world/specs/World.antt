@@ -196,6 +196,7 @@ Exchanged g frames grants memory devices at old new es m r =
 pub record IsDeclaredAs (s : DeviceSetup) (p : Placed) : Type 0 where
   pub setup_is : p.setup ≡ s
   pub stands : (site : Site) → backend.stand_of site p.device ≡ first_stand
+  pub dev_is : backend.dev_of p.device ≡ s.dev.0
   pub dom_is : backend.dom_of p.device ≡ s.dom.0
   pub parts_are : backend.parts_of p.device ≡ parts_of s.kind
   pub nodes_are : p.nodes ≡ no_nodes

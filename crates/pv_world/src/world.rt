@@ -13,11 +13,13 @@ ghost use Rattle.pv_world.specs.Owner.{EntersTurn};
 
 use crate::owner::{Owning, news, place};
 use backend_core::Device;
-use display_backend::{Display, Step};
+use device_core::Step;
+use display_backend::Display;
 use grant_table::{Owned, OwnerStep};
 use pv_words::{
     Access, DevId, DeviceKind, DeviceSetup, DomId, End, Entry, Frame, GrantRef, HostEvent,
-    JOURNAL_LIMIT, Journal, Machine, Mode, NodeValue, Place, Said, Setup, State, Stop, Turn, Who,
+    JOURNAL_LIMIT, Journal, Machine, Mode, NodeValue, Place, Said, Setup, State, Stop, Turn,
+    Who,
 };
 use std::alloc::{AllocError, Global};
 use xenbus_states::Nodes;
@@ -126,13 +128,13 @@ fn declare(alloc: Global, setup: &DeviceSetup) -> Result<Placed, AllocError>
     requires most { parts_of setup.now.kind ≤ 4 }
     ensures { IfOk result (λ p. IsDeclaredAs setup.now p) }
 {
-    let device = match setup.kind {
+    let device = match &setup.kind {
         DeviceKind::Display(connectors) => {
-            Device::Display(Display::new(alloc, setup.dom, connectors)?)
+            Device::Display(Display::new(alloc, setup.dev, setup.dom, *connectors)?)
         }
     };
     Ok(Placed {
-        setup: *setup,
+        setup: setup.clone()?,
         device,
         nodes: Nodes::new(),
     })

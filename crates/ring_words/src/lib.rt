@@ -86,10 +86,10 @@ impl BackRing {
         }
     }
 
-    /// The word of the page where word `i` of the slot of the next response stands. The request there is
-    /// the next to be answered, and its response goes in its place.
+    /// The word of the page where word `i` of the slot of the next response stands: word `16 + 16 * slot + i`, where the
+    /// slot is the response's index modulo 32. The request there is the next to be answered, and its response goes in its
+    /// place. A slot has 16 words; a greater `i` counts on behind them, and stays in the page all the same.
     pub fn slot_word(&self, i: u8) -> u16
-        requires { i < SLOT_WORDS }
         ensures word { result ≡ slot_of self.now i }
         ensures in_page { result < 1024 }
     {

@@ -19,6 +19,7 @@ fn answers_in_turn(rt: HostRuntime) {
     let mut ring = BackRing::new(4_294_967_295);
     assert_eq!(rt; ring.slot_word(0), 512);
     assert_eq!(rt; ring.slot_word(15), 527);
+    assert_eq!(rt; ring.slot_word(255), 767);
     assert_eq!(rt; ring.answered(), 0);
     assert_eq!(rt; ring.rsp(), 0);
     assert_eq!(rt; ring.slot_word(0), FIRST_SLOT_WORD);

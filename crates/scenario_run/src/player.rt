@@ -131,19 +131,20 @@ fn play_all<W: Machine>(
     Ok(())
 }
 
-/// Plays a script over a list of words, all 0 at the beginning. After a Stop the entries so far stand.
+/// Plays a script over a list of words, all 0 at the beginning; a script can always be played. After a Stop the entries
+/// so far stand.
 pub fn play(alloc: Global, script: &Script, journal: &mut Journal) -> Result<(), Stop>
-    requires playable { IsPlayable script.now }
-    requires empty { journal.old.entries ≡ [] }
+    requires { journal.old.entries ≡ [] }
     ensures ok { OnOk result (IsLegal script.now journal.new.entries) }
     ensures stopped { OnErr result (IsLegalTo script.now journal.new.entries) }
     ensures full { result ≡ Err stop.JournalFull → IsFullFor script.now journal.new.entries }
     ensures wanting { result ≡ Err stop.OutOfMemory → length journal.new.entries < 8388608 }
 {
-    let Ok(memory) = ListWords::new(alloc, &script.setup().sizes) else {
+    let setup = script.setup();
+    let Ok(memory) = ListWords::new(alloc, &setup.sizes) else {
         return Err(Stop::OutOfMemory);
     };
-    match World::new(alloc, memory, script.setup()) {
+    match World::new(alloc, memory, setup) {
         Ok(mut world) => play_all(script, &mut world, journal),
         Err(_) => Err(Stop::OutOfMemory),
     }

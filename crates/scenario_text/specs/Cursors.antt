@@ -1,5 +1,7 @@
 -- How far the tokens of a line were read.
 use Rattle.std.specs.Prelude.{ℕ, ◌+◌, List, [], ◌∷◌, length, Option, Some, None, Result}
+use Rattle.std.specs.Borrow.{Bor}
+use Rattle.pv_words.specs.declared.setup.DeviceSetup.{DeviceSetup}
 use Rattle.scenario_text.specs.declared.fault.Flaw.{Flaw}
 use Rattle.scenario_text.specs.declared.fault.FaultKind.TheVariants.{MissingWord}
 use Rattle.scenario_text.specs.declared.words.Word.{Word}
@@ -41,3 +43,6 @@ seen_word x = (token x.0, cursor x.1)
 
 abbrev pub seen : {X : Type 0} → X × Words → X × Cursor
 seen x = (x.0, cursor x.1)
+
+abbrev pub seen_device : Bor DeviceSetup × Words → DeviceSetup × Cursor
+seen_device x = (x.0.now, cursor x.1)

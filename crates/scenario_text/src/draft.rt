@@ -9,7 +9,7 @@ use pv_words::{DeviceSetup, DomainSize};
 use std::alloc::Global;
 
 /// What a line holds.
-#[derive(Clone, Copy, Debug, PartialEq, Eq)]
+#[derive(Debug, Drop)]
 pub enum Item {
     Domain(DomainSize),
     Device(DeviceSetup),

@@ -1,8 +1,8 @@
 //! The domains and devices that a line names.
 
-ghost use Rattle.std.specs.Prelude.{◌≡◌};
+ghost use Rattle.std.specs.Prelude.{◌≡◌, option_map};
 ghost use Rattle.scenario_text.specs.Flaws.{Gives};
-ghost use Rattle.scenario_text.specs.Cursors.{cursor, seen};
+ghost use Rattle.scenario_text.specs.Cursors.{cursor, seen, seen_device};
 ghost use Rattle.scenario_text.specs.Lookups.{size_of, device_of, has_device, parts_of, frames_left, grants_left, new_domain_at, size_at, new_device_at, device_at};
 
 use crate::argument::between;
@@ -23,18 +23,18 @@ fn size_of(dom: u64, sizes: &[DomainSize]) -> Option<DomainSize>
 
 /// The device of this number.
 #[tactic(auto, unfolding(crate::specs::Lookups::device_of))]
-fn device_of(dev: u64, devices: &[DeviceSetup]) -> Option<DeviceSetup>
-    ensures { result ≡ device_of dev devices.now }
+fn device_of(dev: u64, devices: &[DeviceSetup]) -> Option<&DeviceSetup>
+    ensures { option_map (λ d. d.now) result ≡ device_of dev devices.now }
 {
-    devices.iter().copied().find(|d| u64::from(d.dev.0) == dev)
+    devices.iter().find(|d| u64::from(d.dev.0) == dev)
 }
 
 /// How many parts a device has: a display's connectors.
-pub fn parts_of(kind: DeviceKind) -> u8
-    ensures { result ≡ parts_of kind }
+pub fn parts_of(kind: &DeviceKind) -> u8
+    ensures { result ≡ parts_of kind.now }
 {
     match kind {
-        DeviceKind::Display(connectors) => connectors,
+        DeviceKind::Display(connectors) => *connectors,
     }
 }
 
@@ -122,11 +122,11 @@ pub fn new_device<'a>(devices: &[DeviceSetup], words: Words<'a>) -> Result<(DevI
 /// The next token as the number of a declared device, which is returned.
 #[inline(always)]
 #[tactic(auto, unfolding(crate::specs::Lookups::device_at))]
-pub fn declared_device<'a>(
-    devices: &[DeviceSetup],
+pub fn declared_device<'d, 'a>(
+    devices: &'d [DeviceSetup],
     words: Words<'a>,
-) -> Result<(DeviceSetup, Words<'a>), Flaw>
-    ensures { Gives seen result (device_at devices.now (cursor words.entry)) }
+) -> Result<(&'d DeviceSetup, Words<'a>), Flaw>
+    ensures { Gives seen_device result (device_at devices.now (cursor words.entry)) }
 {
     let (dev, words) = between(words, 1, 16)?;
     match device_of(dev.value, devices) {

@@ -9,7 +9,8 @@ use pv_words::{DeviceSetup, Devices, DomainSize, Setup, Sizes};
 use std::alloc::Global;
 use std::marker::Model;
 
-/// What a text says, seen as what it declares and the statements to be played.
+/// What a text says, seen as what it declares and the statements to be played. It can be played: its domains and devices
+/// keep their rules, and its statements name only what it declared.
 #[derive(Debug, Drop)]
 pub struct Script {
     setup: Setup,
@@ -18,10 +19,13 @@ pub struct Script {
 
 impl Model for Script {
     ghost use Rattle.scenario_text.specs.Scenario.{Scenario};
+    ghost use Rattle.scenario_text.specs.Playable.{IsPlayable};
 
     ghost Value = { Scenario };
 
     ghost view = { λ s. record { sizes = s.setup.sizes; devices = s.setup.devices; statements = s.statements.items } };
+
+    ghost invariant = { λ s. IsPlayable (record { sizes = s.setup.sizes; devices = s.setup.devices; statements = s.statements.items }) };
 }
 
 impl Script {
@@ -45,10 +49,11 @@ impl Script {
         })
     }
 
-    /// The declarations.
+    /// The declarations. Whoever holds a script knows that it can be played.
     pub fn setup(&self) -> &Setup
         ensures sizes { result.now.sizes ≡ self.now.sizes }
         ensures devices { result.now.devices ≡ self.now.devices }
+        ensures playable { IsPlayable self.now }
     {
         &self.setup
     }

@@ -198,7 +198,7 @@ pub fn node<'a>(so_far: &Draft, words: Words<'a>) -> Result<(Item, Words<'a>), F
     ensures { Gives seen result (node_at (drafted so_far.now) (cursor words.entry)) }
 {
     let (device, words) = declared_device(&so_far.devices, words)?;
-    let (part, words) = below(words, u64::from(parts_of(device.kind)))?;
+    let (part, words) = below(words, u64::from(parts_of(&device.kind)))?;
     let (key, words) = key(words)?;
     let (value, words) = node_value(words)?;
     let statement = Statement::Node(device.dev, part.value as u8, key, value);

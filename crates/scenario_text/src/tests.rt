@@ -34,12 +34,13 @@ fn one_of_each(rt: HostRuntime) -> Result<(), Fail> {
         Statement::Put(Place::Cell(DomId(1), Frame(0), 16), 262145),
         Statement::Serve(DevId(1)),
     ];
+    let devices = [device];
     assert_eq!(rt; script.sizes(), [size].as_slice());
-    assert_eq!(rt; script.devices(), [device].as_slice());
+    assert_eq!(rt; script.devices(), devices.as_slice());
     assert_eq!(rt; script.statements(), statements.as_slice());
     let (setup, played) = script.into_parts();
     assert_eq!(rt; setup.sizes.as_slice(), [size].as_slice());
-    assert_eq!(rt; setup.devices.as_slice(), [device].as_slice());
+    assert_eq!(rt; setup.devices.as_slice(), devices.as_slice());
     assert_eq!(rt; played.as_slice(), statements.as_slice());
     Ok(())
 }

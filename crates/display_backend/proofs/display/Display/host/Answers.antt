@@ -23,6 +23,7 @@ returns-in_default c =
       refusal = λ site.
           sym (refused_in site (work_of d) d.read (stock_of d.store) d.walk d.links.items d.reply d.at d.activity ∙ refuses);
       err = refl;
+      dev = refl;
       dom = refl;
       parts = refl;
       held = refl;

@@ -1,4 +1,4 @@
-use Rattle.std.proofs.Common.{inr, ◌<◌, ◌++◌, length, slice_get, refl, sym, ap, subst, ◌∙◌}
+use Rattle.std.proofs.Common.{ℕ, inr, ◌<◌, ◌++◌, length, slice_get, refl, sym, ap, subst, ◌∙◌}
 use Rattle.pv_words.specs.Plan.{mapped}
 use Rattle.device_core.specs.Order.{MayStep, Steps}
 use Rattle.device_core.proofs.Steps.{steps_during}
@@ -130,37 +130,55 @@ returns-in-Sleeping-clause-steps g c =
     (steps_during (display (site_of (g.W.Words.frames_of c.args.words.now) (g.W.Words.grants_of c.args.words.now) d)) (work_of d) (mapped (λ x. Slept x) (sleeping c.in-Sleeping.part d.links.items)) c.sleep.result.access c.sleep.result.said there (c.sleep.ensures.goes (site_of (g.W.Words.frames_of c.args.words.now) (g.W.Words.grants_of c.args.words.now) d)))
 
 pub returns-in-Between-clause-dom : goal.returns-in-Between-clause-dom
-returns-in-Between-clause-dom g c = c.begin.ensures.same.0
+returns-in-Between-clause-dom g c = ap (λ (x : ℕ × ℕ). x.0) c.begin.ensures.same.0
+
+pub returns-in-Between-clause-dev : goal.returns-in-Between-clause-dev
+returns-in-Between-clause-dev g c = ap (λ (x : ℕ × ℕ). x.1) c.begin.ensures.same.0
 
 pub returns-in-Between-clause-parts : goal.returns-in-Between-clause-parts
 returns-in-Between-clause-parts g c = c.begin.ensures.same.1
 
 pub returns-in-Connecting-clause-dom : goal.returns-in-Connecting-clause-dom
-returns-in-Connecting-clause-dom g c = c.connect.ensures.same.0
+returns-in-Connecting-clause-dom g c = ap (λ (x : ℕ × ℕ). x.0) c.connect.ensures.same.0
+
+pub returns-in-Connecting-clause-dev : goal.returns-in-Connecting-clause-dev
+returns-in-Connecting-clause-dev g c = ap (λ (x : ℕ × ℕ). x.1) c.connect.ensures.same.0
 
 pub returns-in-Connecting-clause-parts : goal.returns-in-Connecting-clause-parts
 returns-in-Connecting-clause-parts g c = c.connect.ensures.same.1
 
 pub returns-in-Leaving-clause-dom : goal.returns-in-Leaving-clause-dom
-returns-in-Leaving-clause-dom g c = c.leave.ensures.same.0
+returns-in-Leaving-clause-dom g c = ap (λ (x : ℕ × ℕ). x.0) c.leave.ensures.same.0
+
+pub returns-in-Leaving-clause-dev : goal.returns-in-Leaving-clause-dev
+returns-in-Leaving-clause-dev g c = ap (λ (x : ℕ × ℕ). x.1) c.leave.ensures.same.0
 
 pub returns-in-Leaving-clause-parts : goal.returns-in-Leaving-clause-parts
 returns-in-Leaving-clause-parts g c = c.leave.ensures.same.1
 
 pub returns-in-Taking-clause-dom : goal.returns-in-Taking-clause-dom
-returns-in-Taking-clause-dom g c = c.take.ensures.same.0
+returns-in-Taking-clause-dom g c = ap (λ (x : ℕ × ℕ). x.0) c.take.ensures.same.0
+
+pub returns-in-Taking-clause-dev : goal.returns-in-Taking-clause-dev
+returns-in-Taking-clause-dev g c = ap (λ (x : ℕ × ℕ). x.1) c.take.ensures.same.0
 
 pub returns-in-Taking-clause-parts : goal.returns-in-Taking-clause-parts
 returns-in-Taking-clause-parts g c = c.take.ensures.same.1
 
 pub returns-in-Answering-clause-dom : goal.returns-in-Answering-clause-dom
-returns-in-Answering-clause-dom g c = c.answer.ensures.same.0
+returns-in-Answering-clause-dom g c = ap (λ (x : ℕ × ℕ). x.0) c.answer.ensures.same.0
+
+pub returns-in-Answering-clause-dev : goal.returns-in-Answering-clause-dev
+returns-in-Answering-clause-dev g c = ap (λ (x : ℕ × ℕ). x.1) c.answer.ensures.same.0
 
 pub returns-in-Answering-clause-parts : goal.returns-in-Answering-clause-parts
 returns-in-Answering-clause-parts g c = c.answer.ensures.same.1
 
 pub returns-in-Sleeping-clause-dom : goal.returns-in-Sleeping-clause-dom
-returns-in-Sleeping-clause-dom g c = c.sleep.ensures.same.0
+returns-in-Sleeping-clause-dom g c = ap (λ (x : ℕ × ℕ). x.0) c.sleep.ensures.same.0
+
+pub returns-in-Sleeping-clause-dev : goal.returns-in-Sleeping-clause-dev
+returns-in-Sleeping-clause-dev g c = ap (λ (x : ℕ × ℕ). x.1) c.sleep.ensures.same.0
 
 pub returns-in-Sleeping-clause-parts : goal.returns-in-Sleeping-clause-parts
 returns-in-Sleeping-clause-parts g c = c.sleep.ensures.same.1
@@ -210,13 +228,19 @@ pub returns-in-Freeing-clause-stays : goal.returns-in-Freeing-clause-stays
 returns-in-Freeing-clause-stays g c = c.free.ensures.stays _
 
 pub returns-in-Walking-clause-dom : goal.returns-in-Walking-clause-dom
-returns-in-Walking-clause-dom g c = c.walk_on.ensures.same.0
+returns-in-Walking-clause-dom g c = ap (λ (x : ℕ × ℕ). x.0) c.walk_on.ensures.same.0
+
+pub returns-in-Walking-clause-dev : goal.returns-in-Walking-clause-dev
+returns-in-Walking-clause-dev g c = ap (λ (x : ℕ × ℕ). x.1) c.walk_on.ensures.same.0
 
 pub returns-in-Walking-clause-parts : goal.returns-in-Walking-clause-parts
 returns-in-Walking-clause-parts g c = c.walk_on.ensures.same.1
 
 pub returns-in-Freeing-clause-dom : goal.returns-in-Freeing-clause-dom
-returns-in-Freeing-clause-dom g c = c.free.ensures.same.0
+returns-in-Freeing-clause-dom g c = ap (λ (x : ℕ × ℕ). x.0) c.free.ensures.same.0
+
+pub returns-in-Freeing-clause-dev : goal.returns-in-Freeing-clause-dev
+returns-in-Freeing-clause-dev g c = ap (λ (x : ℕ × ℕ). x.1) c.free.ensures.same.0
 
 pub returns-in-Freeing-clause-parts : goal.returns-in-Freeing-clause-parts
 returns-in-Freeing-clause-parts g c = c.free.ensures.same.1

@@ -34,7 +34,7 @@ returns-then-n-lt16-clause-turns g c =
 
 pub returns-then-n-lt16-clause-keeps : goal.returns-then-n-lt16-clause-keeps
 unfolding dom_of held_of is_joined page_of
-returns-then-n-lt16-clause-keeps g c = record { dom = refl; held = refl; is_joined = refl; page = refl }
+returns-then-n-lt16-clause-keeps g c = record { dom = refl; part = refl; held = refl; is_joined = refl; page = refl }
 
 pub returns-then-n-lt16-clause-joined : goal.returns-then-n-lt16-clause-joined
 unfolding joined_of
@@ -56,7 +56,7 @@ returns-then-n-eq16-clause-turns g c =
 
 pub returns-then-n-eq16-clause-keeps : goal.returns-then-n-eq16-clause-keeps
 unfolding dom_of held_of is_joined page_of
-returns-then-n-eq16-clause-keeps g c = record { dom = refl; held = refl; is_joined = refl; page = refl }
+returns-then-n-eq16-clause-keeps g c = record { dom = refl; part = refl; held = refl; is_joined = refl; page = refl }
 
 pub returns-then-n-eq16-clause-joined : goal.returns-then-n-eq16-clause-joined
 unfolding joined_of
@@ -77,7 +77,7 @@ returns-clause-turns g c =
 
 pub returns-clause-keeps : goal.returns-clause-keeps
 unfolding dom_of held_of is_joined page_of
-returns-clause-keeps g c = record { dom = refl; held = refl; is_joined = refl; page = refl }
+returns-clause-keeps g c = record { dom = refl; part = refl; held = refl; is_joined = refl; page = refl }
 
 pub returns-clause-joined : goal.returns-clause-joined
 unfolding joined_of

@@ -63,12 +63,12 @@ unfolding idle is_joined
 returns-in-Err-clause-ends g c = (refl, refl)
 
 pub returns-in_default-clause-ends : goal.returns-in_default-clause-ends
-unfolding connects
-returns-in_default-clause-ends g c = ap is_in_connect c.requires.stage
+unfolding connects is_joined
+returns-in_default-clause-ends g c = (ap is_in_connect c.requires.stage, refl)
 
 pub returns-in-Ok-clause-ends : goal.returns-in-Ok-clause-ends
-unfolding connects
-returns-in-Ok-clause-ends g c = refl
+unfolding connects is_joined
+returns-in-Ok-clause-ends g c = (refl, refl)
 
 pub returns-in_default-clause-came : goal.returns-in_default-clause-came
 unfolding rings

@@ -55,8 +55,8 @@ unfolding idle is_joined
 returns-then-not-known-clause-ends g c = (refl, refl)
 
 pub returns-clause-ends : goal.returns-clause-ends
-unfolding connects
-returns-clause-ends g c = refl
+unfolding connects is_joined
+returns-clause-ends g c = (refl, refl)
 
 pub returns-clause-came : goal.returns-clause-came
 unfolding rings

@@ -31,7 +31,7 @@ returns-then-slept-eq0-clause-turns g c =
 
 pub returns-then-slept-eq0-clause-keeps : goal.returns-then-slept-eq0-clause-keeps
 unfolding dom_of held_of is_joined page_of
-returns-then-slept-eq0-clause-keeps g c = record { dom = refl; held = refl; is_joined = refl; page = refl }
+returns-then-slept-eq0-clause-keeps g c = record { dom = refl; part = refl; held = refl; is_joined = refl; page = refl }
 
 pub returns-then-slept-eq0-clause-joined : goal.returns-then-slept-eq0-clause-joined
 unfolding joined_of
@@ -51,7 +51,7 @@ returns-clause-turns g c =
 
 pub returns-clause-keeps : goal.returns-clause-keeps
 unfolding dom_of held_of is_joined page_of
-returns-clause-keeps g c = record { dom = refl; held = refl; is_joined = refl; page = refl }
+returns-clause-keeps g c = record { dom = refl; part = refl; held = refl; is_joined = refl; page = refl }
 
 pub returns-clause-joined : goal.returns-clause-joined
 unfolding joined_of

@@ -1,5 +1,5 @@
 -- What a call of a port does to the octets that it tells of, and to its count of faults.
-use Rattle.std.specs.Prelude.{◌≡◌, ℕ, ◌+◌, ◌-◌, ◌^◌, ◌≤◌, min, List, ◌++◌, [], Option, IfSome, option_map, Result, OnErr, is_err, if◌then◌else◌}
+use Rattle.std.specs.Prelude.{◌≡◌, ℕ, ◌+◌, ◌-◌, ◌^◌, ◌≤◌, min, List, ◌++◌, [], Option, IfSome, option_map, Result, OnOk, OnErr, is_err, if◌then◌else◌}
 
 -- one more, in a count of 64 bits that stands still at its last value
 abbrev pub counted : ℕ → ℕ
@@ -9,10 +9,11 @@ counted n = min (n + 1) (2 ^ 64 - 1)
 abbrev pub Rose : ℕ → ℕ → Type 0
 Rose before now = counted before ≤ now
 
--- the count of faults never falls, and a call fails only where it rose
+-- the count of faults never falls: it rose where a call failed, and is as it was after any other call
 pub record HasCause {T E : Type 0} (before now : ℕ) (result : Result T E) : Type 0 where
   pub later : before ≤ now
   pub failed : OnErr result (Rose before now)
+  pub passed : OnOk result (now ≡ before)
 
 -- the count of faults is one more after a call that failed, and the same after any other
 abbrev pub CountsFault : {T E : Type 0} → ℕ → ℕ → Result T E → Type 0

@@ -14,7 +14,7 @@ pub trait Source {
     /// The octets that are still to be read, where the source tells them.
     ghost rest: { Self → Option (List ℕ) };
 
-    /// How often reading has failed, in a count that stands still at `u64::MAX`.
+    /// How often reading has failed, in a count that stands still at `u64::MAX`. Only a call that fails changes it.
     ghost faults: { Self → ℕ };
 
     /// Reads octets into the front of `into`, and returns how many. None, where there is room, is the end.
@@ -33,7 +33,7 @@ pub trait Sink {
     /// The octets that the sink has got, where it tells them.
     ghost bytes: { Self → Option (List ℕ) };
 
-    /// How often writing has failed, in a count that stands still at `u64::MAX`.
+    /// How often writing has failed, in a count that stands still at `u64::MAX`. Only a call that fails changes it.
     ghost faults: { Self → ℕ };
 
     /// Takes octets from the front of `piece`, at least one if there is one, and returns how many.

@@ -16,7 +16,7 @@ pub use access::{Access, Turn};
 pub use device::{HostEvent, HostRefusal, NodeFault, NodeValue, Reason, Said, State, Touch};
 pub use entry::{End, Entry, Told};
 pub use grant::{GrantRefusal, Hold, Mode};
-pub use journal::{JOURNAL_LIMIT, Journal, Stop};
+pub use journal::{Entries, JOURNAL_LIMIT, Journal, Stop};
 pub use list_words::ListWords;
 pub use page_list::PageList;
 pub use place::{DevId, DomId, Frame, GrantRef, Half, Place, Who};

@@ -1,8 +1,7 @@
 -- What a status says by itself: the number that the program ends with, whether all was written, and its text.
-use Rattle.std.specs.Prelude.{ℕ, Bool, true, false, List, ◌++◌, codes}
+use Rattle.std.specs.Prelude.{ℕ, Bool, true, false, ◌&&◌, not, if◌then◌else◌, List, ◌++◌, codes}
 use Rattle.std.specs.Fmt.{decimal}
-use Rattle.scenario_text.specs.declared.fault.FaultKind.{FaultKind}
-use Rattle.scenario_text.specs.declared.fault.FaultKind.TheVariants as kind
+use Rattle.scenario_text.specs.Texts.{kind_text}
 use Rattle.scenario_cli.specs.declared.status.Status.{Status}
 use Rattle.scenario_cli.specs.declared.status.Status.TheVariants.{Ok, Usage, Script, ReadFault, WriteFault, OutOfMemory, JournalFull, TooLong, NotLegal}
 
@@ -28,19 +27,10 @@ is_written JournalFull = true
 is_written TooLong = false
 is_written (NotLegal l) = false
 
-abbrev pub kind_text : FaultKind → List ℕ
-kind_text kind.BadByte = codes "BadByte"
-kind_text kind.UnknownStatement = codes "UnknownStatement"
-kind_text kind.MissingWord = codes "MissingWord"
-kind_text kind.ExtraWord = codes "ExtraWord"
-kind_text kind.BadNumber = codes "BadNumber"
-kind_text kind.OutOfRange = codes "OutOfRange"
-kind_text kind.BadWord = codes "BadWord"
-kind_text kind.Twice = codes "Twice"
-kind_text kind.Late = codes "Late"
-kind_text kind.Undeclared = codes "Undeclared"
-kind_text kind.NotAllowed = codes "NotAllowed"
-kind_text kind.WrongDevice = codes "WrongDevice"
+-- how the program ends once its output was flushed or not: with a fault exactly where the whole output was written and
+-- the flush failed
+abbrev pub ended_with : Status → (is_flushed : Bool) → Status
+ended_with s is_flushed = if is_written s && not is_flushed then WriteFault else s
 
 -- its name, and where the script is faulty
 abbrev pub status_text : Status → List ℕ

@@ -50,10 +50,7 @@ fn run_command(rt: &HostRuntime, alloc: Global) -> Status {
         &mut StdSink::new(&mut writer),
         &mut journal,
     );
-    match writer.flush() {
-        Err(_) if status.has_output() => Status::WriteFault,
-        _ => status,
-    }
+    status.flushed(writer.flush().is_ok())
 }
 
 fn main(rt: HostRuntime) -> ExitCode {

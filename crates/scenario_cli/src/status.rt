@@ -1,9 +1,9 @@
 //! How a command ended.
 
 ghost use Rattle.std.specs.Prelude.{◌≡◌};
-ghost use Rattle.scenario_cli.specs.Numbers.{is_written, kind_text, number_of};
+ghost use Rattle.scenario_cli.specs.Numbers.{ended_with, is_written, number_of};
 
-use scenario_text::{FaultKind, ScriptFault};
+use scenario_text::ScriptFault;
 use std::fmt::{self, Display, Formatter};
 
 /// How a command ended. Its name is what the program prints on the standard error, and its number is what the
@@ -54,25 +54,15 @@ impl Status {
     {
         matches!(self, Status::Ok | Status::JournalFull)
     }
-}
 
-// The name of a kind of fault.
-fn kind_name(kind: FaultKind) -> &'static str
-    ensures { result.now ≡ kind_text kind }
-{
-    match kind {
-        FaultKind::BadByte => "BadByte",
-        FaultKind::UnknownStatement => "UnknownStatement",
-        FaultKind::MissingWord => "MissingWord",
-        FaultKind::ExtraWord => "ExtraWord",
-        FaultKind::BadNumber => "BadNumber",
-        FaultKind::OutOfRange => "OutOfRange",
-        FaultKind::BadWord => "BadWord",
-        FaultKind::Twice => "Twice",
-        FaultKind::Late => "Late",
-        FaultKind::Undeclared => "Undeclared",
-        FaultKind::NotAllowed => "NotAllowed",
-        FaultKind::WrongDevice => "WrongDevice",
+    /// How the program ends that then flushed its output, or failed to.
+    pub fn flushed(self, is_flushed: bool) -> Status
+        ensures { result ≡ ended_with self is_flushed }
+    {
+        if self.has_output() && !is_flushed {
+            return Status::WriteFault;
+        }
+        self
     }
 }
 
@@ -89,7 +79,7 @@ impl Display for Status {
             Status::Script(fault) => {
                 let line = fault.line;
                 let column = fault.column;
-                let kind = kind_name(fault.kind);
+                let kind = fault.kind;
                 write!(f, "Script {line} {column} {kind}")
             }
             Status::ReadFault => write!(f, "ReadFault"),

@@ -1,7 +1,7 @@
 //! The command that plays a scenario.
 
 ghost use Rattle.std.specs.Prelude.{◌≡◌, [], ◌<◌, ◌↔◌, ◌^◌, ◌-◌, false, IsTrue, length};
-ghost use Rattle.scenario_cli.specs.Ending.{Told, Ends, EndsFor, HasPlayed, is_run};
+ghost use Rattle.scenario_cli.specs.Ending.{SourceTold, SinkTold, Ends, EndsFor, HasPlayed, is_run};
 ghost use Rattle.scenario_cli.specs.declared.status.Status.TheVariants as status;
 
 use crate::Status;
@@ -23,7 +23,10 @@ fn asks_to_run(words: &Vec<String>) -> bool
 fn play_text<K: Sink>(alloc: Global, text: &[u8], sink: &mut K, journal: &mut Journal) -> Status
     requires short { length text.now < 2 ^ 32 - 1 }
     requires empty { journal.old.entries ≡ [] }
-    ensures { EndsFor text.now (K.bytes sink.old) (K.bytes sink.new) (K.faults sink.old) (K.faults sink.new) journal.new.entries result }
+    ensures { EndsFor text.now
+        (record { bytes = K.bytes sink.old; faults = K.faults sink.old })
+        (record { bytes = K.bytes sink.new; faults = K.faults sink.new })
+        journal.new.entries result }
 {
     let script = match Script::parse(alloc, text) {
         Ok(script) => script,
@@ -35,14 +38,16 @@ fn play_text<K: Sink>(alloc: Global, text: &[u8], sink: &mut K, journal: &mut Jo
         Err(Stop::JournalFull) => Status::JournalFull,
         Err(Stop::OutOfMemory) => return Status::OutOfMemory,
     };
-    match write_report(sink, journal.as_slice(), false) {
+    match write_report(sink, journal, false) {
         Ok(()) => status,
         Err(_) => Status::WriteFault,
     }
 }
 
 /// Does what the words ask for: with `run`, it reads a script to its end, plays it into the journal, and then writes the
-/// report, one line at a time. With `Usage`, `Script`, `ReadFault` and `TooLong` nothing is played or written.
+/// report, one line at a time. With `Usage`, `Script`, `ReadFault` and `TooLong` nothing is played or written, and with
+/// `Usage` nothing is read. Want of memory hides no fault of the source or the sink, no script that is too long, and no
+/// fault in a script of which no line before holds a declaration or a statement.
 #[tactic(auto, using(crate::proofs::Playing::has_played))]
 pub fn run<S: Source, K: Sink>(
     alloc: Global,
@@ -53,10 +58,12 @@ pub fn run<S: Source, K: Sink>(
 ) -> Status
     requires empty { journal.old.entries ≡ [] }
 
-    // What each status says of the octets that were read and written, and of the journal.
+    // What each status says of the octets that were read and written, of the faults, and of the journal.
     ensures ends { Ends
-        (record { rest = S.rest source.old; reads_failed = S.faults source.old; bytes = K.bytes sink.old; writes_failed = K.faults sink.old })
-        (record { rest = S.rest source.new; reads_failed = S.faults source.new; bytes = K.bytes sink.new; writes_failed = K.faults sink.new })
+        (record { rest = S.rest source.old; faults = S.faults source.old })
+        (record { rest = S.rest source.new; faults = S.faults source.new })
+        (record { bytes = K.bytes sink.old; faults = K.faults sink.old })
+        (record { bytes = K.bytes sink.new; faults = K.faults sink.new })
         journal.new.entries result }
 
     ensures usage { (result ≡ status.Usage) ↔ (is_run words.now.items ≡ false) }

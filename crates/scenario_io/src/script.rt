@@ -1,8 +1,8 @@
 //! The script that a program reads.
 
 ghost use Rattle.std.specs.Prelude.{◌≡◌, ℕ, ◌+◌, ◌<◌, ◌≤◌, List, length, take, Some, IfOk, OnOk, OnErr, IsErrOf, vec_len};
-ghost use Rattle.pv_ports.specs.Port.{HasCause, Rose, Gave, IsAtEnd};
-ghost use Rattle.scenario_io.specs.Script.{GaveAtMost, GaveMany};
+ghost use Rattle.pv_ports.specs.Port.{HasCause, Gave, IsAtEnd};
+ghost use Rattle.scenario_io.specs.Script.{GaveAtMost, GaveMany, TellsFaults};
 ghost use Rattle.scenario_io.specs.declared.script.ReadError.TheVariants as read_error;
 
 use pv_ports::{Failed, Source};
@@ -81,7 +81,7 @@ fn fill<S: Source>(source: &mut S, into: &mut [u8]) -> Result<usize, Failed>
 ///
 /// `ReadError::TooLong` comes once one octet more was read, and `ReadError::Failed` at the first fault of the
 /// source; what was read until then is lost. `ReadError::OutOfMemory` comes where memory runs out, of which no
-/// clause says when.
+/// clause says when; but it comes in place of neither of the two others.
 pub fn read_script<S: Source>(alloc: Global, source: &mut S) -> Result<Vec<u8>, ReadError>
     ensures within { IfOk result (λ script. length script.items ≤ SCRIPT_LIMIT) }
     ensures gave { IfOk result (λ script.
@@ -97,9 +97,12 @@ pub fn read_script<S: Source>(alloc: Global, source: &mut S) -> Result<Vec<u8>, 
     ensures too_long_told { IsErrOf result ReadError.TooLong
         → (told : List ℕ) → S.rest source.old ≡ Some told → SCRIPT_LIMIT < length told }
 
-    ensures failed { IsErrOf result ReadError.Failed
-        → Rose (S.faults source.old) (S.faults source.new) }
-    ensures later { S.faults source.old ≤ S.faults source.new }
+    // The source failed exactly where that is the answer.
+    ensures faults { TellsFaults (S.faults source.old) (S.faults source.new) result }
+
+    // With so few octets want of memory hides no script that is too long.
+    ensures wanting { IsErrOf result ReadError.OutOfMemory
+        → GaveAtMost (S.rest source.old) (S.rest source.new) SCRIPT_LIMIT }
 
     // Whatever the result, no more is taken than shows that a script is too long.
     ensures takes { GaveAtMost (S.rest source.old) (S.rest source.new) (SCRIPT_LIMIT + 1) }

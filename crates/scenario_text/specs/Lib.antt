@@ -12,3 +12,4 @@ pub mod Statements
 pub mod Items
 pub mod Reading
 pub mod Playable
+pub mod Texts

@@ -1,5 +1,5 @@
 -- What a text says, line by line, up to its first fault.
-use Rattle.std.specs.Prelude.{◌≡◌, ℕ, ◌+◌, List, [], ◌∷◌, Option, Result, Ok, Err}
+use Rattle.std.specs.Prelude.{◌≡◌, ℕ, ◌+◌, Bool, true, false, List, [], ◌∷◌, Option, Some, None, Result, Ok, Err}
 use Rattle.scenario_text.specs.declared.draft.Item.{Item}
 use Rattle.scenario_text.specs.declared.fault.Flaw.{Flaw}
 use Rattle.scenario_text.specs.declared.fault.ScriptFault.{ScriptFault}
@@ -28,8 +28,19 @@ scenario_from line (l ∷ ls) so_far = at_line line (line_item so_far l) >>= λ 
 unfoldable pub scenario_of : List ℕ → Result Scenario ScriptFault
 scenario_of text = scenario_from 1 (lines text) nothing
 
--- what reading a text returned, seen by view: what the text says or its first fault, unless memory ran out
-abbrev pub Tells : {X : Type 0} → (X → Scenario) → Result X ParseFault → Result Scenario ScriptFault → Type 0
-Tells view (Ok x) read = read ≡ Ok (view x)
-Tells view (Err (Fault f)) read = read ≡ Err f
-Tells view (Err OutOfMemory) read = Unit {0}
+-- whether a line holds an item, and where it holds nothing whether one behind it does
+abbrev pub or_behind : Result (Option Item) Flaw → Bool → Bool
+or_behind (Ok (Some item)) behind = true
+or_behind (Ok None) behind = behind
+or_behind (Err f) behind = false
+
+-- whether some of the lines holds an item, before the first fault: the first line that isn't blank does
+unfoldable pub holds_item : List (List ℕ) → Bool
+holds_item [] = false
+holds_item (l ∷ ls) = or_behind (line_item nothing l) (holds_item ls)
+
+-- what reading a text returned, seen by view: what the text says or its first fault; and memory may run out for an item
+abbrev pub Tells : {X : Type 0} → (X → Scenario) → Result X ParseFault → List ℕ → Type 0
+Tells view (Ok x) text = scenario_of text ≡ Ok (view x)
+Tells view (Err (Fault f)) text = scenario_of text ≡ Err f
+Tells view (Err OutOfMemory) text = holds_item (lines text) ≡ true

@@ -1,6 +1,6 @@
 //! What was read so far.
 
-ghost use Rattle.std.specs.Prelude.{◌≡◌, OnOk, IfErr, [], ◌∷◌, ◌++◌};
+ghost use Rattle.std.specs.Prelude.{◌≡◌, IsSome, OnOk, OnErr, IfErr, [], ◌∷◌, ◌++◌};
 ghost use Rattle.scenario_text.specs.declared.fault.ParseFault.TheVariants.{OutOfMemory};
 
 use crate::fault::ParseFault;
@@ -37,10 +37,11 @@ impl Draft {
         }
     }
 
-    /// Adds what a line holds, if anything.
+    /// Adds what a line holds, if anything. Only for that is memory asked.
     pub fn push(&mut self, item: Option<Item>) -> Result<(), ParseFault>
         ensures ok { OnOk result (drafted self.new ≡ with_item item (drafted self.old)) }
         ensures err { IfErr result (λ e. e ≡ OutOfMemory) }
+        ensures needed { OnErr result (IsSome item) }
     {
         match item {
             None => {}

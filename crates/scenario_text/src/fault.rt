@@ -1,10 +1,11 @@
 //! What is wrong with a text.
 
-ghost use Rattle.std.specs.Prelude.{◌≡◌};
+ghost use Rattle.std.specs.Prelude.{◌≡◌, Some};
 ghost use Rattle.scenario_text.specs.declared.fault.ParseFault.TheVariants.{OutOfMemory};
 
 use std::alloc::AllocFailed;
-use thiserror::Error;
+use std::error::Error;
+use std::fmt::{self, Display, Formatter};
 
 /// A kind of fault.
 #[derive(Clone, Copy, Debug, PartialEq, Eq)]
@@ -35,9 +36,31 @@ pub enum FaultKind {
     WrongDevice,
 }
 
+impl Display for FaultKind {
+    ghost use Rattle.scenario_text.specs.Texts.{kind_text};
+
+    ghost output = { λ kind. Some (kind_text kind) };
+
+    fn fmt<W: fmt::Write>(&self, f: &mut Formatter<W>) -> fmt::Result {
+        f.write_str(match self {
+            FaultKind::BadByte => "BadByte",
+            FaultKind::UnknownStatement => "UnknownStatement",
+            FaultKind::MissingWord => "MissingWord",
+            FaultKind::ExtraWord => "ExtraWord",
+            FaultKind::BadNumber => "BadNumber",
+            FaultKind::OutOfRange => "OutOfRange",
+            FaultKind::BadWord => "BadWord",
+            FaultKind::Twice => "Twice",
+            FaultKind::Late => "Late",
+            FaultKind::Undeclared => "Undeclared",
+            FaultKind::NotAllowed => "NotAllowed",
+            FaultKind::WrongDevice => "WrongDevice",
+        })
+    }
+}
+
 /// The first fault of a text. Lines and columns count from 1, columns in octets.
-#[derive(Clone, Copy, Debug, PartialEq, Eq, Error)]
-#[error("line {line}, column {column}: {kind:?}")]
+#[derive(Clone, Copy, Debug, PartialEq, Eq)]
 pub struct ScriptFault {
     pub line: u32,
     /// Where the token stands that fails.
@@ -45,16 +68,44 @@ pub struct ScriptFault {
     pub kind: FaultKind,
 }
 
+impl Display for ScriptFault {
+    ghost use Rattle.scenario_text.specs.Texts.{fault_text};
+
+    ghost output = { λ fault. Some (fault_text fault) };
+
+    fn fmt<W: fmt::Write>(&self, f: &mut Formatter<W>) -> fmt::Result {
+        let line = self.line;
+        let column = self.column;
+        let kind = self.kind;
+        write!(f, "line {line}, column {column}: {kind}")
+    }
+}
+
+impl Error for ScriptFault {}
+
 /// Why a text wasn't read.
-#[derive(Debug, Drop, Error)]
+#[derive(Debug, Drop)]
 pub enum ParseFault {
     /// The text's first fault.
-    #[error("{0}")]
     Fault(ScriptFault),
     /// There was no memory for what the text says.
-    #[error("out of memory")]
     OutOfMemory,
 }
+
+impl Display for ParseFault {
+    ghost use Rattle.scenario_text.specs.Texts.{parse_fault_text};
+
+    ghost output = { λ fault. Some (parse_fault_text fault) };
+
+    fn fmt<W: fmt::Write>(&self, f: &mut Formatter<W>) -> fmt::Result {
+        match self {
+            ParseFault::Fault(fault) => write!(f, "{fault}"),
+            ParseFault::OutOfMemory => write!(f, "out of memory"),
+        }
+    }
+}
+
+impl Error for ParseFault {}
 
 impl<T: Drop> From<AllocFailed<T>> for ParseFault {
     ghost from_gives = { λ _ e. e ≡ OutOfMemory };

@@ -5,7 +5,7 @@ ghost use Rattle.std.specs.List.{before_first, after_first};
 ghost use Rattle.scenario_text.specs.Flaws.{Gives};
 ghost use Rattle.scenario_text.specs.Lines.{is_line_end};
 ghost use Rattle.scenario_text.specs.Scenario.{drafted};
-ghost use Rattle.scenario_text.specs.Reading.{Tells, line_item, scenario_of};
+ghost use Rattle.scenario_text.specs.Reading.{Tells, line_item};
 
 use crate::draft::{Draft, Item};
 use crate::fault::{Flaw, ParseFault, ScriptFault};
@@ -26,10 +26,10 @@ fn split_line<'a>(so_far: &Draft, text: &'a [u8]) -> Result<(Option<Item>, &'a [
     Ok((item, after_line(rest)))
 }
 
-/// What the lines of a text say, up to its first fault.
+/// What the lines of a text say, up to its first fault. Memory is asked for only to keep what a line holds.
 pub fn read(alloc: Global, text: &[u8]) -> Result<Draft, ParseFault>
     requires { length text.now < 2 ^ 32 - 1 }
-    ensures { Tells drafted result (scenario_of text.now) }
+    ensures { Tells drafted result text.now }
 {
     let mut draft = Draft::new(alloc);
     let mut rest = text;

@@ -29,14 +29,14 @@ impl Model for Script {
 }
 
 impl Script {
-    ghost use Rattle.scenario_text.specs.Reading.{Tells, scenario_of};
+    ghost use Rattle.scenario_text.specs.Reading.{Tells};
     ghost use Rattle.scenario_text.specs.Playable.{IsPlayable};
 
-    /// Reads a text, up to its first fault. It may also run out of memory, in any text. What was read can be
-    /// played: its statements name only what it declared.
+    /// Reads a text, up to its first fault. It may also run out of memory, where a line before that fault holds a
+    /// declaration or a statement. What was read can be played: its statements name only what it declared.
     pub fn parse(alloc: Global, text: &[u8]) -> Result<Script, ParseFault>
         requires { length text.now < 2 ^ 32 - 1 }
-        ensures tells { Tells (λ s. s) result (scenario_of text.now) }
+        ensures tells { Tells (λ s. s) result text.now }
         ensures playable { IfOk result (λ s. IsPlayable s) }
     {
         let draft = read(alloc, text)?;

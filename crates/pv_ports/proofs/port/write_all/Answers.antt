@@ -1,4 +1,4 @@
-use Rattle.std.proofs.Common.{◌≡◌, ◌-◌, length, take, drop, arith, length-drop}
+use Rattle.std.proofs.Common.{◌≡◌, ◌∙◌, ◌-◌, length, take, drop, arith, length-drop}
 use Rattle.std.proofs.lemmas.Result.{err_from_is_err_and}
 use Rattle.std.proofs.lemmas.Slice.{between_to_end}
 use Rattle.pv_ports.proofs.Octets.{Appended-take, AppendedPrefix-take}
@@ -17,5 +17,5 @@ loop-done-preserved g c =
     record {
       within = let fits = rw rest at c.in_ok-done.ensures.fits in omega (arith, length-drop done piece);
       appended = Appended-take _ _ _ _ _ _ c.loop-done.invariant.appended (rw rest at c.in_ok-done.ensures.appended);
-      later = omega (arith, c.loop-done.invariant.later, c.write.ensures.cause.later);
+      steady = c.in_ok-done.ensures.cause.passed ∙ c.loop-done.invariant.steady;
     }

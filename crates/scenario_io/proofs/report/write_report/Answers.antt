@@ -7,4 +7,4 @@ pub returns-in_err-write_all-clause-err : goal.returns-in_err-write_all-clause-e
 returns-in_err-write_all-clause-err g c =
     let failed = err_from_is_err_and c.from_residual.result c.from_residual.ensures.1 in
     let is = c.as_bytes.ensures.value ∙ c.line_of-line.ensures.text in
-    rw failed.1 (AppendedPrefix-line _ _ _ _ _ _ _ _ c.loop-entry-test.true is c.loop-entry.invariant.written c.in_err-write_all.ensures.err)
+    rw failed.1 (AppendedPrefix-line _ _ _ _ _ _ _ _ _ _ c.loop-entry.invariant.along c.in-Some.ensures.steps is c.loop-entry.invariant.written c.in_err-write_all.ensures.err)

@@ -1,4 +1,4 @@
-use Rattle.std.proofs.Common.{arith}
+use Rattle.std.proofs.Common.{◌∙◌}
 use Rattle.pv_ports.proofs.Octets.{Gave-fill}
 use Rattle.scenario_io.proofs.Buffer.{within-put_mid}
 use Rattle.scenario_io.proofs.script.fill.Goals as goal
@@ -8,5 +8,5 @@ loop-done-preserved g c =
     record {
       within = within-put_mid _ _ _ _ _ c.loop-done.invariant.within c.in_ok-count.ensures.fits;
       gave = Gave-fill _ _ _ _ _ _ _ _ c.loop-done.invariant.within c.in_ok-count.ensures.fits c.loop-done.invariant.gave c.in_ok-count.ensures.gave;
-      later = omega (arith, c.loop-done.invariant.later, c.read.ensures.cause.later);
+      steady = c.in_ok-count.ensures.cause.passed ∙ c.loop-done.invariant.steady;
     }

@@ -1,4 +1,4 @@
-use Rattle.std.proofs.Common.{length, ◌-◌, ◌≤◌, take}
+use Rattle.std.proofs.Common.{◌≡◌, length, ◌-◌, ◌≤◌, take}
 use Rattle.pv_ports.specs.Port.{Gave}
 use Rattle.scenario_io.proofs.script.fill.Given as goal
 
@@ -7,7 +7,7 @@ invariant-loop-done g l =
     record {
       within : l.done ≤ length l.into;
       gave : Gave (g.S.Source.rest l.fn.source) (g.S.Source.rest l.source) (take l.done l.into);
-      later : g.S.Source.faults l.fn.source ≤ g.S.Source.faults l.source;
+      steady : g.S.Source.faults l.source ≡ g.S.Source.faults l.fn.source;
     }
 
 abbrev pub decreases-loop-done : goal.decreases-loop-done

@@ -1,4 +1,4 @@
-use Rattle.std.proofs.Common.{◌≡◌, ◌+◌, ◌-◌, ◌≤◌, length, take, drop, arith, length-drop, length-take, vec_len}
+use Rattle.std.proofs.Common.{◌≡◌, ◌∙◌, ◌+◌, ◌-◌, ◌≤◌, length, take, drop, arith, length-drop, length-take, vec_len}
 use Rattle.scenario_io.specs.declared.script.TheConstants.{SCRIPT_LIMIT}
 use Rattle.scenario_io.proofs.Buffer.{Gave-refill, GaveAtMost-append, take-longer}
 use Rattle.scenario_io.proofs.script.read_script.Goals as goal
@@ -15,7 +15,7 @@ loop-len-preserved g c =
       small = omega (arith, c.in_ok-grow.ensures.within);
       gave = Gave-refill _ _ _ _ _ _ _ _ _ _ (omega (arith, c.deref_mut.ensures.len)) c.in_ok-len.ensures.fits below (rw kept at c.loop-len.invariant.gave) c.in_ok-len.ensures.gave;
       end = λ short. c.in_ok-len.ensures.end (omega arith);
-      later = omega (arith, c.loop-len.invariant.later, c.fill.ensures.cause.later);
+      steady = c.in_ok-len.ensures.cause.passed ∙ c.loop-len.invariant.steady;
     }
 
 pub returns-in_err-len-clause-takes : goal.returns-in_err-len-clause-takes

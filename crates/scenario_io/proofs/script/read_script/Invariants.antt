@@ -1,4 +1,4 @@
-use Rattle.std.proofs.Common.{◌+◌, ◌-◌, ◌<◌, ◌≤◌, take, vec_len}
+use Rattle.std.proofs.Common.{◌≡◌, ◌+◌, ◌-◌, ◌<◌, ◌≤◌, take, vec_len}
 use Rattle.pv_ports.specs.Port.{Gave, IsAtEnd}
 use Rattle.scenario_io.specs.declared.script.TheConstants.{SCRIPT_LIMIT}
 use Rattle.scenario_io.proofs.script.read_script.Given as goal
@@ -10,7 +10,7 @@ invariant-loop-len g l =
       small : vec_len l.buffer ≤ SCRIPT_LIMIT + 1;
       gave : Gave (g.S.Source.rest l.fn.source) (g.S.Source.rest l.source) (take l.len l.buffer.items);
       end : l.len < vec_len l.buffer → IsAtEnd (g.S.Source.rest l.source);
-      later : g.S.Source.faults l.fn.source ≤ g.S.Source.faults l.source;
+      steady : g.S.Source.faults l.source ≡ g.S.Source.faults l.fn.source;
     }
 
 abbrev pub decreases-loop-len : goal.decreases-loop-len

@@ -30,11 +30,6 @@ abbrev pub left_of : Owning → Plan Owned
 left_of (owning.Permits o) = permit_left o
 left_of (owning.Ends o) = end_left o
 
--- a load, store or exchange of the entry by its domain
-abbrev pub OnEntry : (dom gref : ℕ) → Want → Note → Type 0
-OnEntry dom gref want note =
-    ((h : Half) × (aim_of want ≡ Grant (record { 0 = dom }) (record { 0 = gref }) h)) × port.Owns dom want
-
 -- what the domain is told: nothing where the entry was opened
 abbrev pub told_of : GrantRef → Owned → Option Told
 told_of gref owned.Opened = None
@@ -113,7 +108,3 @@ EntersTurn dom gref a o old new (Ok more) =
 EntersTurn dom gref a o old new (Err stop) =
     ((new ≡ old) × Shows stop new)
     ⊎ ((t : Told) × (news_of gref o ≡ Some t) × (new ≡ old ++ entries (access_items a)) × Shows stop new)
-
--- each access of what is left, whatever it finds, goes to the entry
-abbrev pub KeepsToEntry : (dom gref : ℕ) → Plan Owned → Type 0
-KeepsToEntry dom gref plan = Fits (OnEntry dom gref) (λ _. Unit {0}) plan

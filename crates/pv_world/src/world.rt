@@ -176,7 +176,9 @@ impl<W: Machine> World<W> {
     ghost use Rattle.pv_world.specs.Marked.{Item, entries};
     ghost use Rattle.display_backend.specs.Waiting.{is_for};
     ghost use Rattle.pv_world.specs.History.{is_declared, parts_by};
-    ghost use Rattle.pv_world.specs.Owner.{KeepsToEntry, Owns, OwnsOn, left_of};
+    ghost use Rattle.pv_words.specs.Keeping.{MayGoOn};
+    ghost use Rattle.pv_words.specs.Port.{IsUnkept};
+    ghost use Rattle.pv_world.specs.Owner.{Owns, OwnsOn, left_of};
     ghost use Rattle.pv_world.specs.World.{Advanced, Enters, Exchanged, Hosted, IsAt, Standing, Stands, SteppedBy, devices_of, front_store, memory_of, setups, sight};
 
     // Where a device stands among the devices.
@@ -195,6 +197,7 @@ impl<W: Machine> World<W> {
     pub fn put(&mut self, place: Place, v: u32, journal: &mut Journal) -> Result<(), Stop>
         requires standing { Standing (sight W.word W.frames_of W.grants_of W.port W.whole W.knows_device W.knows_domain) (memory_of self.old) (devices_of self.old) journal.old.entries }
         requires range { InRange (W.frames_of (memory_of self.old)) (W.grants_of (memory_of self.old)) place }
+        requires unkept { IsUnkept (W.port (memory_of self.old)) place }
         ensures stored { (frames grants : ℕ → ℕ) (m : List Item) →
             Stands (sight W.word W.frames_of W.grants_of W.port W.whole W.knows_device W.knows_domain) frames grants (memory_of self.old) (devices_of self.old) m → entries m ≡ journal.old.entries →
             Enters (sight W.word W.frames_of W.grants_of W.port W.whole W.knows_device W.knows_domain) frames grants (memory_of self.new) (devices_of self.new) (front_store place v) journal.new.entries m result }
@@ -218,6 +221,7 @@ impl<W: Machine> World<W> {
     ) -> Result<(), Stop>
         requires standing { Standing (sight W.word W.frames_of W.grants_of W.port W.whole W.knows_device W.knows_domain) (memory_of self.old) (devices_of self.old) journal.old.entries }
         requires range { InRange (W.frames_of (memory_of self.old)) (W.grants_of (memory_of self.old)) place }
+        requires unkept { IsUnkept (W.port (memory_of self.old)) place }
         ensures exchanged { (frames grants : ℕ → ℕ) (m : List Item) →
             Stands (sight W.word W.frames_of W.grants_of W.port W.whole W.knows_device W.knows_domain) frames grants (memory_of self.old) (devices_of self.old) m → entries m ≡ journal.old.entries →
             Exchanged (sight W.word W.frames_of W.grants_of W.port W.whole W.knows_device W.knows_domain) frames grants (memory_of self.new) (devices_of self.new) place old new journal.new.entries m result }
@@ -242,12 +246,12 @@ impl<W: Machine> World<W> {
     ) -> Result<bool, Stop>
         requires standing { Standing (sight W.word W.frames_of W.grants_of W.port W.whole W.knows_device W.knows_domain) (memory_of self.old) (devices_of self.old) journal.old.entries }
         requires live { IsUnfinished (left_of owning.old) }
-        requires keeps { KeepsToEntry dom.0 gref.0 (left_of owning.old) }
+        requires goes { MayGoOn (W.port (memory_of self.old)) dom.0 gref.0 (left_of owning.old) }
         requires range { gref.0 < W.grants_of (memory_of self.old) dom.0 }
         ensures owns { (frames grants : ℕ → ℕ) (m : List Item) →
             Stands (sight W.word W.frames_of W.grants_of W.port W.whole W.knows_device W.knows_domain) frames grants (memory_of self.old) (devices_of self.old) m → entries m ≡ journal.old.entries →
             OwnsOn (sight W.word W.frames_of W.grants_of W.port W.whole W.knows_device W.knows_domain) frames grants (memory_of self.new) (devices_of self.new) dom gref (left_of owning.old) (left_of owning.new) journal.new.entries m result }
-        ensures live { result ≡ Ok true → IsUnfinished (left_of owning.new) × KeepsToEntry dom.0 gref.0 (left_of owning.new) }
+        ensures live { result ≡ Ok true → IsUnfinished (left_of owning.new) × MayGoOn (W.port (memory_of self.new)) dom.0 gref.0 (left_of owning.new) }
         ensures range { W.grants_of (memory_of self.new) dom.0 ≡ W.grants_of (memory_of self.old) dom.0 }
         ensures same { devices_of self.new ≡ devices_of self.old }
         ensures grows { result ≡ Ok true → IsLonger journal.old.entries journal.new.entries }
@@ -267,7 +271,7 @@ impl<W: Machine> World<W> {
     ) -> Result<(), Stop>
         requires standing { Standing (sight W.word W.frames_of W.grants_of W.port W.whole W.knows_device W.knows_domain) (memory_of self.old) (devices_of self.old) journal.old.entries }
         requires live { IsUnfinished (left_of owning) }
-        requires keeps { KeepsToEntry dom.0 gref.0 (left_of owning) }
+        requires goes { MayGoOn (W.port (memory_of self.old)) dom.0 gref.0 (left_of owning) }
         requires range { gref.0 < W.grants_of (memory_of self.old) dom.0 }
         ensures owns { (frames grants : ℕ → ℕ) (m : List Item) →
             Stands (sight W.word W.frames_of W.grants_of W.port W.whole W.knows_device W.knows_domain) frames grants (memory_of self.old) (devices_of self.old) m → entries m ≡ journal.old.entries →

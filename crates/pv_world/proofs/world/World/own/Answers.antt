@@ -18,7 +18,7 @@ owning-preserved g c =
     record {
       standing = (s.0, s.1, s.2 ++ a.0, a.3, a.4);
       live = more.0;
-      keeps = more.1;
+      goes = more.1;
       grants = c.own_turn.ensures.range ∙ c.owning.invariant.grants;
       same = c.own_turn.ensures.same ∙ c.owning.invariant.same;
       steps = λ frames grants m st e.

@@ -119,16 +119,22 @@ abbrev pub GrantsExactly : Type 0
 GrantsExactly = (given asked : Mode) → permits (granting given) asked ≡ lets given asked
 
 -- each access of a permit and of an end, whatever it finds, goes to the entry, as it may after those before it
-abbrev pub PermitsKeep : Type 0
-PermitsKeep = (dom gref frame : ℕ) (mode : Mode) → KeepsTo dom gref frame nothing_known (permit_plan dom gref frame mode)
+abbrev pub PermitsAtEntry : Type 0
+PermitsAtEntry =
+    (dom gref frame : ℕ) (mode : Mode) → KeepsTo dom gref frame nothing_known (permit_plan dom gref frame mode)
 
-abbrev pub EndsKeep : Type 0
-EndsKeep = (dom gref frame : ℕ) → KeepsTo dom gref frame nothing_known (end_plan dom gref)
+abbrev pub EndsAtEntry : Type 0
+EndsAtEntry = (dom gref frame : ℕ) → KeepsTo dom gref frame nothing_known (end_plan dom gref)
 
--- What the answers come to over an entry that the port keeps. Where a grant isn't open its word is 0: a permit opens it, and
--- an end answers Ended. Where it is open an end never answers Moved: it is Ended where no in-use bit was seen.
-abbrev pub EndsKept : Type 0
-EndsKept = (o : Option Opening) (word seen : ℕ) → seen < 2 ^ 32 → FitsHalf Flags o word → FitsHalf Flags o seen → ended_at word seen ≡ (if has seen used then Busy seen else Ended)
+-- What the answers come to over an entry that a port keeps, whose flags' words fit whether the grant is open: a permit
+-- opens it exactly where it isn't open.
+abbrev pub OpensExactly : Type 0
+OpensExactly =
+    (o : Option Opening) (seen : ℕ) → FitsHalf Flags o seen →
+    ((opened_at seen ≡ Opened) → (o ≡ None)) × ((o ≡ None) → (opened_at seen ≡ Opened))
 
-abbrev pub PermitsKept : Type 0
-PermitsKept = (o : Option Opening) (seen : ℕ) → FitsHalf Flags o seen → ((opened_at seen ≡ Opened) → (o ≡ None)) × ((o ≡ None) → (opened_at seen ≡ Opened))
+-- And an end is Busy where its exchange saw an in-use bit, and Ended else.
+abbrev pub FreesExactly : Type 0
+FreesExactly =
+    (o : Option Opening) (word seen : ℕ) → seen < 2 ^ 32 → FitsHalf Flags o word → FitsHalf Flags o seen →
+    ended_at word seen ≡ (if has seen used then Busy seen else Ended)

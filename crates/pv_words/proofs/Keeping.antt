@@ -12,12 +12,12 @@ use Rattle.pv_words.specs.declared.access.Access.{Access}
 use Rattle.pv_words.specs.declared.access.Access.TheVariants as access
 use Rattle.pv_words.specs.declared.grant.Mode.{Mode}
 use Rattle.pv_words.specs.declared.grant.Mode.TheVariants.{Read, Write}
-use Rattle.pv_words.specs.Keeping.{Known, IsKnown, IsEntry, OnEntry, KeepsTo, MayGoOn, known_after, nothing_known}
+use Rattle.pv_words.specs.Keeping.{Known, IsKnown, IsEntry, IsLoad, OnEntry, KeepsTo, MayGoOn, known_after, nothing_known}
 use Rattle.pv_words.specs.Memory.{place_of, without}
 use Rattle.pv_words.specs.Place.{InRange, same_place}
 use Rattle.pv_words.specs.Plan.{Plan, Finished, Make, Want, Load, Store, Swap, Clear, Note, Goes, MayGo, aim_of, wanted, seen_by, found, Turns, Makes}
-use Rattle.pv_words.specs.Port.{Renames, Port, PortMay, Leaves, FindsTold, FitsBy, FitsHalf, Turned, Opening, Owns, OwnsAny, OwnsKept, OwnsBy, Opens, Closes, learned, learned_there, word_left, opens_after, granting, name_place}
-use Rattle.pv_words.proofs.Listing.{port_may_own}
+use Rattle.pv_words.specs.Port.{Renames, Port, PortMay, Leaves, FindsTold, FitsBy, FitsHalf, Turned, Opening, Owns, OwnsAny, OwnsKept, Opens, Closes, learned, learned_there, word_left, opens_after, granting, name_place}
+use Rattle.pv_words.proofs.Listing.{by_kind, port_may_own}
 
 -- an access from what is wanted and found
 found_is : (a : Access) → found (wanted a) (seen_by a) ≡ a
@@ -72,13 +72,10 @@ module _ (dom gref frame : ℕ) where
     owns_kept (Swap (Cell d f w) old new) note o = absurd o
     owns_kept (Clear at mask) note o = absurd o
 
-  -- whatever the domain's kind, it owns what goes to the entry
+  -- whether the port keeps it or not, the domain owns what goes to the entry
   pub owns_entry : (p : Port) (k : Known) (want : Want) (note : Note) → IsKnown p dom gref frame k → OnEntry dom gref frame k want note → Owns p dom want
-  owns_entry p k want note known o = by (p.keeps dom) refl
-    where
-      by : (b : Bool) → p.keeps dom ≡ b → OwnsBy (p.keeps dom) p dom want
-      by true e = subst (λ (b : Bool). OwnsBy b p dom want) (sym e) (owns_kept p k (known e) want note o)
-      by false e = subst (λ (b : Bool). OwnsBy b p dom want) (sym e) (owns_any k want note o)
+  owns_entry p k want note known o =
+      by_kind p dom want (λ e. owns_kept p k (known e) want note o) (owns_any k want note o)
 
   pub may_entry : (frames grants : ℕ → ℕ) (p : Port) (k : Known) (want : Want) (note : Note) → IsKnown p dom gref frame k → OnEntry dom gref frame k want note → gref < grants dom → p.device ≡ None → p.serves dom ≡ true → PortMay frames grants p want
   may_entry frames grants p k want note known o r device serves =
@@ -100,19 +97,19 @@ not_same dom gref d g = by (d.0 == dom) (g.0 == gref)
     by false b = refl
 
 -- the word of an open grant isn't 0
-open_word : (o : Opening) (v : ℕ) → without v 24 ≡ granting o.mode → (v == 0) ≡ true → ⊥
+pub open_word : (o : Opening) (v : ℕ) → without v 24 ≡ granting o.mode → v ≡ 0 → ⊥
 open_word o v e z = by o.mode refl
   where
-    zero_word : v ≡ 0
-    zero_word = (Decides-eqb v 0).0 z
+    none : without v 24 ≡ 0
+    none = ap (λ (x : ℕ). without x 24) z
 
     by : (m : Mode) → o.mode ≡ m → ⊥
-    by Read n = let word : granting o.mode ≡ 5 = ap granting n in let none : without v 24 ≡ 0 = ap (λ (x : ℕ). without x 24) zero_word in absurd (omega (arith, word, none, e))
-    by Write n = let word : granting o.mode ≡ 1 = ap granting n in let none : without v 24 ≡ 0 = ap (λ (x : ℕ). without x 24) zero_word in absurd (omega (arith, word, none, e))
+    by Read n = let word : granting o.mode ≡ 5 = ap granting n in absurd (omega (arith, word, none, e))
+    by Write n = let word : granting o.mode ≡ 1 = ap granting n in absurd (omega (arith, word, none, e))
 
 closed_by : (o : Option Opening) (v : ℕ) → FitsHalf Flags o v → (v == 0) ≡ true → o ≡ None
 closed_by None v fits z = refl
-closed_by (Some o) v fits z = absurd (open_word o v fits z)
+closed_by (Some o) v fits z = absurd (open_word o v fits ((Decides-eqb v 0).0 z))
 
 module _ (frames grants : ℕ → ℕ) (dom gref : ℕ) (range : gref < grants dom) (p q : Port) (a : Access) (left : Leaves frames grants p a q) (kept : p.keeps dom ≡ true) where
   -- what is told of the frame's name after an access there, and after another
@@ -188,7 +185,7 @@ goes_in_entry frames grants dom gref frame k (Finished x) new a keeps range goes
 goes_in_entry frames grants dom gref frame k (Make want note next) new a keeps range goes =
     subst (λ (x : Want). InRange frames grants (aim_of x)) (sym goes.0) (on_range dom gref frame frames grants k want note keeps.0 range)
 
--- what is known stays known when the port is handed on, and after an access of a device, which stores nothing there
+-- what is known stays known when the port is handed on, and after an access of a device
 pub known_turned : (p q : Port) (knows : ℕ → ℕ → Type 0) (who : Who) (dom gref frame : ℕ) (k : Known) → Turned p knows who q → IsKnown p dom gref frame k → IsKnown q dom gref frame k
 known_turned p q knows who dom gref frame k t known = λ keeps.
     let here = known (sym (t.keeps dom) ∙ keeps) in
@@ -211,13 +208,15 @@ module _ (frames grants : ℕ → ℕ) (dom gref : ℕ) (range : gref < grants d
   learned_load false at x v word t = t
 
   -- a load tells no less, and an access to another place neither
-  learned_beside : (a : Access) (at : Place) (v : ℕ) → ((x : ℕ) × (a ≡ access.Load (place_of a) x)) ⊎ (same_place (place_of a) at ≡ false) → p.told at ≡ Some v → learned p a at ≡ Some v
-  learned_beside a at v (inl l) t =
-      subst (λ (b : Access). learned p b at ≡ Some v) (sym l.1) (learned_load (same_place (place_of a) at) (place_of a) l.0 v (p.told at) t)
+  learned_beside : (a : Access) (at : Place) (v : ℕ) → IsLoad a ⊎ (same_place (place_of a) at ≡ false) → p.told at ≡ Some v → learned p a at ≡ Some v
+  learned_beside (access.Load q x) at v (inl l) t = learned_load (same_place q at) q x v (p.told at) t
+  learned_beside (access.Store q x) at v (inl l) t = absurd l
+  learned_beside (access.Cas q old new seen) at v (inl l) t = absurd l
+  learned_beside (access.Clear q mask seen) at v (inl l) t = absurd l
   learned_beside a at v (inr apart) t =
       ap (λ (b : Bool). cond b (learned_there p.device a (p.told at)) (p.told at)) apart ∙ t
 
-  pub known_beside : (frame : ℕ) (k : Known) (a : Access) → Leaves frames grants p a q → ((x : ℕ) × (a ≡ access.Load (place_of a) x)) ⊎ (same_place (place_of a) (name_place dom gref) ≡ false) → IsKnown p dom gref frame k → IsKnown q dom gref frame k
+  pub known_beside : (frame : ℕ) (k : Known) (a : Access) → Leaves frames grants p a q → IsLoad a ⊎ (same_place (place_of a) (name_place dom gref) ≡ false) → IsKnown p dom gref frame k → IsKnown q dom gref frame k
   known_beside frame k a left h known = λ keeps.
       let kept = sym (left.keeps dom) ∙ keeps in
       let here = known kept in (

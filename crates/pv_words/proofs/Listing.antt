@@ -14,7 +14,7 @@ use Rattle.pv_words.specs.declared.grant.Mode.TheVariants.{Read, Write}
 use Rattle.pv_words.specs.Held.{Begun, Holds, Has, Covers, CoversToWrite, Marks, MarksPage, Stays, IsFor, IsProper, Names, holding, holds_of, in_use, same_hold, same_mode, begins, passed, kept, exchanged, framed, cleared, unheld, unmissed}
 use Rattle.pv_words.specs.Place.{InRange, domain_of}
 use Rattle.pv_words.specs.Plan.{Want, Load, Store, Swap, Clear, Note, Plain, Begins, Frames, Undoes, Ends, aim_of, wanted}
-use Rattle.pv_words.specs.Port.{Port, PortMay, Leaves, Turned, Listing, Lists, IsFree, IsListed, Cleared, Owns, IsUnkept, OwnsAny, OwnsKept, OwnsBy, MayFor, no_listing, listing, listed_after, settled, without_all, rest_of, marks, marks_page, is_of, number_of, count, begun_list, mappings}
+use Rattle.pv_words.specs.Port.{Port, PortMay, Leaves, Turned, Listing, Lists, IsFree, IsListed, KeepsNone, Cleared, Owns, IsUnkept, OwnsAny, OwnsKept, OwnsBy, MayFor, no_listing, listing, listed_after, settled, without_all, rest_of, marks, marks_page, is_of, number_of, count, begun_list, mappings}
 
 -- one of a list, by itself
 module _ {A : Type 0} where
@@ -400,14 +400,15 @@ stays_listed l dom h (Clear (Cell d f w) mask) is s = has_among (CoversToWrite d
 stays_listed l dom h (Clear (Grant d g Flags) mask) is s = (s.0, stays_mapped l h g.0 mask is s.1)
 stays_listed l dom h (Clear (Grant d g FrameNo) mask) is s = s
 
--- a free port keeps no place
-unkept : (p : Port) (at : Place) → ((dom : ℕ) → p.keeps dom ≡ false) → IsUnkept p at
+-- a port that keeps the entries of no domain keeps no place
+pub unkept : (p : Port) (at : Place) → KeepsNone p → IsUnkept p at
 unkept p (Cell d f w) keeps = tt
 unkept p (Grant d g half) keeps = keeps d.0
 
--- a domain owns a word of its own that the port doesn't keep
+-- What a domain owns, where the port keeps its entries and where it doesn't; so it owns a word of its own that the port
+-- doesn't keep.
 module _ (p : Port) (dom : ℕ) where
-  by_kind : (want : Want) → (p.keeps dom ≡ true → OwnsKept p dom want) → OwnsAny dom want → Owns p dom want
+  pub by_kind : (want : Want) → (p.keeps dom ≡ true → OwnsKept p dom want) → OwnsAny dom want → Owns p dom want
   by_kind want kept any = by (p.keeps dom) refl
     where
       by : (b : Bool) → p.keeps dom ≡ b → OwnsBy (p.keeps dom) p dom want

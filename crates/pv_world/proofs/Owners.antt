@@ -10,12 +10,11 @@ use Rattle.pv_words.specs.declared.journal.Stop.TheVariants.{JournalFull, OutOfM
 use Rattle.pv_words.specs.declared.place.DomId.{DomId}
 use Rattle.pv_words.specs.declared.place.GrantRef.{GrantRef}
 use Rattle.pv_words.specs.declared.place.Place.{Place}
-use Rattle.pv_words.specs.declared.place.Place.TheVariants.{Grant}
 use Rattle.pv_words.specs.declared.setup.DeviceSetup.{DeviceSetup}
 use Rattle.pv_words.specs.Memory.{place_of}
 use Rattle.pv_words.specs.Place.{InRange}
-use Rattle.pv_words.specs.Plan.{Plan, Finished, Make, Want, Goes, Makes, MayGo, Turns, aim_of, IsUnfinished}
-use Rattle.pv_words.specs.Port.{Port, PortMay}
+use Rattle.pv_words.specs.Plan.{Plan, Finished, Goes, Makes, Turns, IsUnfinished}
+use Rattle.pv_words.specs.Port.{Port}
 use Rattle.pv_words.specs.Keeping.{MayGoOn}
 use Rattle.pv_words.proofs.Keeping.{goes_in_entry}
 use Rattle.grant_table.specs.declared.owner.Owned.{Owned}

@@ -9,11 +9,8 @@ use Rattle.pv_words.specs.declared.journal.Stop.{Stop}
 use Rattle.pv_words.specs.declared.journal.Stop.TheVariants.{JournalFull, OutOfMemory}
 use Rattle.pv_words.specs.declared.place.DomId.{DomId}
 use Rattle.pv_words.specs.declared.place.GrantRef.{GrantRef}
-use Rattle.pv_words.specs.declared.place.Half.{Half}
-use Rattle.pv_words.specs.declared.place.Place.TheVariants.{Grant}
 use Rattle.pv_words.specs.declared.setup.DeviceSetup.{DeviceSetup}
-use Rattle.pv_words.specs.Plan.{Plan, Finished, Want, Note, Fits, Goes, IsUnfinished, aim_of}
-use Rattle.pv_words.specs.Port as port
+use Rattle.pv_words.specs.Plan.{Plan, Finished, Goes, IsUnfinished}
 use Rattle.grant_table.specs.declared.owner.Owned.{Owned}
 use Rattle.grant_table.specs.declared.owner.Owned.TheVariants as owned
 use Rattle.grant_table.specs.OwnerLeft.{permit_left, end_left}

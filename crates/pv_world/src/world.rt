@@ -177,7 +177,7 @@ impl<W: Machine> World<W> {
     ghost use Rattle.display_backend.specs.Waiting.{is_for};
     ghost use Rattle.pv_world.specs.History.{is_declared, parts_by};
     ghost use Rattle.pv_words.specs.Keeping.{MayGoOn};
-    ghost use Rattle.pv_words.specs.Port.{IsUnkept};
+    ghost use Rattle.pv_words.specs.Port.{IsUnkept, KeepsSame};
     ghost use Rattle.pv_world.specs.Owner.{Owns, OwnsOn, left_of};
     ghost use Rattle.pv_world.specs.World.{Advanced, Enters, Exchanged, Hosted, IsAt, Standing, Stands, SteppedBy, devices_of, front_store, memory_of, setups, sight};
 
@@ -202,6 +202,7 @@ impl<W: Machine> World<W> {
             Stands (sight W.word W.frames_of W.grants_of W.port W.whole W.knows_device W.knows_domain) frames grants (memory_of self.old) (devices_of self.old) m → entries m ≡ journal.old.entries →
             Enters (sight W.word W.frames_of W.grants_of W.port W.whole W.knows_device W.knows_domain) frames grants (memory_of self.new) (devices_of self.new) (front_store place v) journal.new.entries m result }
         ensures devices { setups (devices_of self.new) ≡ setups (devices_of self.old) }
+        ensures keeps { KeepsSame (W.port (memory_of self.old)) (W.port (memory_of self.new)) }
     {
         let dom = domain(place);
         enter(journal, Entry::Front(dom, Access::Store(place, v)))?;
@@ -226,6 +227,7 @@ impl<W: Machine> World<W> {
             Stands (sight W.word W.frames_of W.grants_of W.port W.whole W.knows_device W.knows_domain) frames grants (memory_of self.old) (devices_of self.old) m → entries m ≡ journal.old.entries →
             Exchanged (sight W.word W.frames_of W.grants_of W.port W.whole W.knows_device W.knows_domain) frames grants (memory_of self.new) (devices_of self.new) place old new journal.new.entries m result }
         ensures devices { setups (devices_of self.new) ≡ setups (devices_of self.old) }
+        ensures keeps { KeepsSame (W.port (memory_of self.old)) (W.port (memory_of self.new)) }
     {
         let dom = domain(place);
         self.memory.turn(Who::Dom(dom));
@@ -254,6 +256,7 @@ impl<W: Machine> World<W> {
         ensures live { result ≡ Ok true → IsUnfinished (left_of owning.new) × MayGoOn (W.port (memory_of self.new)) dom.0 gref.0 (left_of owning.new) }
         ensures range { W.grants_of (memory_of self.new) dom.0 ≡ W.grants_of (memory_of self.old) dom.0 }
         ensures same { devices_of self.new ≡ devices_of self.old }
+        ensures keeps { KeepsSame (W.port (memory_of self.old)) (W.port (memory_of self.new)) }
         ensures grows { result ≡ Ok true → IsLonger journal.old.entries journal.new.entries }
     {
         self.memory.turn(Who::Dom(dom));
@@ -278,6 +281,7 @@ impl<W: Machine> World<W> {
             Owns (sight W.word W.frames_of W.grants_of W.port W.whole W.knows_device W.knows_domain) frames grants (memory_of self.new) (devices_of self.new) dom gref (left_of owning) journal.new.entries m result }
         ensures grants { W.grants_of (memory_of self.new) dom.0 ≡ W.grants_of (memory_of self.old) dom.0 }
         ensures same { devices_of self.new ≡ devices_of self.old }
+        ensures keeps { KeepsSame (W.port (memory_of self.old)) (W.port (memory_of self.new)) }
     {
         let mut owning = owning;
         'owning: while self.own_turn(&mut owning, dom, gref, journal)? {}
@@ -301,6 +305,7 @@ impl<W: Machine> World<W> {
             Owns (sight W.word W.frames_of W.grants_of W.port W.whole W.knows_device W.knows_domain) frames grants (memory_of self.new) (devices_of self.new) dom gref (permit_plan dom.0 gref.0 frame.0 mode) journal.new.entries m result }
         ensures grants { W.grants_of (memory_of self.new) dom.0 ≡ W.grants_of (memory_of self.old) dom.0 }
         ensures devices { setups (devices_of self.new) ≡ setups (devices_of self.old) }
+        ensures keeps { KeepsSame (W.port (memory_of self.old)) (W.port (memory_of self.new)) }
     {
         let step = OwnerStep::permit(dom, gref, frame, mode);
         self.own(Owning::Permits(step), dom, gref, journal)
@@ -320,6 +325,7 @@ impl<W: Machine> World<W> {
             Owns (sight W.word W.frames_of W.grants_of W.port W.whole W.knows_device W.knows_domain) frames grants (memory_of self.new) (devices_of self.new) dom gref (end_plan dom.0 gref.0) journal.new.entries m result }
         ensures grants { W.grants_of (memory_of self.new) dom.0 ≡ W.grants_of (memory_of self.old) dom.0 }
         ensures devices { setups (devices_of self.new) ≡ setups (devices_of self.old) }
+        ensures keeps { KeepsSame (W.port (memory_of self.old)) (W.port (memory_of self.new)) }
     {
         let step = OwnerStep::end(dom, gref);
         self.own(Owning::Ends(step), dom, gref, journal)
@@ -406,6 +412,7 @@ impl<W: Machine> World<W> {
             Advanced (sight W.word W.frames_of W.grants_of W.port W.whole W.knows_device W.knows_domain) frames grants (memory_of self.new) (devices_of self.new) dev journal.new.entries m result }
         ensures at { IsAt (devices_of self.new) i dev }
         ensures devices { setups (devices_of self.new) ≡ setups (devices_of self.old) }
+        ensures keeps { KeepsSame (W.port (memory_of self.old)) (W.port (memory_of self.new)) }
         ensures grows { Grows result journal.old.entries journal.new.entries }
     {
         self.memory.turn(Who::Dev(dev));
@@ -423,6 +430,7 @@ impl<W: Machine> World<W> {
             Stands (sight W.word W.frames_of W.grants_of W.port W.whole W.knows_device W.knows_domain) frames grants (memory_of self.old) (devices_of self.old) m → entries m ≡ journal.old.entries →
             SteppedBy (sight W.word W.frames_of W.grants_of W.port W.whole W.knows_device W.knows_domain) frames grants (memory_of self.new) (devices_of self.new) dev most journal.new.entries m result }
         ensures devices { setups (devices_of self.new) ≡ setups (devices_of self.old) }
+        ensures keeps { KeepsSame (W.port (memory_of self.old)) (W.port (memory_of self.new)) }
     {
         let i = self.position(dev);
         let mut made = 0;

@@ -1,6 +1,6 @@
 use Rattle.pv_words.proofs.Keeping.{may_begin}
-use Rattle.grant_table.specs.Owning.{permit_plan, end_plan}
-use Rattle.grant_table.proofs.Keeps.{permits_at_entry, ends_at_entry}
+use Rattle.grant_table.specs.Owning.{end_plan}
+use Rattle.grant_table.proofs.Keeps.{ends_at_entry}
 use Rattle.pv_world.specs.declared.owner.Owning.TheVariants as owning
 use Rattle.pv_world.specs.Owner.{left_of}
 use Rattle.pv_world.specs.World.{memory_of}

@@ -5,6 +5,7 @@ use Rattle.pv_world.proofs.Standings.{Behaves, Hands, turned_stands}
 use Rattle.pv_world.specs.Owner.{left_of}
 use Rattle.pv_words.proofs.Keeping.{IsOwning, may_go_on, goes_on_turned, owning_next}
 use Rattle.pv_world.proofs.Owners.{goes_further, owned_turn}
+use Rattle.pv_world.proofs.Keeps.{keeps_on}
 use Rattle.pv_world.proofs.world.World.own_turn.Goals as goal
 
 pub step-turn-requires-clause-may : goal.step-turn-requires-clause-may
@@ -33,3 +34,7 @@ returns-clause-live g c = λ e.
     } in
     let then = owning_next g.W.Words.frames_of g.W.Words.grants_of g.W.Words.port g.W.Words.makes g.met.W.Words.keeps_grants g.met.W.Words.leaves g.met.W.Words.tells c.turn.new.self c.step-turn.new.words c.args.dom.0 c.args.gref.0 plan left c.step-turn.result.access c.step-turn.result.done first c.step-turn.ensures.turns n.0 c.step-turn.ensures.made in
     (n.1, then.goes)
+
+pub returns-clause-keeps : goal.returns-clause-keeps
+returns-clause-keeps g c =
+    keeps_on g.W.Words.frames_of g.W.Words.grants_of g.W.Words.port g.W.Words.makes g.met.W.Words.leaves c.args.self.now.memory c.turn.new.self c.step-turn.new.words (c.step-turn.result.access) c.turn.ensures.turned.keeps c.step-turn.ensures.made

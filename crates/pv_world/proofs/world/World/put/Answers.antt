@@ -1,4 +1,4 @@
-use Rattle.std.proofs.Common.{◌≡◌, List, [], ◌∷◌, ◌++◌, refl, sym, ◌∙◌, ap}
+use Rattle.std.proofs.Common.{◌≡◌, List, [], ◌∷◌, ◌++◌, Some, refl, sym, ◌∙◌, ap}
 use Rattle.std.proofs.lemmas.Result.{err_from_is_err_and}
 use Rattle.pv_words.specs.declared.access.Access.TheVariants as access
 use Rattle.pv_words.specs.declared.entry.Entry.{Entry}
@@ -12,6 +12,7 @@ use Rattle.pv_world.specs.World.{front_store, sight}
 use Rattle.pv_world.proofs.Histories.{in_range_from}
 use Rattle.pv_world.proofs.Items.{entries_append}
 use Rattle.pv_world.proofs.Standings.{Behaves, Hands, front_history, front_stands, turned_stands}
+use Rattle.pv_world.proofs.Keeps.{keeps_on}
 use Rattle.pv_world.proofs.world.World.put.Goals as goal
 
 pub returns-in_err-enter-clause-stored : goal.returns-in_err-enter-clause-stored
@@ -40,3 +41,7 @@ returns-clause-stored g c = λ frames grants m st e.
       front_stands sees frames grants g.W.Words.makes behaves c.turn.new.self c.store.new.self w.devices.items m (access.Store c.args.place c.args.v) c.turn.ensures.turned.device range c.store.ensures (turned_stands sees frames grants (Dom c.domain-dom.result) w.memory c.turn.new.self w.devices.items m hands st),
       entries_append m (front_store c.args.place c.args.v ∷ []) ∙ (ap (λ (es : List Entry). es ++ entries (front_store c.args.place c.args.v ∷ [])) e ∙ (ap (λ (d : DomId). c.args.journal.now.entries ++ entry.Front d (access.Store c.args.place c.args.v) ∷ []) (sym c.domain-dom.ensures) ∙ sym entered)),
     )
+
+pub returns-clause-keeps : goal.returns-clause-keeps
+returns-clause-keeps g c =
+    keeps_on g.W.Words.frames_of g.W.Words.grants_of g.W.Words.port g.W.Words.makes g.met.W.Words.leaves c.args.self.now.memory c.turn.new.self c.store.new.self (Some (access.Store c.args.place c.args.v)) c.turn.ensures.turned.keeps c.store.ensures

@@ -1,4 +1,4 @@
-use Rattle.std.proofs.Common.{◌≡◌, [], ◌∷◌, ◌++◌, OnOk, refl, sym, ap, subst}
+use Rattle.std.proofs.Common.{◌≡◌, [], ◌∷◌, ◌++◌, OnOk, Some, refl, sym, ap, subst}
 use Rattle.pv_words.specs.declared.access.Access.TheVariants as access
 use Rattle.pv_words.specs.declared.entry.Entry.TheVariants as entry
 use Rattle.pv_words.specs.declared.place.DomId.{DomId}
@@ -9,6 +9,7 @@ use Rattle.pv_world.specs.World.{sight}
 use Rattle.pv_world.proofs.Histories.{in_range_from}
 use Rattle.pv_world.proofs.Standings.{Behaves, Hands, turned_stands}
 use Rattle.pv_world.proofs.Swapping.{exchanged}
+use Rattle.pv_world.proofs.Keeps.{keeps_on}
 use Rattle.pv_world.proofs.world.World.swap.Goals as goal
 
 pub swap_if-seen-requires : goal.swap_if-seen-requires
@@ -28,3 +29,7 @@ returns-clause-exchanged g c = λ frames grants m st e.
     let a = access.Cas c.args.place c.args.old c.args.new c.swap_if-seen.result in
     let ok = subst (λ (d : DomId). OnOk c.enter.result (c.enter.new.journal.entries ≡ c.args.journal.now.entries ++ entry.Front d a ∷ [])) c.domain-dom.ensures c.enter.ensures.ok in
     exchanged sees frames grants g.W.Words.makes behaves c.turn.new.self c.swap_if-seen.new.self w.devices.items m c.args.place c.args.old c.args.new c.swap_if-seen.result c.args.journal.now.entries c.enter.new.journal.entries c.enter.result c.turn.ensures.turned.device range c.swap_if-seen.ensures (turned_stands sees frames grants (Dom c.domain-dom.result) w.memory c.turn.new.self w.devices.items m hands st) e ok c.enter.ensures.err c.enter.ensures.cause
+
+pub returns-clause-keeps : goal.returns-clause-keeps
+returns-clause-keeps g c =
+    keeps_on g.W.Words.frames_of g.W.Words.grants_of g.W.Words.port g.W.Words.makes g.met.W.Words.leaves c.args.self.now.memory c.turn.new.self c.swap_if-seen.new.self (Some (access.Cas c.args.place c.args.old c.args.new c.swap_if-seen.result)) c.turn.ensures.turned.keeps c.swap_if-seen.ensures

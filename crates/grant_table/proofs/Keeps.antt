@@ -16,7 +16,7 @@ use Rattle.grant_table.proofs.Bits.{without_used}
 pub permits_at_entry : PermitsAtEntry
 permits_at_entry dom gref frame mode = ((refl, refl), λ v. by v (v == 0))
   where
-    by : (v : ℕ) (t : Bool) → KeepsTo dom gref frame (record { closed = t; named = false }) (cond t (name_plan dom gref frame mode) (Finished (AlreadyOpen v)))
+    by : (v : ℕ) (t : Bool) → KeepsTo dom gref frame (record { unclaimed = t; named = false }) (cond t (name_plan dom gref frame mode) (Finished (AlreadyOpen v)))
     by v true = (((refl, refl), refl, refl), λ w. (((refl, refl), inl (refl, (mode, refl), refl)), λ seen. tt))
     by v false = tt
 

@@ -29,9 +29,9 @@ pub fn grants_exactly()
     ensures { GrantsExactly }
 {}
 
-/// A permit and an end may be made through any port of the domain, access by access, also through one that keeps its grant
-/// entries. There a permit opens the grant exactly where its exchange finds it not open, and an end frees it unless its
-/// exchange sees an in-use bit: it never answers Moved.
+/// A permit and an end may be made through any port of the domain, access by access, also through one that keeps its
+/// grant entries. There a permit opens the grant exactly where its exchange finds it not open, and an end frees it unless
+/// its exchange sees an in-use bit: it never answers Moved.
 pub fn owns_exactly()
     ensures permits { PermitsAtEntry }
     ensures ends { EndsAtEntry }

@@ -56,7 +56,7 @@ module _ (dom gref frame : ℕ) where
   owns_any k (Swap (Cell d f w) old new) note o = absurd o
   owns_any k (Clear at mask) note o = absurd o
 
-  module _ (p : Port) (k : Known) (known : (k.closed ≡ true → Renames p dom gref frame) × (k.named ≡ true → (name : ℕ) × (p.told (name_place dom gref) ≡ Some name))) where
+  module _ (p : Port) (k : Known) (known : (k.unclaimed ≡ true → Renames p dom gref frame) × (k.named ≡ true → (name : ℕ) × (p.told (name_place dom gref) ≡ Some name))) where
     opens_kept : (d : DomId) (g : GrantRef) (old new : ℕ) → IsEntry dom gref d g → (((old ≡ 0) × ((mode : Mode) × (new ≡ granting mode)) × (k.named ≡ true)) ⊎ Closes old new) → Opens p dom g.0 old new ⊎ Closes old new
     opens_kept d g old new e (inl o) = inl (o.0, o.1, subst (λ (n : ℕ). (name : ℕ) × (p.told (name_place dom n) ≡ Some name)) (sym e.1) (known.1 o.2))
     opens_kept d g old new e (inr c) = inr c

@@ -21,8 +21,8 @@ pub trait Words {
     ghost grants_of: { Self → ℕ → ℕ };
 
     /// Whose port it is: the device that acts through it, or none where a domain does, and for which domains it
-    /// stands; whether it may touch every place in range; of which domains it keeps the grant entries, and which of their
-    /// grants are open; the mappings that it lists of each device; and the words that it tells, where it tells them.
+    /// stands; whether it may touch every place in range; of which domains it keeps the grant entries, and which of
+    /// their grants are open; the mappings that it lists of each device; and the words that it tells, where it does.
     ghost port: { Self → Port };
 
     /// Whether the access may be made through this port.
@@ -64,20 +64,20 @@ pub trait Words {
 
     ghost keeps_grants: { (old : Self) (a : Access) (new : Self) → makes old a new → (d : ℕ) → grants_of new d ≡ grants_of old d };
 
-    /// What the port may touch: every place in range but the entries that it keeps; or for a device the words of the pages
-    /// that it lists, and the entries that it maps and unmaps; or for a domain the domain's own words, of which it touches
-    /// entries that the port keeps only as permits and ends do.
+    /// What the port may touch: every place in range but the entries that it keeps; or for a device the words of the
+    /// pages that it lists, and the entries that it maps and unmaps; or for a domain the domain's own words, among
+    /// them the entries that the port keeps only as permits and ends do.
     ghost allows: { (w : Self) (want : Want) → PortMay (frames_of w) (grants_of w) (port w) want → may w want };
 
     /// An access leaves it the port of the same one, which may touch what it might. It lists the mapping that the
     /// access began, and the page that it got, with those of the device that acted; and it lists the mappings of one
-    /// reference and mode until as many clears of them were made as there are of them. Of a domain whose entries it keeps
-    /// it knows which grants are open, and tells the words that the domain stored or loaded, up to where their frame is
-    /// opened for writing.
+    /// reference and mode until as many clears of them were made as there are of them. Of a domain whose entries it
+    /// keeps it knows which grants are open, and tells the words that the domain stored or loaded, up to where their
+    /// frame is opened for writing.
     ghost leaves: { (old : Self) (a : Access) (new : Self) → makes old a new → Leaves (frames_of old) (grants_of old) (port old) a (port new) };
 
-    /// Where it tells a word, this is the one that an access finds. In an entry that it keeps an access finds a word that
-    /// fits whether the grant is open.
+    /// Where it tells a word, this is the one that an access finds. In an entry that it keeps an access finds a word
+    /// that fits whether the grant is open.
     ghost tells: { (old : Self) (a : Access) (new : Self) → makes old a new → FindsTold (port old) a };
 }
 

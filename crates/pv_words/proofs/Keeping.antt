@@ -19,14 +19,14 @@ use Rattle.pv_words.specs.Plan.{Plan, Finished, Make, Want, Load, Store, Swap, C
 use Rattle.pv_words.specs.Port.{Renames, Port, PortMay, Leaves, FindsTold, FitsBy, FitsHalf, Turned, Opening, Owns, OwnsAny, OwnsKept, Opens, Closes, learned, learned_there, word_left, opens_after, granting, name_place}
 use Rattle.pv_words.proofs.Listing.{by_kind, port_may_own}
 
--- an access from what is wanted and found
+-- an access is the one that was wanted, with the word that it found
 found_is : (a : Access) → found (wanted a) (seen_by a) ≡ a
 found_is (access.Load at v) = refl
 found_is (access.Store at v) = refl
 found_is (access.Cas at old new seen) = refl
 found_is (access.Clear at mask seen) = refl
 
-found_as : (want : Want) (a : Access) → wanted a ≡ want → found want (seen_by a) ≡ a
+pub found_as : (want : Want) (a : Access) → wanted a ≡ want → found want (seen_by a) ≡ a
 found_as want a e = ap (λ x. found x (seen_by a)) (sym e) ∙ found_is a
 
 module _ (dom gref frame : ℕ) where

@@ -193,7 +193,8 @@ impl<W: Machine> World<W> {
         i
     }
 
-    /// A domain stores a word. Where the entry finds no room, nothing changes.
+    /// A domain stores a word, but none of a grant entry that the memory keeps. Where the entry finds no room, nothing
+    /// changes.
     pub fn put(&mut self, place: Place, v: u32, journal: &mut Journal) -> Result<(), Stop>
         requires standing { Standing (sight W.word W.frames_of W.grants_of W.port W.whole W.knows_device W.knows_domain) (memory_of self.old) (devices_of self.old) journal.old.entries }
         requires range { InRange (W.frames_of (memory_of self.old)) (W.grants_of (memory_of self.old)) place }
@@ -211,8 +212,8 @@ impl<W: Machine> World<W> {
         Ok(())
     }
 
-    /// A domain exchanges a word for `new` where it is `old`. Where the entry finds no room, the exchange was made all
-    /// the same.
+    /// A domain exchanges a word, but none of a grant entry that the memory keeps, for `new` where it is `old`. Where the
+    /// entry finds no room, the exchange was made all the same.
     pub fn swap(
         &mut self,
         place: Place,

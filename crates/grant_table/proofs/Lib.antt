@@ -1,5 +1,6 @@
 pub mod Bits
 pub mod Holdings
+pub mod Keeps
 pub mod Maps
 pub mod Outcomes
 pub mod Owns

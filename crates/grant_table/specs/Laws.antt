@@ -1,18 +1,21 @@
 -- What maps and ends come to.
-use Rattle.std.specs.Prelude.{◌≡◌, ℕ, ◌==◌, ◌&&◌, ◌<◌, ◌≤◌, Bool, true, false, List, [], ◌∷◌, ◌++◌, Option, Some, None, Result, Ok, Err, is_some, not, nat_lt, if◌then◌else◌}
+use Rattle.std.specs.Prelude.{◌≡◌, ℕ, ◌==◌, ◌&&◌, ◌<◌, ◌≤◌, ◌^◌, Bool, true, false, List, [], ◌∷◌, ◌++◌, Option, Some, None, Result, Ok, Err, is_some, not, nat_lt, if◌then◌else◌}
 use Rattle.pv_words.specs.declared.grant.Hold.{Hold}
 use Rattle.pv_words.specs.declared.grant.Mode.{Mode}
 use Rattle.pv_words.specs.declared.grant.Mode.TheVariants.{Read, Write}
 use Rattle.pv_words.specs.declared.grant.GrantRefusal.{GrantRefusal}
 use Rattle.pv_words.specs.declared.grant.GrantRefusal.TheVariants as refusal
 use Rattle.pv_words.specs.Held.{Has, IsProper, holding, holds_of, permits, unheld}
+use Rattle.pv_words.specs.Keeping.{KeepsTo, nothing_known}
 use Rattle.pv_words.specs.Memory.{without}
+use Rattle.pv_words.specs.Port.{Opening, FitsHalf}
+use Rattle.pv_words.specs.declared.place.Half.TheVariants.{Flags}
 use Rattle.pv_words.specs.Plan.{Plan, Finished, Make, Ends, FitsFrom, found}
 use Rattle.grant_table.specs.declared.owner.Owned.{Owned}
 use Rattle.grant_table.specs.declared.owner.Owned.TheVariants.{Opened, AlreadyOpen, Ended, Busy, Moved}
 use Rattle.grant_table.specs.Flags.{refusal_of, denies, forbids, has, is_foreign, used}
 use Rattle.grant_table.specs.Mapping.{map_plan, hold_of, unmap_want}
-use Rattle.grant_table.specs.Owning.{granting, ended_at}
+use Rattle.grant_table.specs.Owning.{granting, permit_plan, end_plan, opened_at, ended_at}
 
 -- a word is refused for some reason exactly where it doesn't permit the mode
 abbrev pub RefusesExactly : Type 0
@@ -114,3 +117,24 @@ lets Write Write = true
 -- the flags' word that a permit leaves permits what the grant is for
 abbrev pub GrantsExactly : Type 0
 GrantsExactly = (given asked : Mode) → permits (granting given) asked ≡ lets given asked
+
+-- each access of a permit and of an end, whatever it finds, goes to the entry, as it may after those before it
+abbrev pub PermitsAtEntry : Type 0
+PermitsAtEntry =
+    (dom gref frame : ℕ) (mode : Mode) → KeepsTo dom gref frame nothing_known (permit_plan dom gref frame mode)
+
+abbrev pub EndsAtEntry : Type 0
+EndsAtEntry = (dom gref frame : ℕ) → KeepsTo dom gref frame nothing_known (end_plan dom gref)
+
+-- What the answers come to over an entry that a port keeps, whose flags' words fit whether the grant is open: a permit
+-- opens it exactly where it isn't open.
+abbrev pub OpensExactly : Type 0
+OpensExactly =
+    (o : Option Opening) (seen : ℕ) → FitsHalf Flags o seen →
+    ((opened_at seen ≡ Opened) → (o ≡ None)) × ((o ≡ None) → (opened_at seen ≡ Opened))
+
+-- And an end is Busy where its exchange saw an in-use bit, and Ended else.
+abbrev pub FreesExactly : Type 0
+FreesExactly =
+    (o : Option Opening) (word seen : ℕ) → seen < 2 ^ 32 → FitsHalf Flags o word → FitsHalf Flags o seen →
+    ended_at word seen ≡ (if has seen used then Busy seen else Ended)

@@ -2,17 +2,12 @@
 -- by access, and what follows each word that may be found.
 use Rattle.std.specs.Prelude.{ℕ, ◌==◌, if◌then◌else◌}
 use Rattle.pv_words.specs.declared.grant.Mode.{Mode}
-use Rattle.pv_words.specs.declared.grant.Mode.TheVariants.{Read, Write}
 use Rattle.pv_words.specs.Memory.{without}
 use Rattle.pv_words.specs.Plan.{Plan, Finished, Make, Load, Store, Swap, Plain}
+pub use Rattle.pv_words.specs.Port.{granting}
 use Rattle.grant_table.specs.declared.owner.Owned.{Owned}
 use Rattle.grant_table.specs.declared.owner.Owned.TheVariants.{Opened, AlreadyOpen, Ended, Busy, Moved}
 use Rattle.grant_table.specs.Flags.{flags_place, frame_place, has, used}
-
--- the flags' word of a grant to domain 0: access is permitted, and it is read-only for reading
-abbrev pub granting : Mode → ℕ
-granting Read = 5
-granting Write = 1
 
 abbrev pub opened_at : ℕ → Owned
 opened_at seen = if seen == 0 then Opened else AlreadyOpen seen

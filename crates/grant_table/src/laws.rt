@@ -1,6 +1,6 @@
 //! What maps and ends come to.
 
-ghost use Rattle.grant_table.specs.Laws.{RefusesExactly, MapsExactly, HoldsExactly, UnmapsExactly, EndsExactly, GrantsExactly};
+ghost use Rattle.grant_table.specs.Laws.{RefusesExactly, MapsExactly, HoldsExactly, UnmapsExactly, EndsExactly, GrantsExactly, PermitsAtEntry, EndsAtEntry, OpensExactly, FreesExactly};
 
 /// A flags' word is refused for some reason exactly where it doesn't permit the mode. A map comes to a hold of the
 /// frame that it found exactly where the domain has the entry, the flags' word that it loaded permits the mode, its
@@ -27,4 +27,14 @@ pub fn ends_exactly()
 /// A grant for reading and writing permits both, one for reading alone permits reading.
 pub fn grants_exactly()
     ensures { GrantsExactly }
+{}
+
+/// A permit and an end may be made through any port of the domain, access by access, also through one that keeps its
+/// grant entries. There a permit opens the grant exactly where its exchange finds it not open, and an end frees it unless
+/// its exchange sees an in-use bit: it never answers Moved.
+pub fn owns_exactly()
+    ensures permits { PermitsAtEntry }
+    ensures ends { EndsAtEntry }
+    ensures opens { OpensExactly }
+    ensures frees { FreesExactly }
 {}

@@ -6,7 +6,7 @@ pub mod laws;
 pub mod map;
 pub mod owner;
 
-pub use laws::{ends_exactly, grants_exactly, holds_exactly, maps_exactly};
+pub use laws::{ends_exactly, grants_exactly, holds_exactly, maps_exactly, owns_exactly};
 pub use map::{MapStep, unmap};
 pub use owner::{Owned, OwnerStep};
 

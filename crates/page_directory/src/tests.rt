@@ -1,6 +1,6 @@
 ghost use Rattle.std.specs.Prelude.{◌<◌, ◌≤◌};
-ghost use Rattle.std.proofs.Common.{refl};
-ghost use Rattle.std.proofs.lemmas.Bool.{true≢false};
+ghost use Rattle.std.proofs.Common.{inl, refl};
+ghost use Rattle.std.proofs.lemmas.Bool.{false≢true};
 
 use super::*;
 use pv_words::{
@@ -31,7 +31,7 @@ fn granted(alloc: Global) -> Result<Domain, AllocError> {
 }
 
 impl Words for Domain {
-    ghost use Rattle.std.specs.Prelude.{◌≡◌, true, None};
+    ghost use Rattle.std.specs.Prelude.{◌≡◌, true, None, false};
     ghost use Rattle.pv_words.specs.Port.{no_listing};
     ghost use Rattle.pv_words.specs.declared.access.Access.TheVariants.{Load, Store, Cas, Clear};
 
@@ -39,7 +39,7 @@ impl Words for Domain {
 
     ghost grants_of = { λ w d. w.grants };
 
-    ghost port = { λ w. record { device = None; serves = λ dom. true; everywhere = true; listed = λ d. no_listing; told = λ at. None } };
+    ghost port = { λ w. record { device = None; serves = λ dom. true; everywhere = true; keeps = λ dom. false; opens = λ dom gref. None; listed = λ d. no_listing; told = λ at. None } };
 
     ghost may = { λ w want. Unit {0} };
 
@@ -51,9 +51,9 @@ impl Words for Domain {
 
     ghost allows = { λ w want h. tt };
 
-    ghost leaves = { λ old a new made. record { device = refl; serves = λ dom. refl; everywhere = refl; listed = λ e d. absurd (true≢false e) } };
+    ghost leaves = { λ old a new made. record { device = refl; serves = λ dom. refl; everywhere = refl; keeps = λ dom. refl; opens = λ dom gref e. absurd (false≢true e); told = λ at v range e unwritten learns. absurd (false≢true e); listed = inl (refl, λ dom. refl) } };
 
-    ghost tells = { λ old. elim [ Load at v ↦ λ new made. tt | Store at v ↦ λ new made. tt | Cas at from to seen ↦ λ new made. tt | Clear at mask seen ↦ λ new made. tt ] };
+    ghost tells = { λ old. elim [ Load at v ↦ λ new made. (tt, tt) | Store at v ↦ λ new made. tt | Cas at from to seen ↦ λ new made. (tt, tt) | Clear at mask seen ↦ λ new made. (tt, tt) ] };
 
     fn load(&mut self, at: Place) -> u32 {
         match at {

@@ -2,6 +2,7 @@
 use Rattle.std.proofs.Common.{◌≡◌, ◌≢◌, ◌⊎◌, inl, inr, ℕ, ◌+◌, ◌==◌, ◌&&◌, ◌≤◌, Bool, true, false, cond, nat_lt, List, [], ◌∷◌, ◌++◌, Option, Some, None, refl, sym, ◌∙◌, ap, subst, arith}
 use Rattle.std.proofs.lemmas.Bool.Decides.{Decides-eqb}
 use Rattle.std.proofs.lemmas.Bool.{false≢true, ne_eqb}
+use Rattle.pv_words.specs.declared.place.Place.{Place}
 use Rattle.pv_words.specs.declared.place.Place.TheVariants.{Cell, Grant}
 use Rattle.pv_words.specs.declared.place.Half.TheVariants.{Flags, FrameNo}
 use Rattle.pv_words.specs.declared.place.Who.{Who}
@@ -11,9 +12,9 @@ use Rattle.pv_words.specs.declared.grant.Hold.{Hold}
 use Rattle.pv_words.specs.declared.grant.Mode.{Mode}
 use Rattle.pv_words.specs.declared.grant.Mode.TheVariants.{Read, Write}
 use Rattle.pv_words.specs.Held.{Begun, Holds, Has, Covers, CoversToWrite, Marks, MarksPage, Stays, IsFor, IsProper, Names, holding, holds_of, in_use, same_hold, same_mode, begins, passed, kept, exchanged, framed, cleared, unheld, unmissed}
-use Rattle.pv_words.specs.Place.{InRange}
+use Rattle.pv_words.specs.Place.{InRange, domain_of}
 use Rattle.pv_words.specs.Plan.{Want, Load, Store, Swap, Clear, Note, Plain, Begins, Frames, Undoes, Ends, aim_of, wanted}
-use Rattle.pv_words.specs.Port.{Port, PortMay, Leaves, Turned, Listing, Lists, IsListed, Cleared, Owns, MayFor, no_listing, listing, listed_after, settled, without_all, rest_of, marks, marks_page, is_of, number_of, count, begun_list, mappings}
+use Rattle.pv_words.specs.Port.{Port, PortMay, Leaves, Turned, Listing, Lists, IsFree, IsListed, KeepsNone, Cleared, Owns, IsUnkept, OwnsAny, OwnsKept, OwnsBy, MayFor, no_listing, listing, listed_after, settled, without_all, rest_of, marks, marks_page, is_of, number_of, count, begun_list, mappings}
 
 -- one of a list, by itself
 module _ {A : Type 0} where
@@ -399,25 +400,56 @@ stays_listed l dom h (Clear (Cell d f w) mask) is s = has_among (CoversToWrite d
 stays_listed l dom h (Clear (Grant d g Flags) mask) is s = (s.0, stays_mapped l h g.0 mask is s.1)
 stays_listed l dom h (Clear (Grant d g FrameNo) mask) is s = s
 
+-- a port that keeps the entries of no domain keeps no place
+pub unkept : (p : Port) (at : Place) → KeepsNone p → IsUnkept p at
+unkept p (Cell d f w) keeps = tt
+unkept p (Grant d g half) keeps = keeps d.0
+
+-- What a domain owns, where the port keeps its entries and where it doesn't; so it owns a word of its own that the port
+-- doesn't keep.
+module _ (p : Port) (dom : ℕ) where
+  pub by_kind : (want : Want) → (p.keeps dom ≡ true → OwnsKept p dom want) → OwnsAny dom want → Owns p dom want
+  by_kind want kept any = by (p.keeps dom) refl
+    where
+      by : (b : Bool) → p.keeps dom ≡ b → OwnsBy (p.keeps dom) p dom want
+      by true e = subst (λ (b : Bool). OwnsBy b p dom want) (sym e) (kept e)
+      by false e = subst (λ (b : Bool). OwnsBy b p dom want) (sym e) any
+
+  refuses : (d : ℕ) → d ≡ dom → p.keeps d ≡ false → p.keeps dom ≡ true → ⊥
+  refuses d e wild kept = false≢true (sym wild ∙ (ap p.keeps e ∙ kept))
+
+  pub owns_store : (at : Place) (v : ℕ) → domain_of at ≡ dom → IsUnkept p at → Owns p dom (Store at v)
+  owns_store (Cell d f w) v e u = by_kind (Store (Cell d f w) v) (λ k. e) e
+  owns_store (Grant d g half) v e u = by_kind (Store (Grant d g half) v) (λ k. absurd (refuses d.0 e u k)) e
+
+  pub owns_swap : (at : Place) (old new : ℕ) → domain_of at ≡ dom → IsUnkept p at → Owns p dom (Swap at old new)
+  owns_swap (Cell d f w) old new e u = by_kind (Swap (Cell d f w) old new) (λ k. e) e
+  owns_swap (Grant d g half) old new e u = by_kind (Swap (Grant d g half) old new) (λ k. absurd (refuses d.0 e u k)) e
+
+pub unkept_turned : (p q : Port) (knows : ℕ → ℕ → Type 0) (who : Who) (at : Place) → Turned p knows who q → IsUnkept p at → IsUnkept q at
+unkept_turned p q knows who (Cell d f w) t u = tt
+unkept_turned p q knows who (Grant d g half) t u = t.keeps d.0 ∙ u
+
 -- a device that acts may make what stays in its pages and grant entries
 pub port_may : (frames grants : ℕ → ℕ) (p : Port) (d dom : ℕ) (h : Holds) (want : Want) (note : Note) → IsListed p d h → p.device ≡ Some d → p.serves dom ≡ true → IsProper frames grants dom h want note → PortMay frames grants p want
-port_may frames grants p d dom h want note (inl all) device serves proper = (proper.0, inl all)
+port_may frames grants p d dom h want note (inl free) device serves proper =
+    (proper.0, inl (free.0, unkept p (aim_of want) free.1))
 port_may frames grants p d dom h want note (inr is) device serves proper =
-    (proper.0, inr (dom, serves, subst (MayFor dom p.listed want) (sym device) (stays_listed (p.listed d) dom h want is proper.1.0)))
+    (proper.0, inr (dom, serves, subst (MayFor p dom want) (sym device) (stays_listed (p.listed d) dom h want is proper.1.0)))
 
 -- and a domain what it owns
-pub port_may_own : (frames grants : ℕ → ℕ) (p : Port) (dom : ℕ) (want : Want) → p.device ≡ None → p.serves dom ≡ true → InRange frames grants (aim_of want) → Owns dom want → PortMay frames grants p want
-port_may_own frames grants p dom want device serves range owns = (range, inr (dom, serves, subst (MayFor dom p.listed want) (sym device) owns))
+pub port_may_own : (frames grants : ℕ → ℕ) (p : Port) (dom : ℕ) (want : Want) → p.device ≡ None → p.serves dom ≡ true → InRange frames grants (aim_of want) → Owns p dom want → PortMay frames grants p want
+port_may_own frames grants p dom want device serves range owns = (range, inr (dom, serves, subst (MayFor p dom want) (sym device) owns))
 
 -- the listing of a device after its own access, after that of another or of a domain, and after a turn
-module _ (frames : ℕ → ℕ) (p q : Port) (a : Access) (left : Leaves frames p a q) where
+module _ (frames grants : ℕ → ℕ) (p q : Port) (a : Access) (left : Leaves frames grants p a q) where
   by_place : (d : ℕ) (h k : Holds) → (Lists (p.listed d) h → Lists (listed_after frames p.device a d (p.listed d)) k) → IsListed p d h → IsListed q d k
-  by_place d h k step (inl all) = inl (left.everywhere ∙ all)
-  by_place d h k step (inr is) = by p.everywhere refl
+  by_place d h k step (inl free) = inl (left.everywhere ∙ free.0, λ dom. left.keeps dom ∙ free.1 dom)
+  by_place d h k step (inr is) = by left.listed
     where
-      by : (t : Bool) → p.everywhere ≡ t → IsListed q d k
-      by true e = inl (left.everywhere ∙ e)
-      by false e = inr (subst (λ l. Lists l k) (sym (left.listed e d)) (step is))
+      by : IsFree p ⊎ ((e : ℕ) → q.listed e ≡ listed_after frames p.device a e (p.listed e)) → IsListed q d k
+      by (inl free) = inl (left.everywhere ∙ free.0, λ dom. left.keeps dom ∙ free.1 dom)
+      by (inr law) = inr (subst (λ l. Lists l k) (sym (law d)) (step is))
 
   pub listed_own : (d : ℕ) (h : Holds) (note : Note) → p.device ≡ Some d → IsListed p d h → IsFor h (wanted a) note → IsListed q d (holding frames h note a)
   listed_own d h note device is for =
@@ -439,5 +471,5 @@ module _ (frames : ℕ → ℕ) (p q : Port) (a : Access) (left : Leaves frames 
       by_place d h h (λ l. subst (λ l. Lists l h) (sym (ap (λ o. listed_after frames o a d (p.listed d)) device)) l) is
 
 pub listed_turned : (p q : Port) (knows : ℕ → ℕ → Type 0) (who : Who) (d : ℕ) (h : Holds) → Turned p knows who q → IsListed p d h → IsListed q d h
-listed_turned p q knows who d h turned (inl all) = inl (turned.everywhere ∙ all)
+listed_turned p q knows who d h turned (inl free) = inl (turned.everywhere ∙ free.0, λ dom. turned.keeps dom ∙ free.1 dom)
 listed_turned p q knows who d h turned (inr is) = inr (subst (λ l. Lists l h) (sym (turned.listed d)) is)

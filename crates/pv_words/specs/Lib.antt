@@ -1,5 +1,6 @@
 pub mod Along
 pub mod Held
+pub mod Keeping
 pub mod Layout
 pub mod ListPort
 pub mod ListWords

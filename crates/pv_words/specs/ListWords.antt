@@ -1,5 +1,5 @@
 -- A list of words as memory.
-use Rattle.std.specs.Prelude.{◌≡◌, ℕ, ◌+◌, true, List, Option, Some, None, slice_index}
+use Rattle.std.specs.Prelude.{◌≡◌, ℕ, ◌+◌, true, false, List, Option, Some, None, slice_index}
 use Rattle.pv_words.specs.declared.place.DevId.{DevId}
 use Rattle.pv_words.specs.declared.place.Place.{Place}
 use Rattle.pv_words.specs.declared.access.Access.{Access}
@@ -27,7 +27,8 @@ abbrev pub number_of_device : Option DevId → Option ℕ
 number_of_device None = None
 number_of_device (Some d) = Some d.0
 
--- it stands for every domain, may touch every place in range, and tells each word; it needs no list of mappings
+-- it stands for every domain, may touch every place in range in any way, and tells each word; it keeps no entries, and needs
+-- no list of mappings
 abbrev pub port_of : ListWords → Port
 port_of w =
-    record { device = number_of_device w.device; serves = λ dom. true; everywhere = true; listed = λ d. no_listing; told = λ at. Some (word_at w at) }
+    record { device = number_of_device w.device; serves = λ dom. true; everywhere = true; keeps = λ dom. false; opens = λ dom gref. None; listed = λ d. no_listing; told = λ at. Some (word_at w at) }

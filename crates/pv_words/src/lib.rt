@@ -6,6 +6,7 @@ pub mod device;
 pub mod entry;
 pub mod grant;
 pub mod journal;
+pub mod laws;
 pub mod list_words;
 pub mod page_list;
 pub mod place;
@@ -17,6 +18,7 @@ pub use device::{HostEvent, HostRefusal, NodeFault, NodeValue, Reason, Said, Sta
 pub use entry::{End, Entry, Told};
 pub use grant::{GrantRefusal, Hold, Mode};
 pub use journal::{Entries, JOURNAL_LIMIT, Journal, Stop};
+pub use laws::keeps_entries;
 pub use list_words::ListWords;
 pub use page_list::PageList;
 pub use place::{DevId, DomId, Frame, GrantRef, Half, Place, Who};

@@ -21,8 +21,8 @@ pub trait Words {
     ghost grants_of: { Self → ℕ → ℕ };
 
     /// Whose port it is: the device that acts through it, or none where a domain does, and for which domains it
-    /// stands; whether it may touch every place in range; the mappings that it lists of each device; and the words
-    /// that it tells, where it tells them.
+    /// stands; whether it may touch every place in range; of which domains it keeps the grant entries, and which of
+    /// their grants are open; the mappings that it lists of each device; and the words that it tells, where it does.
     ghost port: { Self → Port };
 
     /// Whether the access may be made through this port.
@@ -64,16 +64,20 @@ pub trait Words {
 
     ghost keeps_grants: { (old : Self) (a : Access) (new : Self) → makes old a new → (d : ℕ) → grants_of new d ≡ grants_of old d };
 
-    /// What the port may touch: every place in range; or for a device the words of the pages that it lists, and the
-    /// entries that it maps and unmaps; or for a domain the domain's own words.
+    /// What the port may touch: every place in range but the entries that it keeps; or for a device the words of the
+    /// pages that it lists, and the entries that it maps and unmaps; or for a domain the domain's own words, among
+    /// them the entries that the port keeps only as permits and ends do.
     ghost allows: { (w : Self) (want : Want) → PortMay (frames_of w) (grants_of w) (port w) want → may w want };
 
     /// An access leaves it the port of the same one, which may touch what it might. It lists the mapping that the
     /// access began, and the page that it got, with those of the device that acted; and it lists the mappings of one
-    /// reference and mode until as many clears of them were made as there are of them.
-    ghost leaves: { (old : Self) (a : Access) (new : Self) → makes old a new → Leaves (frames_of old) (port old) a (port new) };
+    /// reference and mode until as many clears of them were made as there are of them. Of a domain whose entries it
+    /// keeps it knows which grants are open, and tells the words that the domain stored or loaded, up to where their
+    /// frame is opened for writing.
+    ghost leaves: { (old : Self) (a : Access) (new : Self) → makes old a new → Leaves (frames_of old) (grants_of old) (port old) a (port new) };
 
-    /// Where it tells a word, this is the one that an access finds.
+    /// Where it tells a word, this is the one that an access finds. In an entry that it keeps an access finds a word
+    /// that fits whether the grant is open.
     ghost tells: { (old : Self) (a : Access) (new : Self) → makes old a new → FindsTold (port old) a };
 }
 
@@ -92,8 +96,8 @@ pub trait Machine: Words {
     /// Which domains it knows.
     ghost knows_domain: { Self → ℕ → Type 0 };
 
-    /// From here on the port is that of the device or the domain. No word changes, and the mappings of a device that
-    /// were listed before are listed still.
+    /// From here on the port is that of the device or the domain. No word changes, the mappings of a device that were
+    /// listed before are listed still, and what is told, and open, is so still.
     fn turn(&mut self, who: Who)
         requires whole { whole self.old }
         requires known { Knows (knows_device self.old) (knows_domain self.old) who }

@@ -1,9 +1,9 @@
 -- A new world.
-use Rattle.std.proofs.Common.{◌≡◌, ◌⊎◌, inl, inr, ℕ, true, List, [], ◌∷◌, sym, subst, ◌∙◌, ap}
+use Rattle.std.proofs.Common.{◌≡◌, ◌⊎◌, inl, inr, ℕ, List, [], ◌∷◌, sym, subst, ◌∙◌, ap}
 use Rattle.std.specs.List.{AllByRecursion}
 use Rattle.pv_words.specs.declared.setup.DeviceSetup.{DeviceSetup}
 use Rattle.pv_words.specs.Held.{holds_of}
-use Rattle.pv_words.specs.Port.{IsListed, Listing, Lists, Port, no_listing}
+use Rattle.pv_words.specs.Port.{IsFree, IsListed, Listing, Lists, Port, no_listing}
 use Rattle.pv_words.proofs.Listing.{lists_none}
 use Rattle.pv_world.specs.declared.world.Placed.{Placed}
 use Rattle.pv_world.specs.History.{AreApart, IsExplainedIn, parts_of, site_of}
@@ -12,7 +12,7 @@ use Rattle.pv_world.proofs.Devices.{setups_as}
 use Rattle.pv_world.proofs.Histories.{all_of}
 
 -- a port that lists nothing lists all that a device holds which holds nothing
-nothing_listed : (p : Port) (d : ℕ) → ((p.everywhere ≡ true) ⊎ (p.listed d ≡ no_listing)) → IsListed p d (holds_of [])
+nothing_listed : (p : Port) (d : ℕ) → (IsFree p ⊎ (p.listed d ≡ no_listing)) → IsListed p d (holds_of [])
 nothing_listed p d (inl e) = inl e
 nothing_listed p d (inr e) = inr (subst (λ (l : Listing). Lists l (holds_of [])) (sym e) lists_none)
 

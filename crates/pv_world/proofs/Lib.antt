@@ -6,6 +6,7 @@ pub mod Devices
 pub mod Hearing
 pub mod Histories
 pub mod Items
+pub mod Keeps
 pub mod Others
 pub mod Owners
 pub mod Serving

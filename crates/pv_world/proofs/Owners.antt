@@ -10,18 +10,18 @@ use Rattle.pv_words.specs.declared.journal.Stop.TheVariants.{JournalFull, OutOfM
 use Rattle.pv_words.specs.declared.place.DomId.{DomId}
 use Rattle.pv_words.specs.declared.place.GrantRef.{GrantRef}
 use Rattle.pv_words.specs.declared.place.Place.{Place}
-use Rattle.pv_words.specs.declared.place.Place.TheVariants.{Grant}
 use Rattle.pv_words.specs.declared.setup.DeviceSetup.{DeviceSetup}
 use Rattle.pv_words.specs.Memory.{place_of}
 use Rattle.pv_words.specs.Place.{InRange}
-use Rattle.pv_words.specs.Plan.{Plan, Finished, Make, Want, Goes, Makes, MayGo, Turns, aim_of}
-use Rattle.pv_words.specs.Port.{Port, PortMay}
-use Rattle.pv_words.proofs.Listing.{port_may_own}
+use Rattle.pv_words.specs.Plan.{Plan, Finished, Goes, Makes, Turns, IsUnfinished}
+use Rattle.pv_words.specs.Port.{Port}
+use Rattle.pv_words.specs.Keeping.{MayGoOn}
+use Rattle.pv_words.proofs.Keeping.{goes_in_entry}
 use Rattle.grant_table.specs.declared.owner.Owned.{Owned}
 use Rattle.pv_world.specs.declared.world.Placed.{Placed}
 use Rattle.pv_world.specs.Marked.{Item, Entered, entries}
 use Rattle.pv_world.specs.History.{IsHistory}
-use Rattle.pv_world.specs.Owner.{Leads, IsDone, IsUnderWay, HasCauseAt, StopsOwning, Owns, OwnsOn, EntersTurn, KeepsToEntry, told_of, told_items}
+use Rattle.pv_world.specs.Owner.{Leads, IsDone, IsUnderWay, HasCauseAt, StopsOwning, Owns, OwnsOn, EntersTurn, told_of, told_items}
 use Rattle.pv_world.specs.Record.{Shows}
 use Rattle.pv_world.specs.World.{Sight, Stands, front_access, setups}
 use Rattle.pv_world.proofs.Items.{entries_append}
@@ -29,16 +29,9 @@ use Rattle.pv_world.proofs.Histories.{IsNextIn, aimed, all_of, history_front, hi
 use Rattle.pv_world.proofs.Standings.{Behaves, front_stands, silent_stands}
 
 -- each access goes to the entry, which the domain has
-pub goes_in_range : (fs gs : ℕ → ℕ) (dom gref : ℕ) (p k : Plan Owned) (a : Access) → KeepsToEntry dom gref p → gref < gs dom → Goes p a k → InRange fs gs (place_of a)
-goes_in_range fs gs dom gref (Finished x) k a fits r g = absurd g
-goes_in_range fs gs dom gref (Make want note more) k a fits r g =
-    let e : place_of a ≡ Grant (record { 0 = dom }) (record { 0 = gref }) fits.0.0.0 = aimed a ∙ (ap aim_of g.0 ∙ fits.0.0.1) in
-    subst (λ (q : Place). InRange fs gs q) (sym e) r
-
-pub may_go : (may : Want → Type 0) (fs gs : ℕ → ℕ) (p : Port) (dom gref : ℕ) (plan : Plan Owned) → KeepsToEntry dom gref plan → gref < gs dom → p.device ≡ None → p.serves dom ≡ true → ((want : Want) → PortMay fs gs p want → may want) → MayGo may plan
-may_go may fs gs p dom gref (Finished x) fits r own serves allows = tt
-may_go may fs gs p dom gref (Make want note more) fits r own serves allows =
-    allows want (port_may_own fs gs p dom want own serves (subst (λ (q : Place). InRange fs gs q) (sym fits.0.0.1) r) fits.0.1)
+pub goes_in_range : (fs gs : ℕ → ℕ) (p : Port) (dom gref : ℕ) (plan k : Plan Owned) (a : Access) → MayGoOn p dom gref plan → gref < gs dom → Goes plan a k → InRange fs gs (place_of a)
+goes_in_range fs gs p dom gref plan k a goes r g =
+    subst (λ (q : Place). InRange fs gs q) (sym (aimed a)) (goes_in_entry fs gs dom gref goes.0 goes.1 plan k a goes.3 r g)
 
 -- what a step leads to
 pub goes_of : (p q : Plan Owned) (a : Access) (o : Option Owned) → Turns p (Some a) o q → (k : Plan Owned) × Goes p a k
@@ -178,9 +171,17 @@ module _ {W : Type 0} (g : Sight W) (frames grants : ℕ → ℕ) where
 
   -- a step of the world, once the port is the domain's
   pub owned_turn : (makes : W → Access → W → Type 0) (b : Behaves g makes)
-      (old new : W) (devices : List Placed) (dom : DomId) (gref : GrantRef) (p q : Plan Owned) (x : Option Access) (o : Option Owned) (es grown : List Entry) (m : List Item) (r : Result Bool Stop) → KeepsToEntry dom.0 gref.0 p → gref.0 < grants dom.0 → (g.port old).device ≡ None → Stands g frames grants old devices m → Makes makes old x new → Turns p x o q → entries m ≡ es → EntersTurn dom gref x o es grown r → OwnsOn g frames grants new devices dom gref p q grown m r
+      (old new : W) (devices : List Placed) (dom : DomId) (gref : GrantRef) (p q : Plan Owned) (x : Option Access) (o : Option Owned) (es grown : List Entry) (m : List Item) (r : Result Bool Stop) → MayGoOn (g.port old) dom.0 gref.0 p → gref.0 < grants dom.0 → (g.port old).device ≡ None → Stands g frames grants old devices m → Makes makes old x new → Turns p x o q → entries m ≡ es → EntersTurn dom gref x o es grown r → OwnsOn g frames grants new devices dom gref p q grown m r
   owned_turn makes b old new devices dom gref p q None o es grown m r keeps range own st made t e enters = absurd t
   owned_turn makes b old new devices dom gref p q (Some a) o es grown m r keeps range own st made t e enters =
       let goes = goes_of p q a o t in
-      let there : InRange frames grants (place_of a) = goes_in_range frames grants dom.0 gref.0 p goes.0 a keeps range goes.1 in
+      let there : InRange frames grants (place_of a) = goes_in_range frames grants (g.port old) dom.0 gref.0 p goes.0 a keeps range goes.1 in
       turned new devices dom gref p q a o es grown m r (front_stands g frames grants makes b old new devices m a own there made st) t e enters
+
+-- a step after which the world goes on isn't the last one
+pub goes_further : (dom : DomId) (gref : GrantRef) (p q : Plan Owned) (x : Option Access) (o : Option Owned) (es grown : List Entry) (r : Result Bool Stop) → EntersTurn dom gref x o es grown r → Turns p x o q → r ≡ Ok true → (o ≡ None) × IsUnfinished q
+goes_further dom gref p q None o es grown r enters t e = absurd t
+goes_further dom gref p q (Some a) None es grown r enters t e = (refl, t.1)
+goes_further dom gref p q (Some a) (Some x) es grown (Ok true) enters t e = let wrong : ⊥ = cc (enters.1) in absurd wrong
+goes_further dom gref p q (Some a) (Some x) es grown (Ok false) enters t e = let wrong : ⊥ = cc (e) in absurd wrong
+goes_further dom gref p q (Some a) (Some x) es grown (Err stop) enters t e = let wrong : ⊥ = cc (e) in absurd wrong

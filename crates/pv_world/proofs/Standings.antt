@@ -27,7 +27,7 @@ pub record Behaves {W : Type 0} (g : Sight W) (makes : W → Access → W → Ty
   pub frames : (old : W) (a : Access) (new : W) → makes old a new → (d : ℕ) → g.frames new d ≡ g.frames old d
   pub grants : (old : W) (a : Access) (new : W) → makes old a new → (d : ℕ) → g.grants new d ≡ g.grants old d
   pub remembers : (old : W) (a : Access) (new : W) → makes old a new → Answers (g.frames old) (g.grants old) (g.word old) a (g.word new)
-  pub leaves : (old : W) (a : Access) (new : W) → makes old a new → Leaves (g.frames old) (g.port old) a (g.port new)
+  pub leaves : (old : W) (a : Access) (new : W) → makes old a new → Leaves (g.frames old) (g.grants old) (g.port old) a (g.port new)
   pub whole : (old : W) (a : Access) (new : W) → makes old a new → g.whole old → g.whole new
   pub devices : (old : W) (a : Access) (new : W) → makes old a new → (d dom : ℕ) → g.knows_device old d dom → g.knows_device new d dom
   pub domains : (old : W) (a : Access) (new : W) → makes old a new → (d : ℕ) → g.knows_domain old d → g.knows_domain new d
@@ -148,4 +148,4 @@ module _ {W : Type 0} (g : Sight W) (frames grants : ℕ → ℕ) where
           front_placed : (p : Placed) → IsPlaced g frames grants old m p → IsPlaced g frames grants new (m ++ front_access a ∷ []) p
           front_placed p h =
               placed_silent old new m (front_access a ∷ []) p (front_silent m a p.setup) (b.devices old a new made p.setup.dev.0 p.setup.dom.0 h.known)
-              (listed_domain (g.frames old) (g.port old) (g.port new) a (b.leaves old a new made) p.setup.dev.0 (held_in frames grants m p.setup) own h.listed) h
+              (listed_domain (g.frames old) (g.grants old) (g.port old) (g.port new) a (b.leaves old a new made) p.setup.dev.0 (held_in frames grants m p.setup) own h.listed) h

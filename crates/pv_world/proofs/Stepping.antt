@@ -175,7 +175,7 @@ module _ {W : Type 0} (g : Sight W) (frames grants : ℕ → ℕ) where
     listed_others : (old new : W) (a : Option Access) (d e : ℕ) (h : Holds) → Makes makes old a new → (g.port old).device ≡ Some e → (e == d) ≡ false → IsListed (g.port old) d h → IsListed (g.port new) d h
     listed_others old new None d e h made his n l = subst (λ (w : W). IsListed (g.port w) d h) (sym made) l
     listed_others old new (Some a) d e h made his n l =
-        listed_other (g.frames old) (g.port old) (g.port new) a (b.leaves old a new made) d e h his (λ same. let is : (e == d) ≡ true = grind (arith, nat_tests) in let wrong : ⊥ = cc in wrong) l
+        listed_other (g.frames old) (g.grants old) (g.port old) (g.port new) a (b.leaves old a new made) d e h his (λ same. let is : (e == d) ≡ true = grind (arith, nat_tests) in let wrong : ⊥ = cc in wrong) l
 
     -- the access of a step is proper
     proper_step : (m : List Item) (p : Placed) (a : Access) (t : Option Said) (new : Stand Work End) → IsGoodAt p.setup (backend.stand_of (site_of frames grants p.setup) p.device) (held_in frames grants m p.setup) → Steps (display (site_of frames grants p.setup)) (backend.stand_of (site_of frames grants p.setup) p.device) (Some a) t new → IsProper frames grants p.setup.dom.0 (held_in frames grants m p.setup) (wanted a) (note_at (rules frames grants p.setup) (backend.stand_of (site_of frames grants p.setup) p.device) (Did a))
@@ -188,7 +188,7 @@ module _ {W : Type 0} (g : Sight W) (frames grants : ℕ → ℕ) where
         let proper = proper_step m p a t stand good steps in
         subst (λ (s : Stand Work End). IsListed (g.port new) p.setup.dev.0 (holding frames (held_in frames grants m p.setup) (note_at (rules frames grants p.setup) s (Did a)) a)) h.stands
         (subst (λ (k : Holds). IsListed (g.port new) p.setup.dev.0 k) (holding_same (g.frames old) frames e (held_in frames grants m p.setup) (note_at (rules frames grants p.setup) (backend.stand_of (site_of frames grants p.setup) p.device) (Did a)) a)
-        (listed_own (g.frames old) (g.port old) (g.port new) a (b.leaves old a new made) p.setup.dev.0 (held_in frames grants m p.setup) (note_at (rules frames grants p.setup) (backend.stand_of (site_of frames grants p.setup) p.device) (Did a)) his h.listed proper.1.1))
+        (listed_own (g.frames old) (g.grants old) (g.port old) (g.port new) a (b.leaves old a new made) p.setup.dev.0 (held_in frames grants m p.setup) (note_at (rules frames grants p.setup) (backend.stand_of (site_of frames grants p.setup) p.device) (Did a)) his h.listed proper.1.1))
 
     true_step : (old new : W) (devices : List Placed) (m : List Item) (p : Placed) (a : Option Access) (t : Option Said) (stand : Stand Work End) → Makes makes old a new → IsGoodAt p.setup (backend.stand_of (site_of frames grants p.setup) p.device) (held_in frames grants m p.setup) → Steps (display (site_of frames grants p.setup)) (backend.stand_of (site_of frames grants p.setup) p.device) a t stand → Stands g frames grants old devices m → IsTrueOf frames grants (memory_after (entries m)) a
     true_step old new devices m p None t stand made good steps st = tt

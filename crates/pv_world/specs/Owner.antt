@@ -9,11 +9,8 @@ use Rattle.pv_words.specs.declared.journal.Stop.{Stop}
 use Rattle.pv_words.specs.declared.journal.Stop.TheVariants.{JournalFull, OutOfMemory}
 use Rattle.pv_words.specs.declared.place.DomId.{DomId}
 use Rattle.pv_words.specs.declared.place.GrantRef.{GrantRef}
-use Rattle.pv_words.specs.declared.place.Half.{Half}
-use Rattle.pv_words.specs.declared.place.Place.TheVariants.{Grant}
 use Rattle.pv_words.specs.declared.setup.DeviceSetup.{DeviceSetup}
-use Rattle.pv_words.specs.Plan.{Plan, Finished, Want, Note, Fits, Goes, IsUnfinished, aim_of}
-use Rattle.pv_words.specs.Port as port
+use Rattle.pv_words.specs.Plan.{Plan, Finished, Goes, IsUnfinished}
 use Rattle.grant_table.specs.declared.owner.Owned.{Owned}
 use Rattle.grant_table.specs.declared.owner.Owned.TheVariants as owned
 use Rattle.grant_table.specs.OwnerLeft.{permit_left, end_left}
@@ -29,11 +26,6 @@ use Rattle.pv_world.specs.World.{Sight, Stands, front_access, setups}
 abbrev pub left_of : Owning → Plan Owned
 left_of (owning.Permits o) = permit_left o
 left_of (owning.Ends o) = end_left o
-
--- a load, store or exchange of the entry by its domain
-abbrev pub OnEntry : (dom gref : ℕ) → Want → Note → Type 0
-OnEntry dom gref want note =
-    ((h : Half) × (aim_of want ≡ Grant (record { 0 = dom }) (record { 0 = gref }) h)) × port.Owns dom want
 
 -- what the domain is told: nothing where the entry was opened
 abbrev pub told_of : GrantRef → Owned → Option Told
@@ -113,7 +105,3 @@ EntersTurn dom gref a o old new (Ok more) =
 EntersTurn dom gref a o old new (Err stop) =
     ((new ≡ old) × Shows stop new)
     ⊎ ((t : Told) × (news_of gref o ≡ Some t) × (new ≡ old ++ entries (access_items a)) × Shows stop new)
-
--- each access of what is left, whatever it finds, goes to the entry
-abbrev pub KeepsToEntry : (dom gref : ℕ) → Plan Owned → Type 0
-KeepsToEntry dom gref plan = Fits (OnEntry dom gref) (λ _. Unit {0}) plan

@@ -1,5 +1,5 @@
 -- What a world stands for, and what each of its calls enters.
-use Rattle.std.specs.Prelude.{◌≡◌, ◌⊎◌, ℕ, ◌+◌, ◌<◌, ◌≤◌, Bool, true, List, [], ◌∷◌, ◌++◌, length, slice_get, Option, Some, None, Result, Ok, Err}
+use Rattle.std.specs.Prelude.{◌≡◌, ◌⊎◌, ℕ, ◌+◌, ◌<◌, ◌≤◌, Bool, List, [], ◌∷◌, ◌++◌, length, slice_get, Option, Some, None, Result, Ok, Err}
 use Rattle.std.specs.List.{AllByRecursion}
 use Rattle.pv_words.specs.declared.access.Access.{Access}
 use Rattle.pv_words.specs.declared.access.Access.TheVariants as access
@@ -15,7 +15,7 @@ use Rattle.pv_words.specs.declared.device.Said.{Said}
 use Rattle.pv_words.specs.declared.setup.DeviceSetup.{DeviceSetup}
 use Rattle.pv_words.specs.Memory.{memory_after, place_of}
 use Rattle.pv_words.specs.Place.{InRange, domain_of}
-use Rattle.pv_words.specs.Port.{Port, IsListed, no_listing}
+use Rattle.pv_words.specs.Port.{Port, IsFree, IsListed, no_listing}
 use Rattle.backend_core.specs.Device as backend
 use Rattle.pv_world.specs.declared.world.Placed.{Placed}
 use Rattle.pv_world.specs.declared.world.World.{World}
@@ -160,7 +160,7 @@ pub record IsNew {W : Type 0} (g : Sight W) (frames grants : ℕ → ℕ) (memor
   pub whole : g.whole memory
   pub domains : (d : ℕ) → 0 < frames d + grants d → g.knows_domain memory d
   pub known : AllByRecursion (λ s. g.knows_device memory s.dev.0 s.dom.0) devices
-  pub listed : (d : ℕ) → ((g.port memory).everywhere ≡ true) ⊎ ((g.port memory).listed d ≡ no_listing)
+  pub listed : (d : ℕ) → IsFree (g.port memory) ⊎ ((g.port memory).listed d ≡ no_listing)
   pub apart : AreApart devices
 
 -- one entry was entered, or found no room

@@ -178,7 +178,9 @@ impl<W: Machine> World<W> {
     ghost use Rattle.pv_world.specs.Marked.{Item, entries};
     ghost use Rattle.display_backend.specs.Waiting.{is_for};
     ghost use Rattle.pv_world.specs.History.{is_declared, parts_by};
-    ghost use Rattle.pv_world.specs.Owner.{KeepsToEntry, Owns, OwnsOn, left_of};
+    ghost use Rattle.pv_words.specs.Keeping.{MayGoOn};
+    ghost use Rattle.pv_words.specs.Port.{IsUnkept, KeepsSame};
+    ghost use Rattle.pv_world.specs.Owner.{Owns, OwnsOn, left_of};
     ghost use Rattle.pv_world.specs.World.{Advanced, Enters, Exchanged, Hosted, IsAt, Standing, Stands, SteppedBy, devices_of, front_store, memory_of, setups, sight};
 
     // Where a device stands among the devices.
@@ -193,14 +195,17 @@ impl<W: Machine> World<W> {
         i
     }
 
-    /// A domain stores a word. Where the entry finds no room, nothing changes.
+    /// A domain stores a word, but none of a grant entry that the memory keeps. Where the entry finds no room, nothing
+    /// changes.
     pub fn put(&mut self, place: Place, v: u32, journal: &mut Journal) -> Result<(), Stop>
         requires standing { Standing (sight W.word W.frames_of W.grants_of W.port W.whole W.knows_device W.knows_domain) (memory_of self.old) (devices_of self.old) journal.old.entries }
         requires range { InRange (W.frames_of (memory_of self.old)) (W.grants_of (memory_of self.old)) place }
+        requires unkept { IsUnkept (W.port (memory_of self.old)) place }
         ensures stored { (frames grants : ℕ → ℕ) (m : List Item) →
             Stands (sight W.word W.frames_of W.grants_of W.port W.whole W.knows_device W.knows_domain) frames grants (memory_of self.old) (devices_of self.old) m → entries m ≡ journal.old.entries →
             Enters (sight W.word W.frames_of W.grants_of W.port W.whole W.knows_device W.knows_domain) frames grants (memory_of self.new) (devices_of self.new) (front_store place v) journal.new.entries m result }
         ensures devices { setups (devices_of self.new) ≡ setups (devices_of self.old) }
+        ensures keeps { KeepsSame (W.port (memory_of self.old)) (W.port (memory_of self.new)) }
     {
         let dom = domain(place);
         enter(journal, Entry::Front(dom, Access::Store(place, v)))?;
@@ -209,8 +214,8 @@ impl<W: Machine> World<W> {
         Ok(())
     }
 
-    /// A domain exchanges a word for `new` where it is `old`. Where the entry finds no room, the exchange was made all
-    /// the same.
+    /// A domain exchanges a word, but none of a grant entry that the memory keeps, for `new` where it is `old`. Where the
+    /// entry finds no room, the exchange was made all the same.
     pub fn swap(
         &mut self,
         place: Place,
@@ -220,10 +225,12 @@ impl<W: Machine> World<W> {
     ) -> Result<(), Stop>
         requires standing { Standing (sight W.word W.frames_of W.grants_of W.port W.whole W.knows_device W.knows_domain) (memory_of self.old) (devices_of self.old) journal.old.entries }
         requires range { InRange (W.frames_of (memory_of self.old)) (W.grants_of (memory_of self.old)) place }
+        requires unkept { IsUnkept (W.port (memory_of self.old)) place }
         ensures exchanged { (frames grants : ℕ → ℕ) (m : List Item) →
             Stands (sight W.word W.frames_of W.grants_of W.port W.whole W.knows_device W.knows_domain) frames grants (memory_of self.old) (devices_of self.old) m → entries m ≡ journal.old.entries →
             Exchanged (sight W.word W.frames_of W.grants_of W.port W.whole W.knows_device W.knows_domain) frames grants (memory_of self.new) (devices_of self.new) place old new journal.new.entries m result }
         ensures devices { setups (devices_of self.new) ≡ setups (devices_of self.old) }
+        ensures keeps { KeepsSame (W.port (memory_of self.old)) (W.port (memory_of self.new)) }
     {
         let dom = domain(place);
         self.memory.turn(Who::Dom(dom));
@@ -244,14 +251,15 @@ impl<W: Machine> World<W> {
     ) -> Result<bool, Stop>
         requires standing { Standing (sight W.word W.frames_of W.grants_of W.port W.whole W.knows_device W.knows_domain) (memory_of self.old) (devices_of self.old) journal.old.entries }
         requires live { IsUnfinished (left_of owning.old) }
-        requires keeps { KeepsToEntry dom.0 gref.0 (left_of owning.old) }
+        requires goes { MayGoOn (W.port (memory_of self.old)) dom.0 gref.0 (left_of owning.old) }
         requires range { gref.0 < W.grants_of (memory_of self.old) dom.0 }
         ensures owns { (frames grants : ℕ → ℕ) (m : List Item) →
             Stands (sight W.word W.frames_of W.grants_of W.port W.whole W.knows_device W.knows_domain) frames grants (memory_of self.old) (devices_of self.old) m → entries m ≡ journal.old.entries →
             OwnsOn (sight W.word W.frames_of W.grants_of W.port W.whole W.knows_device W.knows_domain) frames grants (memory_of self.new) (devices_of self.new) dom gref (left_of owning.old) (left_of owning.new) journal.new.entries m result }
-        ensures live { result ≡ Ok true → IsUnfinished (left_of owning.new) × KeepsToEntry dom.0 gref.0 (left_of owning.new) }
+        ensures live { result ≡ Ok true → IsUnfinished (left_of owning.new) × MayGoOn (W.port (memory_of self.new)) dom.0 gref.0 (left_of owning.new) }
         ensures range { W.grants_of (memory_of self.new) dom.0 ≡ W.grants_of (memory_of self.old) dom.0 }
         ensures same { devices_of self.new ≡ devices_of self.old }
+        ensures keeps { KeepsSame (W.port (memory_of self.old)) (W.port (memory_of self.new)) }
         ensures grows { result ≡ Ok true → IsLonger journal.old.entries journal.new.entries }
     {
         self.memory.turn(Who::Dom(dom));
@@ -269,13 +277,14 @@ impl<W: Machine> World<W> {
     ) -> Result<(), Stop>
         requires standing { Standing (sight W.word W.frames_of W.grants_of W.port W.whole W.knows_device W.knows_domain) (memory_of self.old) (devices_of self.old) journal.old.entries }
         requires live { IsUnfinished (left_of owning) }
-        requires keeps { KeepsToEntry dom.0 gref.0 (left_of owning) }
+        requires goes { MayGoOn (W.port (memory_of self.old)) dom.0 gref.0 (left_of owning) }
         requires range { gref.0 < W.grants_of (memory_of self.old) dom.0 }
         ensures owns { (frames grants : ℕ → ℕ) (m : List Item) →
             Stands (sight W.word W.frames_of W.grants_of W.port W.whole W.knows_device W.knows_domain) frames grants (memory_of self.old) (devices_of self.old) m → entries m ≡ journal.old.entries →
             Owns (sight W.word W.frames_of W.grants_of W.port W.whole W.knows_device W.knows_domain) frames grants (memory_of self.new) (devices_of self.new) dom gref (left_of owning) journal.new.entries m result }
         ensures grants { W.grants_of (memory_of self.new) dom.0 ≡ W.grants_of (memory_of self.old) dom.0 }
         ensures same { devices_of self.new ≡ devices_of self.old }
+        ensures keeps { KeepsSame (W.port (memory_of self.old)) (W.port (memory_of self.new)) }
     {
         let mut owning = owning;
         'owning: while self.own_turn(&mut owning, dom, gref, journal)? {}
@@ -299,6 +308,7 @@ impl<W: Machine> World<W> {
             Owns (sight W.word W.frames_of W.grants_of W.port W.whole W.knows_device W.knows_domain) frames grants (memory_of self.new) (devices_of self.new) dom gref (permit_plan dom.0 gref.0 frame.0 mode) journal.new.entries m result }
         ensures grants { W.grants_of (memory_of self.new) dom.0 ≡ W.grants_of (memory_of self.old) dom.0 }
         ensures devices { setups (devices_of self.new) ≡ setups (devices_of self.old) }
+        ensures keeps { KeepsSame (W.port (memory_of self.old)) (W.port (memory_of self.new)) }
     {
         let step = OwnerStep::permit(dom, gref, frame, mode);
         self.own(Owning::Permits(step), dom, gref, journal)
@@ -318,6 +328,7 @@ impl<W: Machine> World<W> {
             Owns (sight W.word W.frames_of W.grants_of W.port W.whole W.knows_device W.knows_domain) frames grants (memory_of self.new) (devices_of self.new) dom gref (end_plan dom.0 gref.0) journal.new.entries m result }
         ensures grants { W.grants_of (memory_of self.new) dom.0 ≡ W.grants_of (memory_of self.old) dom.0 }
         ensures devices { setups (devices_of self.new) ≡ setups (devices_of self.old) }
+        ensures keeps { KeepsSame (W.port (memory_of self.old)) (W.port (memory_of self.new)) }
     {
         let step = OwnerStep::end(dom, gref);
         self.own(Owning::Ends(step), dom, gref, journal)
@@ -404,6 +415,7 @@ impl<W: Machine> World<W> {
             Advanced (sight W.word W.frames_of W.grants_of W.port W.whole W.knows_device W.knows_domain) frames grants (memory_of self.new) (devices_of self.new) dev journal.new.entries m result }
         ensures at { IsAt (devices_of self.new) i dev }
         ensures devices { setups (devices_of self.new) ≡ setups (devices_of self.old) }
+        ensures keeps { KeepsSame (W.port (memory_of self.old)) (W.port (memory_of self.new)) }
         ensures grows { Grows result journal.old.entries journal.new.entries }
     {
         self.memory.turn(Who::Dev(dev));
@@ -421,6 +433,7 @@ impl<W: Machine> World<W> {
             Stands (sight W.word W.frames_of W.grants_of W.port W.whole W.knows_device W.knows_domain) frames grants (memory_of self.old) (devices_of self.old) m → entries m ≡ journal.old.entries →
             SteppedBy (sight W.word W.frames_of W.grants_of W.port W.whole W.knows_device W.knows_domain) frames grants (memory_of self.new) (devices_of self.new) dev most journal.new.entries m result }
         ensures devices { setups (devices_of self.new) ≡ setups (devices_of self.old) }
+        ensures keeps { KeepsSame (W.port (memory_of self.old)) (W.port (memory_of self.new)) }
     {
         let i = self.position(dev);
         let mut made = 0;

@@ -12,8 +12,10 @@ use Rattle.pv_words.specs.declared.journal.Stop.TheVariants.{JournalFull, OutOfM
 use Rattle.pv_words.specs.declared.place.DevId.{DevId}
 use Rattle.pv_words.specs.declared.place.Place.{Place}
 use Rattle.pv_words.specs.declared.setup.DeviceSetup.{DeviceSetup}
+use Rattle.pv_words.specs.Port.{KeepsNone, Port}
 use Rattle.pv_words.specs.Sizes.{AreSizes, frames_by, grants_by}
 use Rattle.pv_words.proofs.Blocks.{frames_by-le, grants_by-le}
+use Rattle.pv_words.proofs.Listing.{unkept}
 use Rattle.scenario_text.specs.declared.statement.Statement.{Statement}
 use Rattle.scenario_text.specs.declared.statement.Statement.TheVariants.{Put, Fill, Swap, Open, End, Node, Bus, Wake, Back, Serve}
 use Rattle.scenario_text.specs.Lookups.{has_device}
@@ -220,21 +222,21 @@ few_grants s d h = omega (arith, grants_by-le s.sizes d, h.grants)
 few_frames : (s : Scenario) (d : ℕ) → AreSizes s.sizes → frames_by s.sizes d ≤ 16384
 few_frames s d h = omega (arith, frames_by-le s.sizes d, h.frames)
 
-pub can_play : (s : Scenario) (f g : ℕ → ℕ) (devices : List DeviceSetup) (x : Statement) → ((d : ℕ) → f d ≡ frames_by s.sizes d) → ((d : ℕ) → g d ≡ grants_by s.sizes d) → devices ≡ s.devices → AreSizes s.sizes → AllByRecursion IsDevice s.devices → IsPlayed s x → CanPlay f g devices x
+pub can_play : (s : Scenario) (f g : ℕ → ℕ) (p : Port) (devices : List DeviceSetup) (x : Statement) → ((d : ℕ) → f d ≡ frames_by s.sizes d) → ((d : ℕ) → g d ≡ grants_by s.sizes d) → KeepsNone p → devices ≡ s.devices → AreSizes s.sizes → AllByRecursion IsDevice s.devices → IsPlayed s x → CanPlay f g p devices x
 unfolding has_device
-can_play s f g devices (Put at v) a b e z ds h = in_range_from (frames_by s.sizes) f (grants_by s.sizes) g (λ d. sym (a d)) (λ d. sym (b d)) at h.0
-can_play s f g devices (Fill x) a b e z ds h =
+can_play s f g p devices (Put at v) a b keeps e z ds h = (in_range_from (frames_by s.sizes) f (grants_by s.sizes) g (λ d. sym (a d)) (λ d. sym (b d)) at h.0, unkept p at keeps)
+can_play s f g p devices (Fill x) a b keeps e z ds h =
     let frames = few_frames s x.dom.0 z in
     (rw (a x.dom.0) h.2, omega (arith, h.2, frames))
-can_play s f g devices (Swap at old new) a b e z ds h = in_range_from (frames_by s.sizes) f (grants_by s.sizes) g (λ d. sym (a d)) (λ d. sym (b d)) at h.0
-can_play s f g devices (Open o) a b e z ds h =
+can_play s f g p devices (Swap at old new) a b keeps e z ds h = (in_range_from (frames_by s.sizes) f (grants_by s.sizes) g (λ d. sym (a d)) (λ d. sym (b d)) at h.0, unkept p at keeps)
+can_play s f g p devices (Open o) a b keeps e z ds h =
     let grants = few_grants s o.dom.0 z in
     let frames = few_frames s o.dom.0 z in
     (rw (b o.dom.0) h.1, omega (arith, h.1, grants), omega (arith, h.2, frames))
-can_play s f g devices (End c) a b e z ds h =
+can_play s f g p devices (End c) a b keeps e z ds h =
     let grants = few_grants s c.dom.0 z in
     (rw (b c.dom.0) h.1, omega (arith, h.1, grants))
-can_play s f g devices (Node dev part key v) a b e z ds h =
+can_play s f g p devices (Node dev part key v) a b keeps e z ds h =
     let few = few_parts s.devices dev.0 ds in
     let within : part < parts_by s.devices dev.0 = subst (λ n. part < n) (same_parts_by s.devices dev.0) h.1 in (
       subst (λ (ds : List DeviceSetup). is_declared ds dev.0 ≡ true) (sym e) h.0,
@@ -242,7 +244,7 @@ can_play s f g devices (Node dev part key v) a b e z ds h =
       omega (arith, few, within),
       h.2,
     )
-can_play s f g devices (Bus dev state) a b e z ds h = subst (λ (ds : List DeviceSetup). is_declared ds dev.0 ≡ true) (sym e) h
-can_play s f g devices (Wake dev) a b e z ds h = subst (λ (ds : List DeviceSetup). is_declared ds dev.0 ≡ true) (sym e) h
-can_play s f g devices (Back dev count) a b e z ds h = (subst (λ (ds : List DeviceSetup). is_declared ds dev.0 ≡ true) (sym e) h.0, h.1)
-can_play s f g devices (Serve dev) a b e z ds h = subst (λ (ds : List DeviceSetup). is_declared ds dev.0 ≡ true) (sym e) h
+can_play s f g p devices (Bus dev state) a b keeps e z ds h = subst (λ (ds : List DeviceSetup). is_declared ds dev.0 ≡ true) (sym e) h
+can_play s f g p devices (Wake dev) a b keeps e z ds h = subst (λ (ds : List DeviceSetup). is_declared ds dev.0 ≡ true) (sym e) h
+can_play s f g p devices (Back dev count) a b keeps e z ds h = (subst (λ (ds : List DeviceSetup). is_declared ds dev.0 ≡ true) (sym e) h.0, h.1)
+can_play s f g p devices (Serve dev) a b keeps e z ds h = subst (λ (ds : List DeviceSetup). is_declared ds dev.0 ≡ true) (sym e) h

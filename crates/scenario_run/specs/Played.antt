@@ -8,6 +8,7 @@ use Rattle.scenario_text.specs.declared.statement.Statement.{Statement}
 use Rattle.pv_world.specs.declared.world.Placed.{Placed}
 use Rattle.pv_world.specs.Marked.{Item, Entered, entries}
 use Rattle.pv_words.specs.Place.{InRange}
+use Rattle.pv_words.specs.Port.{IsUnkept, Port}
 use Rattle.scenario_text.specs.declared.statement.Statement.TheVariants.{Put, Fill, Swap, Open, End, Node, Bus, Wake, Back, Serve}
 use Rattle.pv_world.specs.History.{IsHistory, is_declared, parts_by}
 use Rattle.pv_world.specs.World.{Sight, Stands, setups}
@@ -37,19 +38,20 @@ Played g frames grants memory devices s es m (Ok x) =
     (here : List Item) × IsRow s here × Stands g frames grants memory devices (m ++ here) × (entries (m ++ here) ≡ es)
 Played g frames grants memory devices s es m (Err stop) = StopsAt frames grants (setups devices) s stop m es
 
--- a statement may be played: its place, its words and its grants are in range, its device is declared and has the part that it names,
--- and it asks for an access at least
-abbrev pub CanPlay : (frames grants : ℕ → ℕ) → List DeviceSetup → Statement → Type 0
-CanPlay frames grants devices (Put at v) = InRange frames grants at
-CanPlay frames grants devices (Fill f) =
+-- A statement may be played: its place, its words and its grants are in range, and it stores and exchanges no half of a
+-- grant entry that the memory's port keeps; its device is declared and has the part that it names; and it asks for an access
+-- at least.
+abbrev pub CanPlay : (frames grants : ℕ → ℕ) → Port → List DeviceSetup → Statement → Type 0
+CanPlay frames grants port devices (Put at v) = InRange frames grants at × IsUnkept port at
+CanPlay frames grants port devices (Fill f) =
     (1024 * f.frame.0 + f.word + f.count ≤ 1024 * frames f.dom.0) × (1024 * f.frame.0 + f.word + f.count ≤ 1024 * 16384)
-CanPlay frames grants devices (Swap at old new) = InRange frames grants at
-CanPlay frames grants devices (Open o) =
+CanPlay frames grants port devices (Swap at old new) = InRange frames grants at × IsUnkept port at
+CanPlay frames grants port devices (Open o) =
     (o.gref.0 + o.count ≤ grants o.dom.0) × (o.gref.0 + o.count ≤ 16384) × (o.frame.0 + o.count ≤ 16384)
-CanPlay frames grants devices (End e) = (e.gref.0 + e.count ≤ grants e.dom.0) × (e.gref.0 + e.count ≤ 16384)
-CanPlay frames grants devices (Node dev part key v) =
+CanPlay frames grants port devices (End e) = (e.gref.0 + e.count ≤ grants e.dom.0) × (e.gref.0 + e.count ≤ 16384)
+CanPlay frames grants port devices (Node dev part key v) =
     (is_declared devices dev.0 ≡ true) × (part < parts_by devices dev.0) × (part < 4) × (key < 4)
-CanPlay frames grants devices (Bus dev state) = is_declared devices dev.0 ≡ true
-CanPlay frames grants devices (Wake dev) = is_declared devices dev.0 ≡ true
-CanPlay frames grants devices (Back dev count) = (is_declared devices dev.0 ≡ true) × (1 ≤ count)
-CanPlay frames grants devices (Serve dev) = is_declared devices dev.0 ≡ true
+CanPlay frames grants port devices (Bus dev state) = is_declared devices dev.0 ≡ true
+CanPlay frames grants port devices (Wake dev) = is_declared devices dev.0 ≡ true
+CanPlay frames grants port devices (Back dev count) = (is_declared devices dev.0 ≡ true) × (1 ≤ count)
+CanPlay frames grants port devices (Serve dev) = is_declared devices dev.0 ≡ true

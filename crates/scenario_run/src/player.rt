@@ -3,6 +3,7 @@
 ghost use Rattle.std.specs.Prelude.{◌≡◌, ◌<◌, ℕ, [], length, List, OnOk, OnErr, Err, true};
 ghost use Rattle.pv_words.specs.declared.journal.Stop.TheVariants as stop;
 ghost use Rattle.pv_words.specs.Place.{InRange};
+ghost use Rattle.pv_words.specs.Port.{KeepsNone, KeepsSame};
 ghost use Rattle.pv_words.specs.Sizes.{frames_by, grants_by};
 ghost use Rattle.scenario_text.specs.Playable.{IsPlayable};
 ghost use Rattle.scenario_text.specs.declared.statement.Statement.TheVariants as statement;
@@ -26,11 +27,12 @@ fn fill<W: Machine>(
     journal: &mut Journal,
 ) -> Result<(), Stop>
     requires standing { Standing (sight W.word W.frames_of W.grants_of W.port W.whole W.knows_device W.knows_domain) (memory_of world.old) (devices_of world.old) journal.old.entries }
-    requires playable { CanPlay (W.frames_of (memory_of world.old)) (W.grants_of (memory_of world.old)) (setups (devices_of world.old)) (statement.Fill filling.now) }
+    requires playable { CanPlay (W.frames_of (memory_of world.old)) (W.grants_of (memory_of world.old)) (W.port (memory_of world.old)) (setups (devices_of world.old)) (statement.Fill filling.now) }
     ensures played { (frames grants : ℕ → ℕ) (m : List Item) →
         Stands (sight W.word W.frames_of W.grants_of W.port W.whole W.knows_device W.knows_domain) frames grants (memory_of world.old) (devices_of world.old) m → entries m ≡ journal.old.entries →
         Played (sight W.word W.frames_of W.grants_of W.port W.whole W.knows_device W.knows_domain) frames grants (memory_of world.new) (devices_of world.new) (statement.Fill filling.now) journal.new.entries m result }
     ensures devices { setups (devices_of world.new) ≡ setups (devices_of world.old) }
+    ensures keeps { KeepsSame (W.port (memory_of world.old)) (W.port (memory_of world.new)) }
 {
     let first = PAGE_WORDS * filling.frame.0 + u32::from(filling.word);
     for k in 0..filling.count {
@@ -49,11 +51,12 @@ fn open<W: Machine>(
     journal: &mut Journal,
 ) -> Result<(), Stop>
     requires standing { Standing (sight W.word W.frames_of W.grants_of W.port W.whole W.knows_device W.knows_domain) (memory_of world.old) (devices_of world.old) journal.old.entries }
-    requires playable { CanPlay (W.frames_of (memory_of world.old)) (W.grants_of (memory_of world.old)) (setups (devices_of world.old)) (statement.Open opening.now) }
+    requires playable { CanPlay (W.frames_of (memory_of world.old)) (W.grants_of (memory_of world.old)) (W.port (memory_of world.old)) (setups (devices_of world.old)) (statement.Open opening.now) }
     ensures played { (frames grants : ℕ → ℕ) (m : List Item) →
         Stands (sight W.word W.frames_of W.grants_of W.port W.whole W.knows_device W.knows_domain) frames grants (memory_of world.old) (devices_of world.old) m → entries m ≡ journal.old.entries →
         Played (sight W.word W.frames_of W.grants_of W.port W.whole W.knows_device W.knows_domain) frames grants (memory_of world.new) (devices_of world.new) (statement.Open opening.now) journal.new.entries m result }
     ensures devices { setups (devices_of world.new) ≡ setups (devices_of world.old) }
+    ensures keeps { KeepsSame (W.port (memory_of world.old)) (W.port (memory_of world.new)) }
 {
     for k in 0..opening.count {
         let gref = GrantRef(opening.gref.0 + k);
@@ -70,11 +73,12 @@ fn end<W: Machine>(
     journal: &mut Journal,
 ) -> Result<(), Stop>
     requires standing { Standing (sight W.word W.frames_of W.grants_of W.port W.whole W.knows_device W.knows_domain) (memory_of world.old) (devices_of world.old) journal.old.entries }
-    requires playable { CanPlay (W.frames_of (memory_of world.old)) (W.grants_of (memory_of world.old)) (setups (devices_of world.old)) (statement.End closing.now) }
+    requires playable { CanPlay (W.frames_of (memory_of world.old)) (W.grants_of (memory_of world.old)) (W.port (memory_of world.old)) (setups (devices_of world.old)) (statement.End closing.now) }
     ensures played { (frames grants : ℕ → ℕ) (m : List Item) →
         Stands (sight W.word W.frames_of W.grants_of W.port W.whole W.knows_device W.knows_domain) frames grants (memory_of world.old) (devices_of world.old) m → entries m ≡ journal.old.entries →
         Played (sight W.word W.frames_of W.grants_of W.port W.whole W.knows_device W.knows_domain) frames grants (memory_of world.new) (devices_of world.new) (statement.End closing.now) journal.new.entries m result }
     ensures devices { setups (devices_of world.new) ≡ setups (devices_of world.old) }
+    ensures keeps { KeepsSame (W.port (memory_of world.old)) (W.port (memory_of world.new)) }
 {
     for k in 0..closing.count {
         world.end_grant(closing.dom, GrantRef(closing.gref.0 + k), journal)?;
@@ -89,11 +93,12 @@ fn play_statement<W: Machine>(
     journal: &mut Journal,
 ) -> Result<(), Stop>
     requires standing { Standing (sight W.word W.frames_of W.grants_of W.port W.whole W.knows_device W.knows_domain) (memory_of world.old) (devices_of world.old) journal.old.entries }
-    requires playable { CanPlay (W.frames_of (memory_of world.old)) (W.grants_of (memory_of world.old)) (setups (devices_of world.old)) statement.now }
+    requires playable { CanPlay (W.frames_of (memory_of world.old)) (W.grants_of (memory_of world.old)) (W.port (memory_of world.old)) (setups (devices_of world.old)) statement.now }
     ensures played { (frames grants : ℕ → ℕ) (m : List Item) →
         Stands (sight W.word W.frames_of W.grants_of W.port W.whole W.knows_device W.knows_domain) frames grants (memory_of world.old) (devices_of world.old) m → entries m ≡ journal.old.entries →
         Played (sight W.word W.frames_of W.grants_of W.port W.whole W.knows_device W.knows_domain) frames grants (memory_of world.new) (devices_of world.new) statement.now journal.new.entries m result }
     ensures devices { setups (devices_of world.new) ≡ setups (devices_of world.old) }
+    ensures keeps { KeepsSame (W.port (memory_of world.old)) (W.port (memory_of world.new)) }
 {
     match statement {
         Statement::Put(place, v) => world.put(*place, *v, journal),
@@ -109,7 +114,7 @@ fn play_statement<W: Machine>(
     }
 }
 
-// Plays all statements of a script over its world.
+// Plays all statements of a script over its world, whose memory keeps no grant entries.
 fn play_all<W: Machine>(
     script: &Script,
     world: &mut World<W>,
@@ -118,6 +123,7 @@ fn play_all<W: Machine>(
     requires playable { IsPlayable script.now }
     requires new { Stands (sight W.word W.frames_of W.grants_of W.port W.whole W.knows_device W.knows_domain) (frames_by script.now.sizes) (grants_by script.now.sizes) (memory_of world.old) (devices_of world.old) [] }
     requires devices { setups (devices_of world.old) ≡ script.now.devices }
+    requires unkept { KeepsNone (W.port (memory_of world.old)) }
     requires empty { journal.old.entries ≡ [] }
     ensures ok { OnOk result (IsLegal script.now journal.new.entries) }
     ensures stopped { OnErr result (IsLegalTo script.now journal.new.entries) }

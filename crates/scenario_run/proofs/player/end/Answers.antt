@@ -18,6 +18,7 @@ loop-k-preserved g c =
     record {
       grants = c.end_grant.ensures.grants ∙ c.loop-k.invariant.grants;
       devices = c.end_grant.ensures.devices ∙ c.loop-k.invariant.devices;
+      keeps = λ dom. c.end_grant.ensures.keeps dom ∙ c.loop-k.invariant.keeps dom;
       steps = λ frames grants m st e.
           each_next (sight g.W.Machine.word g.W.Words.frames_of g.W.Words.grants_of g.W.Words.port g.W.Machine.whole g.W.Machine.knows_device g.W.Machine.knows_domain) frames grants o.dom o.gref (closing o) (tt {0}) (memory_of c.loop-k.world) (memory_of c.end_grant.new.self) (devices_of c.loop-k.world) (devices_of c.end_grant.new.self) c.loop-k.k c.loop-k.journal.entries c.end_grant.new.journal.entries m (c.loop-k.invariant.steps frames grants m st e) (λ n s d. c.in_ok-end_grant.ensures.owns frames grants n s d);
     }

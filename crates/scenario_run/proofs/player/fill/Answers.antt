@@ -37,6 +37,7 @@ loop-k-preserved g c =
     let w = sight g.W.Machine.word g.W.Words.frames_of g.W.Words.grants_of g.W.Words.port g.W.Machine.whole g.W.Machine.knows_device g.W.Machine.knows_domain in
     record {
       devices = c.put.ensures.devices ∙ c.loop-k.invariant.devices;
+      keeps = λ dom. c.put.ensures.keeps dom ∙ c.loop-k.invariant.keeps dom;
       steps = λ frames grants m st e.
           let before = c.loop-k.invariant.steps frames grants m st e in
           let stored = c.in_ok-put.ensures.stored frames grants (m ++ stores_of f c.loop-k.k) before.0 before.1 in

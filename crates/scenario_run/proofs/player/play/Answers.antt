@@ -25,7 +25,7 @@ play_all-requires-clause-new c =
       whole = tt;
       domains = λ d h. tt;
       known = all_known c.setup-setup.result.now.devices;
-      listed = λ d. inl refl;
+      listed = λ d. inl (refl, λ d. refl);
       apart = subst (λ (ds : List DeviceSetup). AreApart ds) (sym c.setup-setup.ensures.devices) (apart s.devices c.setup-setup.ensures.playable.different);
     })
 

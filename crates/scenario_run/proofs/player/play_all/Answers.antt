@@ -30,7 +30,7 @@ play_statement-requires-clause-playable g c =
     let inv = c.loop-statement.invariant in
     let inside : i < length s.statements = omega (arith, ap length c.statements-statements.ensures) in
     let played = all_at (IsPlayed s) s.statements i beyond c.requires.playable.statements inside in
-    rw c.statements-statements.ensures (can_play s (g.W.Words.frames_of (memory_of c.loop-statement.world)) (g.W.Words.grants_of (memory_of c.loop-statement.world)) (setups (devices_of c.loop-statement.world)) (get_or s.statements i beyond) inv.2.frames_are inv.2.grants_are inv.4 c.requires.playable.sizes c.requires.playable.devices played)
+    rw c.statements-statements.ensures (can_play s (g.W.Words.frames_of (memory_of c.loop-statement.world)) (g.W.Words.grants_of (memory_of c.loop-statement.world)) (g.W.Words.port (memory_of c.loop-statement.world)) (setups (devices_of c.loop-statement.world)) (get_or s.statements i beyond) inv.2.frames_are inv.2.grants_are inv.5 inv.4 c.requires.playable.sizes c.requires.playable.devices played)
 
 pub returns-in_err-play_statement-clause-stopped : goal.returns-in_err-play_statement-clause-stopped
 returns-in_err-play_statement-clause-stopped g c =
@@ -87,6 +87,7 @@ loop-statement-preserved g c =
       played.2,
       played.3,
       c.play_statement.ensures.devices ∙ inv.4,
+      λ dom. c.play_statement.ensures.keeps dom ∙ inv.5 dom,
     )
 
 pub returns-clause-ok : goal.returns-clause-ok

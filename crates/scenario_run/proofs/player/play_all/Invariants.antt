@@ -1,4 +1,5 @@
 use Rattle.std.proofs.Common.{◌≡◌, List, take}
+use Rattle.pv_words.specs.Port.{KeepsNone}
 use Rattle.pv_words.specs.Sizes.{frames_by, grants_by}
 use Rattle.pv_world.specs.Marked.{Item, entries}
 use Rattle.pv_world.specs.World.{Stands, devices_of, memory_of, setups, sight}
@@ -11,3 +12,4 @@ invariant-loop-statement g l =
     (followed : List Item) × Follows (take l.statement-index l.script.statements) followed
     × Stands (sight g.W.Machine.word g.W.Words.frames_of g.W.Words.grants_of g.W.Words.port g.W.Machine.whole g.W.Machine.knows_device g.W.Machine.knows_domain) (frames_by l.script.sizes) (grants_by l.script.sizes) (memory_of l.world) (devices_of l.world) followed
     × (entries followed ≡ l.journal.entries) × (setups (devices_of l.world) ≡ l.script.devices)
+    × KeepsNone (g.W.Words.port (memory_of l.world))

@@ -1,14 +1,13 @@
-use Rattle.std.proofs.Common.{refl, ◌+◌, Some, None, Ok, Err, is_some, sym, ◌∙◌, ap, arith}
-use Rattle.std.proofs.lemmas.Bool.{false≢true}
+use Rattle.std.proofs.Common.{refl, Some, None, Err, is_some, sym, ◌∙◌, ap, arith}
 use Rattle.pv_words.specs.declared.access.Access.TheVariants as access
-use Rattle.pv_words.specs.declared.place.Half.TheVariants.{Flags, FrameNo}
-use Rattle.pv_words.specs.declared.grant.GrantRefusal.TheVariants.{NoEntry, Moved, BadFrame}
+use Rattle.pv_words.specs.declared.place.Half.TheVariants.{Flags}
+use Rattle.pv_words.specs.declared.grant.GrantRefusal.TheVariants.{NoEntry}
 use Rattle.pv_words.specs.Plan.{Finished}
-use Rattle.grant_table.specs.Flags.{flags_place, frame_place}
-use Rattle.grant_table.specs.Mapping.{begin_plan, frame_plan, undo_plan, hold_of}
-use Rattle.grant_table.specs.MapLeft.{map_left, dom_of, gref_of, mode_of, is_over, is_last}
+use Rattle.grant_table.specs.Flags.{flags_place}
+use Rattle.grant_table.specs.Mapping.{begin_plan}
+use Rattle.grant_table.specs.MapLeft.{map_left, dom_of, gref_of, mode_of, is_over}
 use Rattle.grant_table.proofs.Plans.{may_from, advances_as, by_access, at_entry, wins_as}
-use Rattle.grant_table.proofs.Maps.{start_head, start_ends, flags_refuse, flags_permit, begin_head, begin_moved, begin_holds, name_head, name_ends, name_undoes, undo_head, undo_ends, over_ends}
+use Rattle.grant_table.proofs.Maps.{start_head, start_ends, flags_refuse, flags_permit}
 use Rattle.grant_table.proofs.map.MapStep.start.Goals as goal
 
 pub returns-then-self-grants-clause-advances : goal.returns-then-self-grants-clause-advances

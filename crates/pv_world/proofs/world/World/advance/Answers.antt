@@ -12,6 +12,7 @@ use Rattle.pv_world.proofs.Devices.{at_index, is_at_set, read_is, setups_set}
 use Rattle.pv_world.proofs.Serving.{recorded}
 use Rattle.pv_world.proofs.Standings.{Behaves, Hands, turned_stands}
 use Rattle.pv_world.proofs.Stepping.{may_next, site_is, step_stands}
+use Rattle.pv_world.proofs.Keeps.{keeps_on}
 use Rattle.pv_world.proofs.world.World.advance.Goals as goal
 
 pub step-step-requires : goal.step-step-requires
@@ -65,3 +66,7 @@ returns-clause-devices g c =
     let r : Placed = record { setup = p.setup; device = c.step-step.new.self; nodes = p.nodes } in
     let read = read_is w.devices.items c.args.i x.0 p x.1 c.index_mut.ensures.value in
     setups_set w.devices.items c.args.i x.0 r x.1 (ap (λ (q : Placed). q.setup) read)
+
+pub returns-clause-keeps : goal.returns-clause-keeps
+returns-clause-keeps g c =
+    keeps_on g.W.Words.frames_of g.W.Words.grants_of g.W.Words.port g.W.Words.makes g.met.W.Words.leaves c.args.self.now.memory c.turn.new.self c.step-step.new.words (c.step-step.result.access) c.turn.ensures.turned.keeps c.step-step.ensures.made

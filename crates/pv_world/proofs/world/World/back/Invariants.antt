@@ -1,4 +1,5 @@
 use Rattle.std.proofs.Common.{◌≡◌, ℕ, ◌-◌, ◌<◌, ◌≤◌, length, List, Some}
+use Rattle.pv_words.specs.Port.{KeepsSame}
 use Rattle.pv_world.specs.Marked.{Item, entries}
 use Rattle.pv_world.specs.World.{IsAt, Standing, Stands, devices_of, memory_of, setups, sight}
 use Rattle.pv_world.proofs.Serving.{HasStepped}
@@ -10,6 +11,7 @@ invariant-stepping g l = record {
   standing : Standing (sight g.W.Machine.word g.W.Words.frames_of g.W.Words.grants_of g.W.Words.port g.W.Machine.whole g.W.Machine.knows_device g.W.Machine.knows_domain) (memory_of l.self) (devices_of l.self) l.journal.entries;
   at : IsAt (devices_of l.self) l.i l.dev;
   devices : setups (devices_of l.self) ≡ setups (devices_of l.fn.self);
+  keeps : KeepsSame (g.W.Words.port (memory_of l.fn.self)) (g.W.Words.port (memory_of l.self));
   fewer : (n : ℕ) → l.most ≡ Some n → l.made < n;
   counted : l.made ≤ length l.journal.entries;
   steps : (frames grants : ℕ → ℕ) (m : List Item) → Stands (sight g.W.Machine.word g.W.Words.frames_of g.W.Words.grants_of g.W.Words.port g.W.Machine.whole g.W.Machine.knows_device g.W.Machine.knows_domain) frames grants (memory_of l.fn.self) (devices_of l.fn.self) m → entries m ≡ l.fn.journal.entries → HasStepped (sight g.W.Machine.word g.W.Words.frames_of g.W.Words.grants_of g.W.Words.port g.W.Machine.whole g.W.Machine.knows_device g.W.Machine.knows_domain) frames grants (memory_of l.self) (devices_of l.self) l.dev.0 l.made l.journal.entries m;

@@ -18,9 +18,10 @@ owning-preserved g c =
     record {
       standing = (s.0, s.1, s.2 ++ a.0, a.3, a.4);
       live = more.0;
-      keeps = more.1;
+      goes = more.1;
       grants = c.own_turn.ensures.range ∙ c.owning.invariant.grants;
       same = c.own_turn.ensures.same ∙ c.owning.invariant.same;
+      keeps = λ dom. c.own_turn.ensures.keeps dom ∙ c.owning.invariant.keeps dom;
       steps = λ frames grants m st e.
           owns_on (sight g.W.Machine.word g.W.Words.frames_of g.W.Words.grants_of g.W.Words.port g.W.Machine.whole g.W.Machine.knows_device g.W.Machine.knows_domain) frames grants (memory_of c.owning.self) (memory_of c.own_turn.new.self) (devices_of c.owning.self) (devices_of c.own_turn.new.self) c.args.dom c.args.gref (left_of c.args.owning) (left_of c.owning.owning) (left_of c.own_turn.new.owning) c.owning.journal.entries c.own_turn.new.journal.entries m (c.owning.invariant.steps frames grants m st e)
           (λ n t d. subst (λ (b : Bool). OwnsOn (sight g.W.Machine.word g.W.Words.frames_of g.W.Words.grants_of g.W.Words.port g.W.Machine.whole g.W.Machine.knows_device g.W.Machine.knows_domain) frames grants (memory_of c.own_turn.new.self) (devices_of c.own_turn.new.self) c.args.dom c.args.gref (left_of c.owning.owning) (left_of c.own_turn.new.owning) c.own_turn.new.journal.entries n (Ok b)) c.if-branch.true (c.in_ok-own_turn.ensures.owns frames grants n t d));

@@ -3,12 +3,14 @@ use Rattle.pv_words.specs.declared.place.Who.TheVariants.{Dom}
 use Rattle.pv_world.specs.World.{sight}
 use Rattle.pv_world.proofs.Standings.{Behaves, Hands, turned_stands}
 use Rattle.pv_world.specs.Owner.{left_of}
-use Rattle.pv_world.proofs.Owners.{may_go, owned_turn}
+use Rattle.pv_words.proofs.Keeping.{IsOwning, may_go_on, goes_on_turned, owning_next}
+use Rattle.pv_world.proofs.Owners.{goes_further, owned_turn}
+use Rattle.pv_world.proofs.Keeps.{keeps_on}
 use Rattle.pv_world.proofs.world.World.own_turn.Goals as goal
 
 pub step-turn-requires-clause-may : goal.step-turn-requires-clause-may
 step-turn-requires-clause-may g c =
-    may_go (g.W.Words.may c.turn.new.self) (g.W.Words.frames_of c.turn.new.self) (g.W.Words.grants_of c.turn.new.self) (g.W.Words.port c.turn.new.self) c.args.dom.0 c.args.gref.0 (left_of c.args.owning.now) c.requires.keeps (subst (λ n. c.args.gref.0 < n) (sym (c.turn.ensures.grants c.args.dom.0)) c.requires.range) c.turn.ensures.turned.device (c.turn.ensures.turned.serves c.args.dom.0 refl) (g.met.W.Words.allows c.turn.new.self)
+    may_go_on (g.W.Words.may c.turn.new.self) (g.W.Words.frames_of c.turn.new.self) (g.W.Words.grants_of c.turn.new.self) (g.W.Words.port c.turn.new.self) c.args.dom.0 c.args.gref.0 (left_of c.args.owning.now) (goes_on_turned (g.W.Words.port c.args.self.now.memory) (g.W.Words.port c.turn.new.self) (g.W.Machine.knows_device c.args.self.now.memory) (Dom c.args.dom) c.args.dom.0 c.args.gref.0 (left_of c.args.owning.now) c.turn.ensures.turned c.requires.goes) (subst (λ n. c.args.gref.0 < n) (sym (c.turn.ensures.grants c.args.dom.0)) c.requires.range) c.turn.ensures.turned.device (c.turn.ensures.turned.serves c.args.dom.0 refl) (g.met.W.Words.allows c.turn.new.self)
 
 pub returns-clause-owns : goal.returns-clause-owns
 returns-clause-owns g c = λ frames grants m st e.
@@ -16,4 +18,23 @@ returns-clause-owns g c = λ frames grants m st e.
     let behaves : Behaves sees g.W.Words.makes = record { frames = g.met.W.Words.keeps_frames; grants = g.met.W.Words.keeps_grants; remembers = g.met.W.Machine.remembers; leaves = g.met.W.Words.leaves; whole = g.met.W.Machine.keeps_whole; devices = g.met.W.Machine.keeps_devices; domains = g.met.W.Machine.keeps_domains } in
     let w = c.args.self.now in
     let hands : Hands sees (Dom c.args.dom) w.memory c.turn.new.self = record { turned = c.turn.ensures.turned; words = c.turn.ensures.words; frames = c.turn.ensures.frames; grants = c.turn.ensures.grants; whole = c.turn.ensures.whole; devices = c.turn.ensures.devices; domains = c.turn.ensures.domains } in
-    owned_turn sees frames grants g.W.Words.makes behaves c.turn.new.self c.step-turn.new.words w.devices.items c.args.dom c.args.gref (left_of c.args.owning.now) (left_of c.step-turn.new.self) c.step-turn.result.access c.step-turn.result.done c.args.journal.now.entries c.enter_turn.new.journal.entries m c.enter_turn.result c.requires.keeps (subst (λ n. c.args.gref.0 < n) (st.grants_are c.args.dom.0) c.requires.range) c.turn.ensures.turned.device (turned_stands sees frames grants (Dom c.args.dom) w.memory c.turn.new.self w.devices.items m hands st) c.step-turn.ensures.made c.step-turn.ensures.turns e c.enter_turn.ensures.enters
+    owned_turn sees frames grants g.W.Words.makes behaves c.turn.new.self c.step-turn.new.words w.devices.items c.args.dom c.args.gref (left_of c.args.owning.now) (left_of c.step-turn.new.self) c.step-turn.result.access c.step-turn.result.done c.args.journal.now.entries c.enter_turn.new.journal.entries m c.enter_turn.result (goes_on_turned (g.W.Words.port w.memory) (g.W.Words.port c.turn.new.self) (g.W.Machine.knows_device w.memory) (Dom c.args.dom) c.args.dom.0 c.args.gref.0 (left_of c.args.owning.now) c.turn.ensures.turned c.requires.goes) (subst (λ n. c.args.gref.0 < n) (st.grants_are c.args.dom.0) c.requires.range) c.turn.ensures.turned.device (turned_stands sees frames grants (Dom c.args.dom) w.memory c.turn.new.self w.devices.items m hands st) c.step-turn.ensures.made c.step-turn.ensures.turns e c.enter_turn.ensures.enters
+
+pub returns-clause-live : goal.returns-clause-live
+returns-clause-live g c = λ e.
+    let w = c.args.self.now in
+    let plan = left_of c.args.owning.now in
+    let left = left_of c.step-turn.new.self in
+    let n = goes_further c.args.dom c.args.gref plan left c.step-turn.result.access c.step-turn.result.done c.args.journal.now.entries c.enter_turn.new.journal.entries c.enter_turn.result c.enter_turn.ensures.enters c.step-turn.ensures.turns e in
+    let first : IsOwning g.W.Words.frames_of g.W.Words.grants_of g.W.Words.port g.W.Words.makes g.met.W.Words.keeps_grants g.met.W.Words.leaves g.met.W.Words.tells c.turn.new.self c.args.dom.0 c.args.gref.0 plan = record {
+      device = c.turn.ensures.turned.device;
+      serves = c.turn.ensures.turned.serves c.args.dom.0 refl;
+      range = subst (λ n. c.args.gref.0 < n) (sym (c.turn.ensures.grants c.args.dom.0)) c.requires.range;
+      goes = goes_on_turned (g.W.Words.port w.memory) (g.W.Words.port c.turn.new.self) (g.W.Machine.knows_device w.memory) (Dom c.args.dom) c.args.dom.0 c.args.gref.0 plan c.turn.ensures.turned c.requires.goes;
+    } in
+    let then = owning_next g.W.Words.frames_of g.W.Words.grants_of g.W.Words.port g.W.Words.makes g.met.W.Words.keeps_grants g.met.W.Words.leaves g.met.W.Words.tells c.turn.new.self c.step-turn.new.words c.args.dom.0 c.args.gref.0 plan left c.step-turn.result.access c.step-turn.result.done first c.step-turn.ensures.turns n.0 c.step-turn.ensures.made in
+    (n.1, then.goes)
+
+pub returns-clause-keeps : goal.returns-clause-keeps
+returns-clause-keeps g c =
+    keeps_on g.W.Words.frames_of g.W.Words.grants_of g.W.Words.port g.W.Words.makes g.met.W.Words.leaves c.args.self.now.memory c.turn.new.self c.step-turn.new.words (c.step-turn.result.access) c.turn.ensures.turned.keeps c.step-turn.ensures.made

@@ -1,4 +1,4 @@
-use Rattle.std.proofs.Common.{◌≡◌, List, [], ◌∷◌, ◌++◌, refl, sym, ◌∙◌, ap}
+use Rattle.std.proofs.Common.{◌≡◌, List, [], ◌∷◌, ◌++◌, Some, refl, sym, ◌∙◌, ap}
 use Rattle.std.proofs.lemmas.Result.{err_from_is_err_and}
 use Rattle.pv_words.specs.declared.access.Access.TheVariants as access
 use Rattle.pv_words.specs.declared.entry.Entry.{Entry}
@@ -6,12 +6,13 @@ use Rattle.pv_words.specs.declared.entry.Entry.TheVariants as entry
 use Rattle.pv_words.specs.declared.place.DomId.{DomId}
 use Rattle.pv_words.specs.declared.place.Who.TheVariants.{Dom}
 use Rattle.pv_words.specs.Plan as plan
-use Rattle.pv_words.proofs.Listing.{port_may_own}
+use Rattle.pv_words.proofs.Listing.{port_may_own, owns_store, unkept_turned}
 use Rattle.pv_world.specs.Marked.{entries}
 use Rattle.pv_world.specs.World.{front_store, sight}
 use Rattle.pv_world.proofs.Histories.{in_range_from}
 use Rattle.pv_world.proofs.Items.{entries_append}
 use Rattle.pv_world.proofs.Standings.{Behaves, Hands, front_history, front_stands, turned_stands}
+use Rattle.pv_world.proofs.Keeps.{keeps_on}
 use Rattle.pv_world.proofs.world.World.put.Goals as goal
 
 pub returns-in_err-enter-clause-stored : goal.returns-in_err-enter-clause-stored
@@ -27,7 +28,7 @@ store-requires g c =
     let w = c.args.self.now in
     let dom = c.domain-dom.result in
     let range = in_range_from (g.W.Words.frames_of w.memory) (g.W.Words.frames_of c.turn.new.self) (g.W.Words.grants_of w.memory) (g.W.Words.grants_of c.turn.new.self) (λ d. sym (c.turn.ensures.frames d)) (λ d. sym (c.turn.ensures.grants d)) c.args.place c.requires.range in
-    g.met.W.Words.allows c.turn.new.self (plan.Store c.args.place c.args.v) (port_may_own (g.W.Words.frames_of c.turn.new.self) (g.W.Words.grants_of c.turn.new.self) (g.W.Words.port c.turn.new.self) dom.0 (plan.Store c.args.place c.args.v) c.turn.ensures.turned.device (c.turn.ensures.turned.serves dom.0 refl) range (sym (ap (λ (d : DomId). d.0) c.domain-dom.ensures)))
+    g.met.W.Words.allows c.turn.new.self (plan.Store c.args.place c.args.v) (port_may_own (g.W.Words.frames_of c.turn.new.self) (g.W.Words.grants_of c.turn.new.self) (g.W.Words.port c.turn.new.self) dom.0 (plan.Store c.args.place c.args.v) c.turn.ensures.turned.device (c.turn.ensures.turned.serves dom.0 refl) range (owns_store (g.W.Words.port c.turn.new.self) dom.0 c.args.place c.args.v (sym (ap (λ (d : DomId). d.0) c.domain-dom.ensures)) (unkept_turned (g.W.Words.port w.memory) (g.W.Words.port c.turn.new.self) (g.W.Machine.knows_device w.memory) (Dom dom) c.args.place c.turn.ensures.turned c.requires.unkept)))
 
 pub returns-clause-stored : goal.returns-clause-stored
 returns-clause-stored g c = λ frames grants m st e.
@@ -40,3 +41,7 @@ returns-clause-stored g c = λ frames grants m st e.
       front_stands sees frames grants g.W.Words.makes behaves c.turn.new.self c.store.new.self w.devices.items m (access.Store c.args.place c.args.v) c.turn.ensures.turned.device range c.store.ensures (turned_stands sees frames grants (Dom c.domain-dom.result) w.memory c.turn.new.self w.devices.items m hands st),
       entries_append m (front_store c.args.place c.args.v ∷ []) ∙ (ap (λ (es : List Entry). es ++ entries (front_store c.args.place c.args.v ∷ [])) e ∙ (ap (λ (d : DomId). c.args.journal.now.entries ++ entry.Front d (access.Store c.args.place c.args.v) ∷ []) (sym c.domain-dom.ensures) ∙ sym entered)),
     )
+
+pub returns-clause-keeps : goal.returns-clause-keeps
+returns-clause-keeps g c =
+    keeps_on g.W.Words.frames_of g.W.Words.grants_of g.W.Words.port g.W.Words.makes g.met.W.Words.leaves c.args.self.now.memory c.turn.new.self c.store.new.self (Some (access.Store c.args.place c.args.v)) c.turn.ensures.turned.keeps c.store.ensures

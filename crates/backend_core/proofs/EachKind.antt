@@ -1,6 +1,8 @@
 -- What is so of devices of every kind, from what is so of each kind's order of work.
-use Rattle.std.proofs.Common.{◌≡◌, ℕ, true, List, [], ◌∷◌, ◌++◌, Option, Some, None, refl, sym, subst, ◌∙◌, ap, append_assoc}
+use Rattle.std.proofs.Common.{◌≡◌, ℕ, true, List, [], ◌∷◌, ◌++◌, Option, Some, None, refl, sym, subst, ◌∙◌, ap, append_assoc, append-nil}
 use Rattle.pv_words.specs.declared.access.Access.{Access}
+use Rattle.pv_words.specs.declared.device.HostEvent.{HostEvent}
+use Rattle.pv_words.specs.declared.device.HostRefusal.{HostRefusal}
 use Rattle.pv_words.specs.declared.device.Said.{Said}
 use Rattle.pv_words.specs.declared.setup.DeviceKind.{DeviceKind}
 use Rattle.pv_words.specs.declared.setup.DeviceKind.TheVariants as kind
@@ -11,19 +13,22 @@ use Rattle.pv_words.specs.Memory.{zeros}
 use Rattle.pv_words.specs.Plan.{Plan, Finished, Make, Note, Want, MayGo, wanted}
 use Rattle.device_core.specs.Machine.{Happening, HappensTo, IsRun, Reading}
 use Rattle.device_core.specs.Order as order
-use Rattle.device_core.specs.Order.{Own, Did, Spoke, Rules, Stand, Between, Station, MayStep, at_stand, due_at, followed, made_by, note_at, steps_of}
+use Rattle.device_core.specs.Order.{Own, Did, Spoke, Heard, Hosts, Refused, Stand, Between, Station, MayStep, at_stand, due_at, followed, made_by, note_at, steps_of}
 use Rattle.device_core.specs.Site.{Site}
 use Rattle.device_core.proofs.MachineRun.{IsGood, good_after, may_step, memory_left, named_after, proper_after, proper_follow, run_after, snapshot_at}
-use Rattle.device_core.proofs.Stations.{AreOthers, made_append, others_follow, others_made, station_is, told_is_due}
+use Rattle.device_core.proofs.Passing.{news_may_come}
+use Rattle.device_core.proofs.Stations.{AreHeard, AreOthers, due_heard, heard_made, made_append, others_follow, others_made, station_is, told_is_due}
 use Rattle.display_backend.specs.Display as screen
 use Rattle.display_backend.specs.Machine.{Rows, Event}
+use Rattle.display_backend.specs.Waiting.{is_for}
 use Rattle.display_backend.specs.Work.{Work, End, Naming, choice, display, first_naming, first_work, reading}
 use Rattle.display_backend.proofs.Sound.{sound, first_good, first_named}
 use Rattle.backend_core.specs.declared.device.Device.{Device}
 use Rattle.backend_core.specs.declared.device.Device.TheVariants.{Display}
-use Rattle.backend_core.specs.Device.{IsDisplay, MayMakeNext, StandsFor}
+use Rattle.backend_core.specs.Device as backend
+use Rattle.backend_core.specs.Device.{GoesOn, IsDisplay, MayMakeNext, StandsFor}
 use Rattle.backend_core.specs.History.{held_after, site_of}
-use Rattle.backend_core.specs.Kinds.{AnswersAll, Continues, IsExplained, IsMachineRun, IsSettled, display_events, display_station, due_after, first_snapshot, machine, made_after, owed_after, parts_of}
+use Rattle.backend_core.specs.Kinds.{AnswersAll, Continues, IsExplained, IsMachineRun, IsSettled, display_events, display_station, due_after, first_snapshot, machine, made_after, owed_after, parts_of, takes_event}
 use Rattle.backend_core.proofs.Answers.{answers_then}
 
 pub along_front : {S E : Type 0} (step : S → E → S) (may : S → E → Type 0) (s : S) (es fs : List E) → Along step may s (es ++ fs) → Along step may s es
@@ -182,3 +187,88 @@ may_weaker may also f site (Display d) h = steps_weaker (screen.stand_of site d)
     steps_weaker (Between w) g = chooses_weaker (choice site w) g
     steps_weaker (order.During w p) g = goes_weaker p g
     steps_weaker (order.Telling t w o) g = tt
+
+-- what a device is tells its domain and its parts
+pub dom_of_one : (k : DeviceKind) (site : Site) (d : Device) (es : List Own) → StandsFor k site d es → backend.dom_of d ≡ site.dom
+dom_of_one (kind.Display n) site (Display d) es h = h.dom_is
+
+pub parts_of_one : (k : DeviceKind) (site : Site) (d : Device) (es : List Own) → StandsFor k site d es → backend.parts_of d ≡ site.parts
+parts_of_one (kind.Display n) site (Display d) es h = h.parts_are
+
+-- an event that a host may tell a device of this kind fits the device
+pub fits_one : (k : DeviceKind) (site : Site) (d : Device) (es : List Own) (e : HostEvent) → site.parts ≡ parts_of k → StandsFor k site d es → backend.fits_to d e ≡ takes_event k e
+fits_one (kind.Display n) site (Display d) es e parts h = ap (λ x. is_for x e) (h.parts_are ∙ h.connectors_are)
+
+-- where no access was made, it holds what it held
+pub quiet_holds : (frames grants : ℕ → ℕ) (dom : ℕ) (k : DeviceKind) (es : List Own) (t : Option Said) → holds_as frames grants dom k (es ++ steps_of None t) ≡ holds_as frames grants dom k es
+quiet_holds frames grants dom (kind.Display n) es t = ap (λ ms. after (λ h (x : Made). holding frames h x.note x.access) (holds_of []) ms) (made_append (display site) (at_stand (Between first_work)) es (steps_of None t) ∙ (ap (λ ms. made_after (kind.Display n) site es ++ ms) (none_made t) ∙ append-nil (made_after (kind.Display n) site es)))
+  where
+    site : Site
+    site = site_as frames grants dom (kind.Display n)
+
+    none_made : (x : Option Said) → made_by (display site) (display_station site es) (steps_of None x) ≡ []
+    none_made None = refl
+    none_made (Some s) = refl
+
+-- what it hears makes no access
+pub heard_holds : (frames grants : ℕ → ℕ) (dom : ℕ) (k : DeviceKind) (es more : List Own) → AreHeard more → holds_as frames grants dom k (es ++ more) ≡ holds_as frames grants dom k es
+heard_holds frames grants dom (kind.Display n) es more o = ap (λ ms. after (λ h (x : Made). holding frames h x.note x.access) (holds_of []) ms) (made_append (display site) (at_stand (Between first_work)) es more ∙ (ap (λ ms. made_after (kind.Display n) site es ++ ms) (heard_made (display site) (display_station site es) more o) ∙ append-nil (made_after (kind.Display n) site es)))
+  where
+    site : Site
+    site = site_as frames grants dom (kind.Display n)
+
+pub none_comes : (k : DeviceKind) (site : Site) (es : List Own) → Continues k site es []
+none_comes (kind.Display n) site es = tt
+
+-- news may come to a device that is settled
+pub news_continue : (k : DeviceKind) (site : Site) (es : List Own) (news : order.News) → IsSettled k site es → Continues k site es (Heard news ∷ [])
+news_continue (kind.Display n) site es news h =
+    subst (λ p. order.IsExplained (display site) p (Heard news ∷ [])) (sym (station_settled n site es h)) (news_may_come (display site) (display_station site es).stand news, tt)
+
+-- a device that goes on by nothing stands where it stood
+pub nothing_more : (k : DeviceKind) (site : Site) (d : Device) (es : List Own) → StandsFor k site d es → IsSettled k site es → GoesOn k site es [] d
+nothing_more k site d es h s =
+    record {
+      comes = none_comes k site es;
+      stands = subst (λ (x : List Own). StandsFor k site d x) (sym (append-nil es)) h;
+      settled = subst (λ (x : List Own). IsSettled k site x) (sym (append-nil es)) s;
+    }
+
+-- what was just declared is settled
+pub first_settled : (k : DeviceKind) (site : Site) → IsSettled k site []
+first_settled (kind.Display n) site = record { said = refl; answered = refl }
+
+pub first_explained : (k : DeviceKind) (site : Site) → IsExplained k site []
+first_explained (kind.Display n) site = tt
+
+-- a refusal that comes next is the one that is owed
+pub refusal_due : (k : DeviceKind) (site : Site) (es : List Own) (e : HostEvent) (why : HostRefusal) (t : Option Said) (owed : Option HostRefusal) → IsSettled k site es → Continues k site es (Heard (Hosts e) ∷ Refused why ∷ []) → due_after k site (es ++ Heard (Hosts e) ∷ []) ≡ t → owed_after k site (es ++ Heard (Hosts e) ∷ []) ≡ owed → (t ≡ None) × (owed ≡ Some why)
+refusal_due (kind.Display n) site es e why t owed h c d o =
+    let p = at_stand (display_station site es).stand in
+    let there = followed (display site) p (Heard (Hosts e)) in
+    let is : display_station site (es ++ Heard (Hosts e) ∷ []) ≡ there = station_more site es (Heard (Hosts e) ∷ []) ∙ ap (λ x. followed (display site) x (Heard (Hosts e))) (station_settled n site es h) in
+    let x = subst (λ y. order.IsExplained (display site) y (Heard (Hosts e) ∷ Refused why ∷ [])) (station_settled n site es h) c in (
+      sym d ∙ (ap (λ (y : Station Work End). due_at y.stand) is ∙ (due_heard (display site) (display_station site es).stand (Hosts e) ∙ h.said)),
+      sym o ∙ (ap (λ (y : Station Work End). y.owes) is ∙ owed_so there.stand there.owes x.1.0),
+    ) where
+      owed_so : (s : Stand Work End) (r : Option HostRefusal) → order.MayFollowWith (display site) s r (Refused why) → r ≡ Some why
+      owed_so s (Some x) m = ap Some (sym m)
+      owed_so s None m = refused_never s m
+        where
+          refused_never : (s : Stand Work End) → order.May (display site) s (Refused why) → None ≡ Some why
+          refused_never (Between w) m = absurd (begins_never (order.picked (choice site w) (Refused why)) m)
+            where
+              begins_never : (c : order.Order Work End) → order.MayBegin (display site) w c (Refused why) → ⊥
+              begins_never (order.Act v (Finished x)) m = m
+              begins_never (order.Act v (Make want note more)) m = m
+              begins_never (order.Either v p u q) m = m
+              begins_never (order.Rest v) m = m
+          refused_never (order.During w (Finished x)) m = absurd m
+          refused_never (order.During w (Make want note more)) m = absurd m
+          refused_never (order.Telling u w x) m = absurd m
+
+pub first_holds : (frames grants : ℕ → ℕ) (s : DeviceSetup) → held_after frames grants s [] ≡ holds_of []
+first_holds frames grants s = ap (λ ms. after (λ h (x : Made). holding frames h x.note x.access) (holds_of []) ms) (none_made s.kind)
+  where
+    none_made : (k : DeviceKind) → made_after k (site_of frames grants s) [] ≡ []
+    none_made (kind.Display n) = refl

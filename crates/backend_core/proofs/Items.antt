@@ -188,23 +188,17 @@ pub counts_append : (m n : List Item) → accesses_in (m ++ n) ≡ accesses_in m
 counts_append [] n = omega arith
 counts_append (i ∷ m) n = let rest = counts_append m n in omega (arith, rest)
 
--- the front of a step's items up to an entry are steps, and so is that entry
-steps_front : (d : ℕ) (m : List Item) (due : Entry) (n : List Item) → AreSteps d (m ++ Entered due ∷ n) → AreSteps d m × IsStepOf d due
-steps_front d [] due n h = (tt, h.0)
-steps_front d (Entered e ∷ m) due n h = let t = steps_front d m due n h.1 in ((h.0, t.0), t.1)
-steps_front d (Idle dev ∷ m) due n h = absurd h
-
 has_entry : (m : List Item) (due : Entry) (n : List Item) (d : ℕ) → m ++ Entered due ∷ n ≡ Idle d ∷ [] → ⊥
 has_entry [] due n d e = cc
 has_entry (Entered f ∷ m) due n d e = cc
 has_entry (Idle c ∷ []) due n d e = let rest : Entered due ∷ n ≡ [] = cc in let wrong : ⊥ = cc in wrong
 has_entry (Idle c ∷ i ∷ m) due n d e = let rest : i ∷ (m ++ Entered due ∷ n) ≡ [] = cc in let wrong : ⊥ = cc in wrong
 
-pub front_steps : (dev : DevId) (a : Option Access) (s : Option Said) (m : List Item) (due : Entry) (n : List Item) → items_of dev a s ≡ m ++ Entered due ∷ n → AreSteps dev.0 m × IsStepOf dev.0 due
+pub front_steps : (dev : DevId) (a : Option Access) (s : Option Said) (m : List Item) (due : Entry) (n : List Item) → items_of dev a s ≡ m ++ Entered due ∷ n → AreSteps dev.0 (m ++ Entered due ∷ n)
 front_steps dev None None m due n e = absurd (has_entry m due n dev.0 (sym e))
-front_steps dev None (Some s) m due n e = steps_front dev.0 m due n (subst (λ (x : List Item). AreSteps dev.0 x) e (is_step_said dev s, tt))
-front_steps dev (Some a) None m due n e = steps_front dev.0 m due n (subst (λ (x : List Item). AreSteps dev.0 x) e (refl, tt))
-front_steps dev (Some a) (Some s) m due n e = steps_front dev.0 m due n (subst (λ (x : List Item). AreSteps dev.0 x) e (refl, (is_step_said dev s, tt)))
+front_steps dev None (Some s) m due n e = subst (λ (x : List Item). AreSteps dev.0 x) e (is_step_said dev s, tt)
+front_steps dev (Some a) None m due n e = subst (λ (x : List Item). AreSteps dev.0 x) e (refl, tt)
+front_steps dev (Some a) (Some s) m due n e = subst (λ (x : List Item). AreSteps dev.0 x) e (refl, (is_step_said dev s, tt))
 
 pub steps_append : (d : ℕ) (m n : List Item) → AreSteps d m → AreSteps d n → AreSteps d (m ++ n)
 steps_append d [] n a b = b

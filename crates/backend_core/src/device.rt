@@ -1,10 +1,11 @@
 //! The kinds of device.
 
-ghost use Rattle.std.specs.Prelude.{◌≡◌, ◌<◌, [], ◌∷◌, List, OnErr, not, true, length, slice_get, Some};
+ghost use Rattle.std.specs.Prelude.{◌≡◌, ◌<◌, ◌≤◌, [], ◌∷◌, List, IfOk, OnErr, not, true, length, slice_get, Some};
 
 use device_core::Step;
 use display_backend::Display;
-use pv_words::{Hold, HostEvent, HostRefusal, State, Words};
+use pv_words::{DeviceKind, DeviceSetup, Hold, HostEvent, HostRefusal, State, Words};
+use std::alloc::{AllocError, Global};
 use xenbus_states::Nodes;
 
 /// A device, with its connection to a frontend.
@@ -15,8 +16,26 @@ pub enum Device {
 }
 
 impl Device {
+    /// A device as it is declared, of 1 to 4 parts, which waits for its frontend: it stands for nothing yet.
+    pub fn new(alloc: Global, setup: &DeviceSetup) -> Result<Device, AllocError>
+        requires least { 1 ≤ parts_of_kind setup.now.kind }
+        requires most { parts_of_kind setup.now.kind ≤ 4 }
+        ensures stands { IfOk result (λ d. (frames grants : ℕ → ℕ) → StandsFor setup.now.kind (site_of_setup frames grants setup.now) d []) }
+        ensures bare { IfOk result (λ d. held_of d ≡ []) }
+    {
+        match &setup.kind {
+            DeviceKind::Display(connectors) => {
+                let display = Display::new(alloc, setup.dev, setup.dom, *connectors)?;
+                Ok(Device::Display(display))
+            }
+        }
+    }
+
     ghost use Rattle.pv_words.specs.Plan.{Makes};
+    ghost use Rattle.std.specs.Prelude.{ℕ};
     ghost use Rattle.pv_words.specs.declared.setup.DeviceKind.{DeviceKind};
+    ghost use Rattle.backend_core.specs.Kinds.{parts_of as parts_of_kind};
+    ghost use Rattle.backend_core.specs.History.{site_of as site_of_setup};
     ghost use Rattle.device_core.specs.Order.{Own, Heard, Sets, steps_of};
     ghost use Rattle.link_core.specs.Stays.{AccessIn};
     ghost use Rattle.device_core.specs.Site.{Site};

@@ -15,6 +15,13 @@ AreOthers [] = Unit {0}
 AreOthers (Others a ∷ es) = AreOthers es
 AreOthers (other ∷ es) = ⊥
 
+-- nothing but what is heard, and refusals
+abbrev pub AreHeard : List Own → Type 0
+AreHeard [] = Unit {0}
+AreHeard (Heard news ∷ es) = AreHeard es
+AreHeard (Refused why ∷ es) = AreHeard es
+AreHeard (other ∷ es) = ⊥
+
 pub station_is : {W O : Type 0} (p : Station W O) (s : Stand W O) → s ≡ p.stand → p.owes ≡ None → p ≡ at_stand s
 station_is p s e n = ap (λ x. record { stand = p.stand; owes = x }) n ∙ ap at_stand (sym e)
 
@@ -62,6 +69,15 @@ module _ {W O : Type 0} (r : Rules W O) where
   others_made p (Rested ∷ es) o = absurd o
   others_made p (Heard news ∷ es) o = absurd o
   others_made p (Refused why ∷ es) o = absurd o
+
+  pub heard_made : (p : Station W O) (es : List Own) → AreHeard es → made_by r p es ≡ []
+  heard_made p [] o = refl
+  heard_made p (Heard news ∷ es) o = heard_made (followed r p (Heard news)) es o
+  heard_made p (Refused why ∷ es) o = heard_made (followed r p (Refused why)) es o
+  heard_made p (Did a ∷ es) o = absurd o
+  heard_made p (Spoke t ∷ es) o = absurd o
+  heard_made p (Rested ∷ es) o = absurd o
+  heard_made p (Others a ∷ es) o = absurd o
 
   -- the accesses of what a device does and then does
   pub made_append : (p : Station W O) (es fs : List Own) → made_by r p (es ++ fs) ≡ made_by r p es ++ made_by r (after (followed r) p es) fs

@@ -3,10 +3,12 @@ use Rattle.std.proofs.Common.{◌≡◌, ℕ, zero, suc, ◌<◌, ◌==◌, ◌|
 use Rattle.std.proofs.lemmas.Bool.Decides.{nat_tests}
 use Rattle.std.proofs.lemmas.Option.{slice_get_read, get_or_from_slice_get}
 use Rattle.std.specs.List.{AllByRecursion, slice_get}
+use Rattle.pv_words.specs.declared.device.HostEvent.{HostEvent}
 use Rattle.pv_words.specs.declared.place.DevId.{DevId}
 use Rattle.pv_words.specs.declared.setup.DeviceSetup.{DeviceSetup}
 use Rattle.pv_world.specs.declared.world.Placed.{Placed}
-use Rattle.pv_world.specs.History.{AreApart, is_declared, parts_by, parts_of}
+use Rattle.backend_core.specs.History.{AreApart, is_declared, takes_by}
+use Rattle.backend_core.specs.Kinds.{takes_event}
 use Rattle.pv_world.specs.World.{AreDeclaredAs, IsAt, IsDeclaredAs, setups}
 
 some_same : {A : Type 0} (x y : A) → Some x ≡ Some y → x ≡ y
@@ -92,7 +94,7 @@ declared_within [] (suc i) d e = let wrong : ⊥ = cc in absurd wrong
 declared_within (p ∷ ps) zero d e = omega arith
 declared_within (p ∷ ps) (suc i) d e = let l = declared_within ps i d e in omega (arith, l)
 
-dev_same : (a b : DevId) → a.0 ≡ b.0 → a ≡ b
+pub dev_same : (a b : DevId) → a.0 ≡ b.0 → a ≡ b
 dev_same a b e = ap (λ n. record { 0 = n }) e
 
 pub found_at : (ps : List Placed) (i : ℕ) (p : Placed) (dev : DevId) → is_declared (setups (drop i ps)) dev.0 ≡ true → p ≡ get_or ps i p → p.setup.dev.0 ≡ dev.0 → IsAt ps i dev
@@ -113,14 +115,25 @@ setups_as [] (q ∷ ps) h = absurd h
 setups_as (t ∷ ss) [] h = absurd h
 setups_as (t ∷ ss) (q ∷ ps) h = ap (λ (x : DeviceSetup). x ∷ setups ps) h.0.setup_is ∙ ap (λ (xs : List DeviceSetup). t ∷ xs) (setups_as ss ps h.1)
 
--- a device has its own parts
-pub parts_at : (ps : List Placed) (i : ℕ) (p : Placed) → AreApart (setups ps) → slice_get ps i ≡ Some p → parts_by (setups ps) p.setup.dev.0 ≡ parts_of p.setup.kind
-parts_at [] zero p a e = let wrong : ⊥ = cc in absurd wrong
-parts_at [] (suc i) p a e = let wrong : ⊥ = cc in absurd wrong
-parts_at (q ∷ qs) zero p a e =
-    let same : q ≡ p = some_same q p e in
-    subst (λ (x : Placed). parts_by (setups (x ∷ qs)) p.setup.dev.0 ≡ parts_of p.setup.kind) (sym same)
-    (ap (λ (b : Bool). cond b (parts_of p.setup.kind) (parts_by (setups qs) p.setup.dev.0)) (eq-eqb p.setup.dev.0 p.setup.dev.0 refl))
-parts_at (q ∷ qs) (suc i) p a e =
-    ap (λ (b : Bool). cond b (parts_of q.setup.kind) (parts_by (setups qs) p.setup.dev.0)) (turned_round p.setup.dev.0 q.setup.dev.0 (apart_from qs i p q.setup.dev.0 e a.0))
-    ∙ parts_at qs i p a.1 e
+-- a host may tell a device the events of its own kind
+pub takes_at : (ps : List Placed) (i : ℕ) (p : Placed) (e : HostEvent) → AreApart (setups ps) → slice_get ps i ≡ Some p → takes_by (setups ps) p.setup.dev.0 e ≡ takes_event p.setup.kind e
+takes_at [] zero p e a at = let wrong : ⊥ = cc in absurd wrong
+takes_at [] (suc i) p e a at = let wrong : ⊥ = cc in absurd wrong
+takes_at (q ∷ qs) zero p e a at =
+    let same : q ≡ p = some_same q p at in
+    subst (λ (x : Placed). takes_by (setups (x ∷ qs)) p.setup.dev.0 e ≡ takes_event p.setup.kind e) (sym same)
+    (ap (λ (b : Bool). cond b (takes_event p.setup.kind e) (takes_by (setups qs) p.setup.dev.0 e)) (eq-eqb p.setup.dev.0 p.setup.dev.0 refl))
+takes_at (q ∷ qs) (suc i) p e a at =
+    ap (λ (b : Bool). cond b (takes_event q.setup.kind e) (takes_by (setups qs) p.setup.dev.0 e)) (turned_round p.setup.dev.0 q.setup.dev.0 (apart_from qs i p q.setup.dev.0 at a.0))
+    ∙ takes_at qs i p e a.1 at
+
+-- a device that is declared stands somewhere
+pub declared_found : (ps : List Placed) (d : ℕ) → is_declared (setups ps) d ≡ true → (i : ℕ) × (p : Placed) × (slice_get ps i ≡ Some p) × (p.setup.dev.0 ≡ d)
+declared_found [] d e = let wrong : ⊥ = cc in absurd wrong
+declared_found (q ∷ qs) d e = by_test (q.setup.dev.0 == d) refl e (λ h. declared_found qs d h)
+  where
+    by_test : (t : Bool) → (q.setup.dev.0 == d) ≡ t → (t || is_declared (setups qs) d) ≡ true
+        → (is_declared (setups qs) d ≡ true → (i : ℕ) × (p : Placed) × (slice_get qs i ≡ Some p) × (p.setup.dev.0 ≡ d))
+        → (i : ℕ) × (p : Placed) × (slice_get (q ∷ qs) i ≡ Some p) × (p.setup.dev.0 ≡ d)
+    by_test true same h f = (0, q, refl, grind (arith, nat_tests))
+    by_test false apart h f = let x = f h in (suc x.0, x.1, x.2, x.3)

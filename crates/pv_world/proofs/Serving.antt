@@ -1,21 +1,18 @@
 -- From single steps to a device that is served.
-use Rattle.std.proofs.Common.{◌≡◌, ◌≢◌, ℕ, nat_eq, ◌+◌, ◌<◌, ◌≤◌, inl, inr, Bool, true, false, List, [], ◌∷◌, ◌++◌, Option, Some, None, Result, Ok, Err, sym, subst, ◌∙◌, ap, append_assoc, refl, arith}
+use Rattle.std.proofs.Common.{◌≡◌, ◌≢◌, ℕ, nat_eq, ◌+◌, ◌<◌, ◌≤◌, inl, inr, Bool, true, false, List, [], ◌∷◌, ◌++◌, Option, Some, None, Result, Ok, Err, sym, subst, ◌∙◌, ap, append_assoc, append-nil, length, refl, arith}
 use Rattle.std.proofs.lemmas.Bool.Decides.{nat_tests}
 use Rattle.std.specs.Option.{option_eq}
 use Rattle.pv_words.specs.declared.access.Access.{Access}
 use Rattle.pv_words.specs.declared.entry.Entry.{Entry}
 use Rattle.pv_words.specs.declared.journal.Stop.{Stop}
-use Rattle.pv_words.specs.declared.journal.Stop.TheVariants.{JournalFull, OutOfMemory}
+use Rattle.pv_words.specs.declared.journal.Stop.TheVariants.{OutOfMemory}
 use Rattle.pv_words.specs.declared.place.DevId.{DevId}
 use Rattle.pv_words.specs.declared.device.Said.{Said}
-use Rattle.pv_words.specs.declared.setup.DeviceSetup.{DeviceSetup}
 use Rattle.pv_world.specs.declared.world.Placed.{Placed}
-use Rattle.pv_world.specs.Marked.{Item, Entered, Idle, entries, items_of, accesses_in, IsStepOf, AreSteps}
-use Rattle.pv_world.specs.Record.{Records, Shows, progress}
-use Rattle.pv_world.specs.History.{IsHistory}
-use Rattle.pv_world.specs.World.{Sight, Stands, StopsIn, HasCause, AtMost, Advanced, SteppedBy, setups}
-use Rattle.pv_world.proofs.Items.{entries_append, busy_steps, idle_mark, one_access, no_access, most_one, front_steps, steps_append, counts_append}
-use Rattle.pv_world.proofs.Histories.{history_front}
+use Rattle.backend_core.specs.Marked.{Item, Entered, Idle, entries, items_of, accesses_in, AreSteps, progress}
+use Rattle.pv_world.specs.Record.{Records}
+use Rattle.pv_world.specs.World.{Sight, Stands, StopsIn, Lacks, AtMost, Advanced, SteppedBy}
+use Rattle.backend_core.proofs.Items.{entries_append, busy_steps, idle_mark, one_access, no_access, most_one, front_steps, steps_append, counts_append}
 
 -- a number that was asked for
 pub all_asked : (most : Option ℕ) (n : ℕ) → option_eq nat_eq most (Some n) ≡ true → most ≡ Some n
@@ -31,36 +28,34 @@ fewer_still (Some k) made f e n h =
     omega (arith, l, same, apart)
 
 module _ {W : Type 0} (g : Sight W) (frames grants : ℕ → ℕ) where
-  cause_of : (devices : List DeviceSetup) (d : ℕ) (most : Option ℕ) (stop : Stop) (m here : List Item) (due : Entry) (rest : List Item) (es : List Entry) → IsStepOf d due → IsHistory frames grants devices ((m ++ here) ++ Entered due ∷ rest) → AtMost most (accesses_in (here ++ Entered due ∷ [])) → Shows stop es → HasCause frames grants devices d most m here es stop
-  cause_of devices d most JournalFull m here due rest es of h within limit =
-      record {
-        length_is = limit;
-        due = due;
-        of_device = of;
-        goes_on = history_front frames grants devices ((m ++ here) ++ Entered due ∷ []) rest (subst (λ (x : List Item). IsHistory frames grants devices x) (sym (append_assoc (m ++ here) (Entered due ∷ []) rest)) h);
-        within = within;
-      }
-  cause_of devices d most OutOfMemory m here due rest es of h within limit = limit
-
   -- what was entered of a step, and what the world stands for after it
   pub recorded : (memory : W) (devices : List Placed) (dev : DevId) (a : Option Access) (s : Option Said) (old new : List Entry) (m : List Item) (result : Result (Option Bool) Stop) → Stands g frames grants memory devices (m ++ items_of dev a s) → entries m ≡ old → Records (items_of dev a s) a s old new result → Advanced g frames grants memory devices dev new m result
   recorded memory devices dev a s old new m (Ok did) st e r =
       (a, s, r.1, st, entries_append m (items_of dev a s) ∙ (ap (λ (x : List Entry). x ++ entries (items_of dev a s)) e ∙ sym r.0))
   recorded memory devices dev a s old new m (Err stop) st e r =
-      let whole : m ++ items_of dev a s ≡ (m ++ r.done) ++ Entered r.due ∷ r.rest = ap (λ (x : List Item). m ++ x) r.split ∙ sym (append_assoc m r.done (Entered r.due ∷ r.rest)) in
-      let h : IsHistory frames grants (setups devices) ((m ++ r.done) ++ Entered r.due ∷ r.rest) = subst (λ (x : List Item). IsHistory frames grants (setups devices) x) whole st.so_far in
-      let steps = front_steps dev a s r.done r.due r.rest r.split in
-      let parts = counts_append r.done (Entered r.due ∷ r.rest) in
-      let some = counts_append r.done (Entered r.due ∷ []) in
-      let all = ap accesses_in r.split in
       let few = most_one dev a s in
+      let all = ap accesses_in r.split in
       record {
         here = r.done;
-        steps = steps.0;
-        within = omega (arith, parts, all, few);
-        so_far = history_front frames grants (setups devices) (m ++ r.done) (Entered r.due ∷ r.rest) h;
+        due = Entered r.due ∷ r.rest;
+        steps = front_steps dev a s r.done r.due r.rest r.split;
+        within = omega (arith, all, few);
+        stands = subst (λ (x : List Item). Stands g frames grants memory devices (m ++ x)) r.split st;
         entered = entries_append m r.done ∙ (ap (λ (x : List Entry). x ++ entries r.done) e ∙ sym r.entered);
-        cause = cause_of (setups devices) dev.0 (Some 1) stop m r.done r.due r.rest new steps.1 h (omega (arith, parts, some, all, few)) r.limit;
+        cause = subst (λ (x : Stop). Lacks x (Entered r.due ∷ r.rest) new) (sym r.full) (r.limit, (r.due, r.rest, refl));
+      }
+
+  -- memory was wanting before it
+  pub wanting : (memory : W) (devices : List Placed) (d : ℕ) (stop : Stop) (old new : List Entry) (m : List Item) → Stands g frames grants memory devices m → entries m ≡ old → new ≡ old → stop ≡ OutOfMemory → length new < 8388608 → StopsIn g frames grants memory devices d (Some 1) stop m new
+  wanting memory devices d stop old new m st e same why below =
+      record {
+        here = [];
+        due = [];
+        steps = tt;
+        within = omega arith;
+        stands = subst (λ (x : List Item). Stands g frames grants memory devices x) (sym (append-nil m)) st;
+        entered = ap entries (append-nil m) ∙ (e ∙ sym same);
+        cause = subst (λ (x : Stop). Lacks x [] new) (sym why) (below, refl);
       }
 
   -- steps of a device, with so many accesses, led here
@@ -125,35 +120,21 @@ module _ {W : Type 0} (g : Sight W) (frames grants : ℕ → ℕ) where
   within_most None n k f h = tt
   within_most (Some j) n k f h = let l = f j refl in omega (arith, l, h)
 
-  -- the cause of the last step is one of all
-  stopped_cause : (devices : List DeviceSetup) (d : ℕ) (most : Option ℕ) (made : ℕ) (stop : Stop) (m first here : List Item) (es : List Entry) → ((n : ℕ) → most ≡ Some n → made < n) → accesses_in first ≡ made → HasCause frames grants devices d (Some 1) (m ++ first) here es stop → HasCause frames grants devices d most m (first ++ here) es stop
-  stopped_cause devices d most made JournalFull m first here es fewer counted h =
-      let more : List Item = here ++ Entered h.due ∷ [] in
-      let one = h.within in
-      let sum = counts_append first more in
-      let joined : (first ++ here) ++ Entered h.due ∷ [] ≡ first ++ more = append_assoc first here (Entered h.due ∷ []) in
-      record {
-        length_is = h.length_is;
-        due = h.due;
-        of_device = h.of_device;
-        goes_on = subst (λ (x : List Item). IsHistory frames grants devices (x ++ Entered h.due ∷ [])) (append_assoc m first here) h.goes_on;
-        within = subst (λ (x : List Item). AtMost most (accesses_in x)) (sym joined) (within_most most made (accesses_in (first ++ more)) fewer (omega (arith, sum, counted, one)));
-      }
-  stopped_cause devices d most made OutOfMemory m first here es fewer counted h = h
-
   -- it was stopped, after some steps that weren't
-  pub stopped : (memory : W) (devices then : List Placed) (dev : DevId) (most : Option ℕ) (made : ℕ) (stop : Stop) (es new : List Entry) (m : List Item) → ((n : ℕ) → most ≡ Some n → made < n) → HasStepped memory devices dev.0 made es m → ((n : List Item) → Stands g frames grants memory devices n → entries n ≡ es → StopsIn frames grants (setups then) dev.0 (Some 1) stop n new) → StopsIn frames grants (setups then) dev.0 most stop m new
-  stopped memory devices then dev most made stop es new m fewer h f =
+  pub stopped : (memory later : W) (devices then : List Placed) (dev : DevId) (most : Option ℕ) (made : ℕ) (stop : Stop) (es new : List Entry) (m : List Item) → ((n : ℕ) → most ≡ Some n → made < n) → HasStepped memory devices dev.0 made es m → ((n : List Item) → Stands g frames grants memory devices n → entries n ≡ es → StopsIn g frames grants later then dev.0 (Some 1) stop n new) → StopsIn g frames grants later then dev.0 most stop m new
+  stopped memory later devices then dev most made stop es new m fewer h f =
       let x = f (m ++ h.here) h.stands h.entered in
       let joined : (m ++ h.here) ++ x.here ≡ m ++ (h.here ++ x.here) = append_assoc m h.here x.here in
-      let sum = counts_append h.here x.here in
+      let all : (h.here ++ x.here) ++ x.due ≡ h.here ++ (x.here ++ x.due) = append_assoc h.here x.here x.due in
+      let sum = counts_append h.here (x.here ++ x.due) in
       let so_far = h.counted in
       let one = x.within in
       record {
         here = h.here ++ x.here;
-        steps = steps_append dev.0 h.here x.here h.steps x.steps;
-        within = within_most most made (accesses_in (h.here ++ x.here)) fewer (omega (arith, sum, so_far, one));
-        so_far = subst (λ (y : List Item). IsHistory frames grants (setups then) y) joined x.so_far;
+        due = x.due;
+        steps = subst (λ (y : List Item). AreSteps dev.0 y) (sym all) (steps_append dev.0 h.here (x.here ++ x.due) h.steps x.steps);
+        within = subst (λ (y : List Item). AtMost most (accesses_in y)) (sym all) (within_most most made (accesses_in (h.here ++ (x.here ++ x.due))) fewer (omega (arith, sum, so_far, one)));
+        stands = subst (λ (y : List Item). Stands g frames grants later then y) (append_assoc m h.here (x.here ++ x.due) ∙ ap (λ (y : List Item). m ++ y) (sym all)) x.stands;
         entered = subst (λ (y : List Item). entries y ≡ new) joined x.entered;
-        cause = stopped_cause (setups then) dev.0 most made stop m h.here x.here new fewer h.counted x.cause;
+        cause = x.cause;
       }

@@ -1,26 +1,32 @@
 -- What a world stands for, after its memory changed hands or an access was made.
-use Rattle.std.proofs.Common.{◌≡◌, ℕ, List, [], ◌∷◌, ◌++◌, Some, None, refl, sym, subst, ◌∙◌, ap}
+use Rattle.std.proofs.Common.{◌≡◌, ℕ, List, [], ◌∷◌, ◌++◌, Option, Some, None, refl, sym, subst, ◌∙◌, ap, append-nil}
 use Rattle.std.specs.List.{AllByRecursion}
 use Rattle.pv_words.specs.declared.access.Access.{Access}
+use Rattle.pv_words.specs.declared.device.HostRefusal.{HostRefusal}
+use Rattle.pv_words.specs.declared.device.NodeValue.{NodeValue}
+use Rattle.pv_words.specs.declared.device.Said.{Said}
+use Rattle.pv_words.specs.declared.place.DevId.{DevId}
 use Rattle.pv_words.specs.declared.place.Place.{Place}
 use Rattle.pv_words.specs.declared.place.Who.{Who}
 use Rattle.pv_words.specs.declared.setup.DeviceSetup.{DeviceSetup}
 use Rattle.pv_words.specs.Along.{after, Along}
-use Rattle.pv_words.specs.Held.{Holds, Made, holding}
+use Rattle.pv_words.specs.Held.{Holds}
 use Rattle.pv_words.specs.Memory.{Memory, Answers, IsTrueOf, memory_after, place_of, remembered, written}
 use Rattle.pv_words.specs.Place.{InRange}
 use Rattle.pv_words.specs.Port.{IsListed, Leaves, Turned}
 use Rattle.pv_words.proofs.Listing.{listed_domain, listed_turned}
-use Rattle.device_core.specs.Order.{Stand, next, IsExplained}
-use Rattle.display_backend.specs.Work.{Work, End}
-use Rattle.backend_core.specs.Device as backend
+use Rattle.device_core.specs.Order.{Own, Did, Spoke, Rested, Heard, Refused, Others}
+use Rattle.device_core.specs.Site.{Site}
+use Rattle.backend_core.specs.Device.{StandsFor}
 use Rattle.pv_world.specs.declared.world.Placed.{Placed}
-use Rattle.pv_world.specs.Marked.{Item, entries, nodes_in, nodes_next}
-use Rattle.pv_world.specs.History.{BelongsIn, IsHistory, held_in, site_of, stand_after}
+use Rattle.backend_core.specs.Marked.{Item, entries, nodes_in, nodes_next, own, own_from, told_in}
+use Rattle.backend_core.specs.History.{BelongsIn, IsDirect, IsHistory, IsPromptIn, IsSettledIn, held_after, held_in, site_of}
+use Rattle.backend_core.specs.Kinds.{IsSettled}
 use Rattle.pv_world.specs.World.{IsPlaced, Sight, Stands, front_access, setups}
 use Rattle.pv_world.proofs.Devices.{all_setups}
-use Rattle.pv_world.proofs.Histories.{IsNextIn, IsTrueNext, all_weaker, finds_same, held_more, history_more, in_range_from, memory_more, nodes_more, own_more, rules, stand_more, written_same}
-use Rattle.pv_world.proofs.Others.{AreOthers, others_explained, others_made, others_stand}
+use Rattle.backend_core.proofs.EachKind.{others_continue, others_held, others_settled, others_stand}
+use Rattle.backend_core.proofs.Histories.{IsDirectAt, IsNextIn, IsTrueNext, all_weaker, all_with, finds_same, history_more, in_range_from, memory_more, nodes_more, own_is, own_more, prompt_more, written_same}
+use Rattle.device_core.proofs.Stations.{AreOthers}
 
 -- what the accesses of a machine leave
 pub record Behaves {W : Type 0} (g : Sight W) (makes : W → Access → W → Type 0) : Type 0 where
@@ -42,39 +48,75 @@ pub record Hands {W : Type 0} (g : Sight W) (who : Who) (old new : W) : Type 0 w
   pub devices : (d dom : ℕ) → g.knows_device old d dom → g.knows_device new d dom
   pub domains : (d : ℕ) → g.knows_domain old d → g.knows_domain new d
 
+-- accesses of others alone, in two parts
+others_parts : (es fs : List Own) → AreOthers (es ++ fs) → AreOthers es × AreOthers fs
+others_parts [] fs h = (tt, h)
+others_parts (Others a ∷ es) fs h = others_parts es fs h
+others_parts (Did a ∷ es) fs h = absurd h
+others_parts (Spoke t ∷ es) fs h = absurd h
+others_parts (Rested ∷ es) fs h = absurd h
+others_parts (Heard news ∷ es) fs h = absurd h
+others_parts (Refused why ∷ es) fs h = absurd h
+
+-- where nothing is due, any item may be next
+pub direct_settled : (dev : DevId) (i : Item) (t : Option Said) (why : Option HostRefusal) → t ≡ None → why ≡ None → IsDirect dev t why i
+direct_settled dev i None None e f = tt
+direct_settled dev i (Some t) why e f = let wrong : ⊥ = cc in absurd wrong
+direct_settled dev i None (Some w) e f = let wrong : ⊥ = cc in absurd wrong
+
 module _ {W : Type 0} (g : Sight W) (frames grants : ℕ → ℕ) where
   -- these items tell a device nothing but accesses of others, and set none of its nodes
   pub record IsSilent (m n : List Item) (s : DeviceSetup) : Type 0 where
     pub owns : AreOthers (own_more frames grants m n s)
     pub sets : after (nodes_next s.dev.0) (nodes_in s.dev.0 m) n ≡ nodes_in s.dev.0 m
 
-  -- where a device stands by what it is itself
-  abbrev IsWhere : List Item → Placed → Type 0
-  IsWhere m p = backend.stand_of (site_of frames grants p.setup) p.device ≡ stand_after frames grants m p.setup
+  abbrev pub site : DeviceSetup → Site
+  site s = site_of frames grants s
 
-  stand_silent : (m n : List Item) (p : Placed) → IsSilent m n p.setup → IsWhere m p → IsWhere (m ++ n) p
-  stand_silent m n p q e =
-      sym (stand_more frames grants m n p.setup ∙ (ap (λ (x : Stand Work End). after (next (rules frames grants p.setup)) x (own_more frames grants m n p.setup)) (sym e) ∙ others_stand (site_of frames grants p.setup) p.device (own_more frames grants m n p.setup) q.owns))
+  pub settled_silent : (m n : List Item) (s : DeviceSetup) → IsSilent m n s → IsSettledIn frames grants m s → IsSettledIn frames grants (m ++ n) s
+  settled_silent m n s q h =
+      subst (λ (es : List Own). IsSettled s.kind (site s) es) (sym (own_is frames grants m n s)) (others_settled s.kind (site s) (own s.dev.0 m) (own_more frames grants m n s) h q.owns)
 
-  held_silent : (m n : List Item) (s : DeviceSetup) → IsSilent m n s → held_in frames grants (m ++ n) s ≡ held_in frames grants m s
+  pub held_silent : (m n : List Item) (s : DeviceSetup) → IsSilent m n s → held_in frames grants (m ++ n) s ≡ held_in frames grants m s
   held_silent m n s q =
-      held_more frames grants m n s ∙ ap (λ (ms : List Made). after (λ h (k : Made). holding frames h k.note k.access) (held_in frames grants m s) ms) (others_made (rules frames grants s) (stand_after frames grants m s) (own_more frames grants m n s) q.owns)
+      ap (λ (es : List Own). held_after frames grants s es) (own_is frames grants m n s) ∙ others_held frames grants s (own s.dev.0 m) (own_more frames grants m n s) q.owns
 
-  pub next_silent : (m n : List Item) (p : Placed) → IsSilent m n p.setup → IsWhere m p → IsNextIn frames grants m n p.setup
-  next_silent m n p q e =
-      subst (λ (x : Stand Work End). IsExplained (rules frames grants p.setup) x (own_more frames grants m n p.setup)) e (others_explained (site_of frames grants p.setup) p.device (own_more frames grants m n p.setup) q.owns)
+  pub next_silent : (m n : List Item) (s : DeviceSetup) → IsSilent m n s → IsSettledIn frames grants m s → IsNextIn frames grants m n s
+  next_silent m n s q h = others_continue s.kind (site s) (own s.dev.0 m) (own_more frames grants m n s) h q.owns
 
-  -- a device that is told nothing else stands where it stood
+  -- where a device is settled, any item may come, and nothing is due behind it that tells the device nothing
+  prompt_silent : (m n : List Item) (s : DeviceSetup) → AreOthers (own_more frames grants m n s) → IsSettledIn frames grants m s → Along (λ before x. before ++ x ∷ []) (λ before i. IsDirectAt frames grants before i s) m n
+  prompt_silent m [] s o h = tt
+  prompt_silent m (i ∷ n) s o h =
+      let nodes = nodes_in s.dev.0 m in
+      let parts = others_parts (told_in s.dev.0 nodes i) (own_from s.dev.0 (nodes_next s.dev.0 nodes i) n) o in
+      let one : own_more frames grants m (i ∷ []) s ≡ told_in s.dev.0 nodes i = append-nil (told_in s.dev.0 nodes i) in
+      let first = subst (λ (es : List Own). IsSettled s.kind (site s) es) (sym (own_is frames grants m (i ∷ []) s)) (others_settled s.kind (site s) (own s.dev.0 m) (own_more frames grants m (i ∷ []) s) h (subst (λ (es : List Own). AreOthers es) (sym one) parts.0)) in (
+        direct_settled s.dev i _ _ h.said h.answered,
+        prompt_silent (m ++ i ∷ []) n s (subst (λ (ns : List NodeValue). AreOthers (own_from s.dev.0 ns n)) (sym (nodes_more frames grants m (i ∷ []) s.dev.0)) parts.1) first,
+      )
+
+  -- the same of one item, and of two
+  pub prompt_one : (m : List Item) (i : Item) (s : DeviceSetup) → IsSettledIn frames grants m s → Along (λ before x. before ++ x ∷ []) (λ before j. IsDirectAt frames grants before j s) m (i ∷ [])
+  prompt_one m i s h = (direct_settled s.dev i _ _ h.said h.answered, tt)
+
+  pub prompt_two : (m : List Item) (i j : Item) (s : DeviceSetup) → IsSettledIn frames grants m s → IsDirectAt frames grants (m ++ i ∷ []) j s → Along (λ before x. before ++ x ∷ []) (λ before k. IsDirectAt frames grants before k s) m (i ∷ j ∷ [])
+  prompt_two m i j s h d = (direct_settled s.dev i _ _ h.said h.answered, (d, tt))
+
+  -- a device that is told nothing else stands for that too
   pub placed_silent : (old new : W) (m n : List Item) (p : Placed) → IsSilent m n p.setup → g.knows_device new p.setup.dev.0 p.setup.dom.0 → IsListed (g.port new) p.setup.dev.0 (held_in frames grants m p.setup) → IsPlaced g frames grants old m p → IsPlaced g frames grants new (m ++ n) p
   placed_silent old new m n p q k l h =
+      let s = p.setup in
       record {
-        stands = stand_silent m n p q h.stands;
-        dom_is = h.dom_is;
-        parts_are = h.parts_are;
-        nodes_are = h.nodes_are ∙ sym (nodes_more frames grants m n p.setup.dev.0 ∙ q.sets);
+        stands = subst (λ (es : List Own). StandsFor s.kind (site s) p.device es) (sym (own_is frames grants m n s)) (others_stand s.kind (site s) p.device (own s.dev.0 m) (own_more frames grants m n s) h.settled q.owns h.stands);
+        settled = settled_silent m n s q h.settled;
+        nodes_are = h.nodes_are ∙ sym (nodes_more frames grants m n s.dev.0 ∙ q.sets);
         known = k;
-        listed = subst (λ (x : Holds). IsListed (g.port new) p.setup.dev.0 x) (sym (held_silent m n p.setup q)) l;
+        listed = subst (λ (x : Holds). IsListed (g.port new) s.dev.0 x) (sym (held_silent m n s q)) l;
       }
+
+  pub prompt_more_silent : (m n : List Item) (s : DeviceSetup) → IsSilent m n s → IsSettledIn frames grants m s → IsPromptIn frames grants m s → IsPromptIn frames grants (m ++ n) s
+  prompt_more_silent m n s q h p = prompt_more frames grants m n s p (prompt_silent m n s q.owns h)
 
   -- the machine changed hands
   pub turned_stands : (who : Who) (old new : W) (devices : List Placed) (m : List Item) → Hands g who old new → Stands g frames grants old devices m → Stands g frames grants new devices m
@@ -88,19 +130,33 @@ module _ {W : Type 0} (g : Sight W) (frames grants : ℕ → ℕ) where
         apart = st.apart;
         placed = all_weaker (IsPlaced g frames grants old m) (IsPlaced g frames grants new m) turned_placed devices st.placed;
         so_far = st.so_far;
+        prompt = st.prompt;
       } where
         turned_placed : (p : Placed) → IsPlaced g frames grants old m p → IsPlaced g frames grants new m p
         turned_placed p h =
             record {
               stands = h.stands;
-              dom_is = h.dom_is;
-              parts_are = h.parts_are;
+              settled = h.settled;
               nodes_are = h.nodes_are;
               known = t.devices p.setup.dev.0 p.setup.dom.0 h.known;
               listed = listed_turned (g.port old) (g.port new) (g.knows_device old) who p.setup.dev.0 (held_in frames grants m p.setup) t.turned h.listed;
             }
 
+  -- all devices are settled
+  all_settled : (memory : W) (devices : List Placed) (m : List Item) → AllByRecursion (IsPlaced g frames grants memory m) devices → AllByRecursion (IsSettledIn frames grants m) (setups devices)
+  all_settled memory devices m h = all_setups (IsPlaced g frames grants memory m) (IsSettledIn frames grants m) devices (λ p x. x.settled) h
+
+  prompt_all : (memory : W) (devices : List Placed) (m n : List Item) → ((s : DeviceSetup) → IsSilent m n s) → Stands g frames grants memory devices m → AllByRecursion (IsPromptIn frames grants (m ++ n)) (setups devices)
+  prompt_all memory devices m n q st =
+      all_with (IsSettledIn frames grants m) (IsPromptIn frames grants m) (IsPromptIn frames grants (m ++ n)) (λ s h p. prompt_more_silent m n s (q s) h p) (setups devices) (all_settled memory devices m st.placed) st.prompt
+
+  next_all : (memory : W) (devices : List Placed) (m n : List Item) → ((s : DeviceSetup) → IsSilent m n s) → Stands g frames grants memory devices m → AllByRecursion (IsNextIn frames grants m n) (setups devices)
+  next_all memory devices m n q st = all_weaker (IsSettledIn frames grants m) (IsNextIn frames grants m n) (λ s h. next_silent m n s (q s) h) (setups devices) (all_settled memory devices m st.placed)
+
   -- items that tell no device anything but accesses of others, and change no word, were entered
+  pub silent_history : (memory : W) (devices : List Placed) (m n : List Item) → ((s : DeviceSetup) → IsSilent m n s) → Along remembered (IsTrueNext frames grants) (memory_after (entries m)) (entries n) → AllByRecursion (BelongsIn (setups devices)) n → Stands g frames grants memory devices m → IsHistory frames grants (setups devices) (m ++ n)
+  silent_history memory devices m n q t b st = history_more frames grants (setups devices) m n st.so_far t b (next_all memory devices m n q st)
+
   pub silent_stands : (memory : W) (devices : List Placed) (m n : List Item) → ((s : DeviceSetup) → IsSilent m n s) → ((q : Place) → after remembered (memory_after (entries m)) (entries n) q ≡ memory_after (entries m) q) → Along remembered (IsTrueNext frames grants) (memory_after (entries m)) (entries n) → AllByRecursion (BelongsIn (setups devices)) n → Stands g frames grants memory devices m → Stands g frames grants memory devices (m ++ n)
   silent_stands memory devices m n q same t b st =
       record {
@@ -111,7 +167,8 @@ module _ {W : Type 0} (g : Sight W) (frames grants : ℕ → ℕ) where
         domains = st.domains;
         apart = st.apart;
         placed = all_weaker (IsPlaced g frames grants memory m) (IsPlaced g frames grants memory (m ++ n)) (λ p h. placed_silent memory memory m n p (q p.setup) h.known h.listed h) devices st.placed;
-        so_far = history_more frames grants (setups devices) m n st.so_far t b (all_setups (IsPlaced g frames grants memory m) (IsNextIn frames grants m n) devices (λ p h. next_silent m n p (q p.setup) h.stands) st.placed);
+        so_far = silent_history memory devices m n q t b st;
+        prompt = prompt_all memory devices m n q st;
       }
 
   -- an access of a domain is another's to each device
@@ -119,8 +176,7 @@ module _ {W : Type 0} (g : Sight W) (frames grants : ℕ → ℕ) where
   front_silent m a s = record { owns = tt; sets = refl }
 
   pub front_history : (memory : W) (devices : List Placed) (m : List Item) (a : Access) → IsTrueOf frames grants (memory_after (entries m)) (Some a) → Stands g frames grants memory devices m → IsHistory frames grants (setups devices) (m ++ front_access a ∷ [])
-  front_history memory devices m a is_true st =
-      history_more frames grants (setups devices) m (front_access a ∷ []) st.so_far (is_true, tt) (tt, tt) (all_setups (IsPlaced g frames grants memory m) (IsNextIn frames grants m (front_access a ∷ [])) devices (λ p h. next_silent m (front_access a ∷ []) p (front_silent m a p.setup) h.stands) st.placed)
+  front_history memory devices m a is_true st = silent_history memory devices m (front_access a ∷ []) (front_silent m a) (is_true, tt) (tt, tt) st
 
   module _ (makes : W → Access → W → Type 0) (b : Behaves g makes) where
     -- an access in range finds what the journal left
@@ -144,6 +200,7 @@ module _ {W : Type 0} (g : Sight W) (frames grants : ℕ → ℕ) where
           apart = st.apart;
           placed = all_weaker (IsPlaced g frames grants old m) (IsPlaced g frames grants new (m ++ front_access a ∷ [])) front_placed devices st.placed;
           so_far = front_history old devices m a (access_true old new devices m a range made st) st;
+          prompt = prompt_all old devices m (front_access a ∷ []) (front_silent m a) st;
         } where
           front_placed : (p : Placed) → IsPlaced g frames grants old m p → IsPlaced g frames grants new (m ++ front_access a ∷ []) p
           front_placed p h =

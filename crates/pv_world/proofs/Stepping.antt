@@ -4,34 +4,37 @@ use Rattle.std.proofs.lemmas.Bool.Decides.{nat_tests}
 use Rattle.std.specs.List.{AllByRecursion, slice_get}
 use Rattle.pv_words.specs.declared.access.Access.{Access}
 use Rattle.pv_words.specs.declared.access.Access.TheVariants as access
+use Rattle.pv_words.specs.declared.device.HostRefusal.{HostRefusal}
 use Rattle.pv_words.specs.declared.device.Said.{Said}
 use Rattle.pv_words.specs.declared.device.Said.TheVariants as said
+use Rattle.pv_words.specs.declared.entry.Entry.TheVariants as entry
 use Rattle.pv_words.specs.declared.place.DevId.{DevId}
 use Rattle.pv_words.specs.declared.place.Half.TheVariants.{Flags, FrameNo}
 use Rattle.pv_words.specs.declared.place.Place.{Place}
 use Rattle.pv_words.specs.declared.place.Place.TheVariants.{Cell, Grant}
 use Rattle.pv_words.specs.declared.setup.DeviceSetup.{DeviceSetup}
 use Rattle.pv_words.specs.Along.{after, Along}
-use Rattle.pv_words.specs.Held.{Begun, Holds, Made, IsProper, framed, holding, holds_of}
+use Rattle.pv_words.specs.Held.{Begun, Holds, framed, holding}
 use Rattle.pv_words.specs.Memory.{Memory, IsTrueOf, access_of, changed_by, memory_after, remembered, written}
 use Rattle.pv_words.specs.Place.{InRange}
-use Rattle.pv_words.specs.Plan.{Makes, Note, Want, aim_of, wanted}
+use Rattle.pv_words.specs.Plan.{Makes, Note, Want, aim_of}
 use Rattle.pv_words.specs.Port.{PortMay, IsListed}
 use Rattle.pv_words.proofs.Listing.{listed_other, listed_own, port_may}
-use Rattle.device_core.specs.Order.{Own, Did, Stand, Steps, MayStep, steps_of, next, May, IsExplained, made_by, note_at}
-use Rattle.device_core.proofs.MachineRun.{IsGood, good_after, proper_next, may_step}
+use Rattle.device_core.specs.Order.{Own, Did, steps_of}
 use Rattle.device_core.specs.Site.{Site}
 use Rattle.backend_core.specs.Device as backend
-use Rattle.display_backend.specs.Work.{Work, End, display, reading}
-use Rattle.display_backend.proofs.Sound.{sound, first_good}
+use Rattle.backend_core.specs.Device.{AddsAt, GoesOn, MayMakeNext, StandsFor}
+use Rattle.backend_core.specs.History.{Belongs, BelongsIn, IsDirect, IsExplainedIn, IsSettledIn, held_after, held_in, is_declared, site_of}
+use Rattle.backend_core.specs.Kinds.{Continues, due_after, owed_after, parts_of}
+use Rattle.backend_core.specs.Marked.{Item, Entered, Idle, entries, entry_of, items_of, nodes_in, own}
+use Rattle.backend_core.proofs.EachKind.{did_owes, dom_of_one, next_may, parts_of_one, quiet_holds, step_holds, told_due}
+use Rattle.backend_core.proofs.Histories.{IsDirectAt, IsTrueNext, aimed, in_range_from, memory_more, nodes_more, own_is}
+use Rattle.backend_core.proofs.Items.{nodes_step, own_other, own_step}
 use Rattle.pv_world.specs.declared.world.Placed.{Placed}
-use Rattle.pv_world.specs.Marked.{Item, entries, entry_of, items_of, nodes_in}
-use Rattle.pv_world.specs.History.{AreApart, Belongs, BelongsIn, IsExplainedIn, IsHistory, first_stand, held_in, is_declared, parts_of, site_of, stand_after}
 use Rattle.pv_world.specs.World.{IsPlaced, Sight, Stands, setups}
-use Rattle.pv_world.proofs.Devices.{all_setups, all_step, at_index, declared_at, setups_set}
-use Rattle.pv_world.proofs.Histories.{IsNextIn, IsTrueNext, aimed, held_more, history_more, in_range_from, memory_more, nodes_more, rules, stand_more}
-use Rattle.pv_world.proofs.Items.{nodes_step, own_other, own_step}
-use Rattle.pv_world.proofs.Standings.{Behaves, IsSilent, access_true, next_silent, placed_silent, words_after}
+use Rattle.pv_world.proofs.Devices.{at_index, declared_at}
+use Rattle.pv_world.proofs.Goings.{Tells, goes_stands}
+use Rattle.pv_world.proofs.Standings.{Behaves, IsSilent, access_true, prompt_one, prompt_two, words_after}
 
 -- what a device holds depends on the sizes alone
 framed_same : (f k : ℕ → ℕ) → ((d : ℕ) → f d ≡ k d) → (h : Holds) (dom gref frame : ℕ) (b : Option Begun) → framed f h dom gref frame b ≡ framed k h dom gref frame b
@@ -104,44 +107,35 @@ step_leaves m dev None (Some s) q = said_leaves m dev s q
 step_leaves m dev (Some a) None q = refl
 step_leaves m dev (Some a) (Some s) q = said_leaves (written m a) dev s q
 
--- the first thing of a step with an access
-first_may : (site : Site) (a : Access) (s : Option Said) (x : Stand Work End) → IsExplained (display site) x (steps_of (Some a) s) → May (display site) x (Did a)
-first_may site a None x h = h.0
-first_may site a (Some t) x h = h.0
+-- what is said is what was due, if anything was
+pub direct_said : (dev : DevId) (s : Said) (t : Option Said) (why : Option HostRefusal) → ((u : Said) → t ≡ Some u → s ≡ u) → why ≡ None → IsDirect dev t why (Entered (entry_of dev s))
+direct_said dev s (Some u) why e n = ap (λ x. Entered (entry_of dev x)) (e u refl)
+direct_said dev s None None e n = tt
+direct_said dev s None (Some w) e n = let wrong : ⊥ = cc in absurd wrong
 
 same_site : (dom dom' parts parts' frames frames' grants grants' : ℕ) → dom ≡ dom' → parts ≡ parts' → frames ≡ frames' → grants ≡ grants' → ◌≡◌ {A = Site} (record { dom = dom; parts = parts; frames = frames; grants = grants }) (record { dom = dom'; parts = parts'; frames = frames'; grants = grants' })
 same_site dom dom' parts parts' frames frames' grants grants' a b c d = cc
 
+-- all devices, as placed
+pub all_back : (P : DeviceSetup → Type 0) (ps : List Placed) → AllByRecursion P (setups ps) → AllByRecursion (λ q. P q.setup) ps
+all_back P [] k = tt
+all_back P (q ∷ qs) k = (k.0, all_back P qs k.1)
+
 module _ {W : Type 0} (g : Sight W) (frames grants : ℕ → ℕ) where
-  -- where a device stands, what it knows is true and tells what it holds
-  abbrev IsGoodAt : DeviceSetup → Stand Work End → Holds → Type 0
-  IsGoodAt s stand h =
-      IsGood (display (site_of frames grants s)) (reading (site_of frames grants s)) (IsProper frames grants s.dom.0) (holding frames) (sound frames grants s.dom.0 (parts_of s.kind)) stand h
-
-  pub good_in : (m : List Item) (s : DeviceSetup) → IsExplainedIn frames grants m s → IsGoodAt s (stand_after frames grants m s) (held_in frames grants m s)
-  good_in m s h =
-      good_after (display (site_of frames grants s)) (reading (site_of frames grants s)) (IsProper frames grants s.dom.0) (holding frames) (sound frames grants s.dom.0 (parts_of s.kind)) first_stand _ (holds_of []) (first_good frames grants s.dom.0 (parts_of s.kind)) h
-
   pub site_is : (memory : W) (m : List Item) (p : Placed) → ((d : ℕ) → g.frames memory d ≡ frames d) → ((d : ℕ) → g.grants memory d ≡ grants d) → IsPlaced g frames grants memory m p → backend.site_of (g.frames memory) (g.grants memory) p.device ≡ site_of frames grants p.setup
   site_is memory m p e f h =
-      same_site (backend.dom_of p.device) p.setup.dom.0 (backend.parts_of p.device) (parts_of p.setup.kind) (g.frames memory (backend.dom_of p.device)) (frames p.setup.dom.0) (g.grants memory (backend.dom_of p.device)) (grants p.setup.dom.0) h.dom_is h.parts_are (ap (g.frames memory) h.dom_is ∙ e p.setup.dom.0) (ap (g.grants memory) h.dom_is ∙ f p.setup.dom.0)
-
-  good_placed : (memory : W) (m : List Item) (p : Placed) → IsExplainedIn frames grants m p.setup → IsPlaced g frames grants memory m p → IsGoodAt p.setup (backend.stand_of (site_of frames grants p.setup) p.device) (held_in frames grants m p.setup)
-  good_placed memory m p x h = subst (λ (s : Stand Work End). IsGoodAt p.setup s (held_in frames grants m p.setup)) (sym h.stands) (good_in m p.setup x)
+      let dom = dom_of_one p.setup.kind (site_of frames grants p.setup) p.device (own p.setup.dev.0 m) h.stands in
+      let parts = parts_of_one p.setup.kind (site_of frames grants p.setup) p.device (own p.setup.dev.0 m) h.stands in
+      same_site (backend.dom_of p.device) p.setup.dom.0 (backend.parts_of p.device) (parts_of p.setup.kind) (g.frames memory (backend.dom_of p.device)) (frames p.setup.dom.0) (g.grants memory (backend.dom_of p.device)) (grants p.setup.dom.0) dom parts (ap (g.frames memory) dom ∙ e p.setup.dom.0) (ap (g.grants memory) dom ∙ f p.setup.dom.0)
 
   -- the next step may be made, once the port is the device's
-  pub may_next : (may : W → Want → Type 0) → ((w : W) (want : Want) → PortMay (g.frames w) (g.grants w) (g.port w) want → may w want) → (memory : W) (devices : List Placed) (i : ℕ) (p : Placed) (m : List Item) → slice_get devices i ≡ Some p → (g.port memory).device ≡ Some p.setup.dev.0 → (g.port memory).serves p.setup.dom.0 ≡ true → Stands g frames grants memory devices m → MayStep (may memory) (display (backend.site_of (g.frames memory) (g.grants memory) p.device)) (backend.stand_of (backend.site_of (g.frames memory) (g.grants memory) p.device) p.device)
-  may_next may allows memory devices i p m at his serves st =
+  pub may_step : (may : W → Want → Type 0) → ((w : W) (want : Want) → PortMay (g.frames w) (g.grants w) (g.port w) want → may w want) → (memory : W) (devices : List Placed) (i : ℕ) (p : Placed) (m : List Item) → slice_get devices i ≡ Some p → (g.port memory).device ≡ Some p.setup.dev.0 → (g.port memory).serves p.setup.dom.0 ≡ true → Stands g frames grants memory devices m → MayMakeNext (may memory) (backend.site_of (g.frames memory) (g.grants memory) p.device) p.device
+  may_step may allows memory devices i p m at his serves st =
       let h = at_index (IsPlaced g frames grants memory m) devices i p at st.placed in
-      let x = at_index (λ q. IsExplainedIn frames grants m q.setup) devices i p at (all_back devices st.so_far.explained) in
-      subst (λ (site : Site). MayStep (may memory) (display site) (backend.stand_of site p.device)) (sym (site_is memory m p st.frames_are st.grants_are h))
-      (may_step (display (site_of frames grants p.setup)) (reading (site_of frames grants p.setup)) (IsProper frames grants p.setup.dom.0) (holding frames) (sound frames grants p.setup.dom.0 (parts_of p.setup.kind)) (may memory) (held_in frames grants m p.setup)
-      (λ want note proper. allows memory want (sized want (port_may frames grants (g.port memory) p.setup.dev.0 p.setup.dom.0 (held_in frames grants m p.setup) want note h.listed his serves proper)))
-      (backend.stand_of (site_of frames grants p.setup) p.device) (good_placed memory m p x h)) where
-        all_back : (ps : List Placed) → AllByRecursion (IsExplainedIn frames grants m) (setups ps) → AllByRecursion (λ q. IsExplainedIn frames grants m q.setup) ps
-        all_back [] k = tt
-        all_back (q ∷ qs) k = (k.0, all_back qs k.1)
-
+      let x = at_index (λ q. IsExplainedIn frames grants m q.setup) devices i p at (all_back (IsExplainedIn frames grants m) devices st.so_far.explained) in
+      subst (λ (site : Site). MayMakeNext (may memory) site p.device) (sym (site_is memory m p st.frames_are st.grants_are h))
+      (next_may frames grants p.setup.dom.0 (may memory) p.setup.kind p.device (own p.setup.dev.0 m)
+      (λ want note proper. allows memory want (sized want (port_may frames grants (g.port memory) p.setup.dev.0 p.setup.dom.0 (held_in frames grants m p.setup) want note h.listed his serves proper))) h.stands x) where
         sized : (want : Want) → PortMay frames grants (g.port memory) want → PortMay (g.frames memory) (g.grants memory) (g.port memory) want
         sized want k = (in_range_from frames (g.frames memory) grants (g.grants memory) (λ d. sym (st.frames_are d)) (λ d. sym (st.grants_are d)) (aim_of want) k.0, k.1)
 
@@ -149,22 +143,24 @@ module _ {W : Type 0} (g : Sight W) (frames grants : ℕ → ℕ) where
   other_silent : (m : List Item) (dev : DevId) (a : Option Access) (s : Option Said) (d : DeviceSetup) → (dev.0 == d.dev.0) ≡ false → IsSilent g frames grants m (items_of dev a s) d
   other_silent m dev a s d e = record { owns = own_other d.dev.0 dev (nodes_in d.dev.0 m) a s e; sets = nodes_step d.dev.0 dev (nodes_in d.dev.0 m) a s }
 
-  -- what a device holds after a step
-  abbrev held_by : DeviceSetup → Stand Work End → Holds → Option Access → Holds
-  held_by s stand h None = h
-  held_by s stand h (Some a) = holding frames h (note_at (rules frames grants s) stand (Did a)) a
+  -- what is said on an access directly follows it
+  said_directly : (m : List Item) (s : DeviceSetup) (a : Access) (t : Said) → IsSettledIn frames grants m s → Continues s.kind (site_of frames grants s) (own s.dev.0 m) (steps_of (Some a) (Some t)) → IsDirectAt frames grants (m ++ Entered (entry.Back s.dev a) ∷ []) (Entered (entry_of s.dev t)) s
+  said_directly m s a t h c =
+      let site = site_of frames grants s in
+      let now : own s.dev.0 (m ++ Entered (entry.Back s.dev a) ∷ []) ≡ own s.dev.0 m ++ Did a ∷ [] = own_is frames grants m (Entered (entry.Back s.dev a) ∷ []) s ∙ ap (λ (es : List Own). own s.dev.0 m ++ es) (own_step s.dev (nodes_in s.dev.0 m) (Some a) None) in
+      direct_said s.dev t (due_after s.kind site (own s.dev.0 (m ++ Entered (entry.Back s.dev a) ∷ []))) (owed_after s.kind site (own s.dev.0 (m ++ Entered (entry.Back s.dev a) ∷ [])))
+      (λ u e. told_due s.kind site (own s.dev.0 m) a t u h c (ap (due_after s.kind site) (sym now) ∙ e))
+      (ap (owed_after s.kind site) now ∙ did_owes s.kind site (own s.dev.0 m) a h)
 
-  made_steps : (s : DeviceSetup) (stand : Stand Work End) (h : Holds) (a : Option Access) (t : Option Said) → after (λ k (x : Made). holding frames k x.note x.access) h (made_by (rules frames grants s) stand (steps_of a t)) ≡ held_by s stand h a
-  made_steps s stand h None None = refl
-  made_steps s stand h None (Some t) = refl
-  made_steps s stand h (Some a) None = refl
-  made_steps s stand h (Some a) (Some t) = refl
+  step_prompt : (m : List Item) (s : DeviceSetup) (a : Option Access) (t : Option Said) → IsSettledIn frames grants m s → Continues s.kind (site_of frames grants s) (own s.dev.0 m) (steps_of a t) → Along (λ before x. before ++ x ∷ []) (λ before i. IsDirectAt frames grants before i s) m (items_of s.dev a t)
+  step_prompt m s None None h c = prompt_one g frames grants m (Idle s.dev.0) s h
+  step_prompt m s None (Some t) h c = prompt_one g frames grants m (Entered (entry_of s.dev t)) s h
+  step_prompt m s (Some a) None h c = prompt_one g frames grants m (Entered (entry.Back s.dev a)) s h
+  step_prompt m s (Some a) (Some t) h c = prompt_two g frames grants m (Entered (entry.Back s.dev a)) (Entered (entry_of s.dev t)) s h (said_directly m s a t h c)
 
-  pub held_step : (m : List Item) (s : DeviceSetup) (a : Option Access) (t : Option Said) → held_in frames grants (m ++ items_of s.dev a t) s ≡ held_by s (stand_after frames grants m s) (held_in frames grants m s) a
-  held_step m s a t =
-      held_more frames grants m (items_of s.dev a t) s
-      ∙ (ap (λ (es : List Own). after (λ k (x : Made). holding frames k x.note x.access) (held_in frames grants m s) (made_by (rules frames grants s) (stand_after frames grants m s) es)) (own_step s.dev (nodes_in s.dev.0 m) a t)
-      ∙ made_steps s (stand_after frames grants m s) (held_in frames grants m s) a t)
+  step_tells : (m : List Item) (s : DeviceSetup) (a : Option Access) (t : Option Said) → IsSettledIn frames grants m s → Continues s.kind (site_of frames grants s) (own s.dev.0 m) (steps_of a t) → Tells g frames grants m (items_of s.dev a t) s (steps_of a t)
+  step_tells m s a t h c =
+      record { owns = own_step s.dev (nodes_in s.dev.0 m) a t; prompt = step_prompt m s a t h c; others = λ o e. other_silent m s.dev a t o e }
 
   -- what the memory knows and lists of devices
   module _ (makes : W → Access → W → Type 0) (b : Behaves g makes) where
@@ -177,24 +173,22 @@ module _ {W : Type 0} (g : Sight W) (frames grants : ℕ → ℕ) where
     listed_others old new (Some a) d e h made his n l =
         listed_other (g.frames old) (g.grants old) (g.port old) (g.port new) a (b.leaves old a new made) d e h his (λ same. let is : (e == d) ≡ true = grind (arith, nat_tests) in let wrong : ⊥ = cc in wrong) l
 
-    -- the access of a step is proper
-    proper_step : (m : List Item) (p : Placed) (a : Access) (t : Option Said) (new : Stand Work End) → IsGoodAt p.setup (backend.stand_of (site_of frames grants p.setup) p.device) (held_in frames grants m p.setup) → Steps (display (site_of frames grants p.setup)) (backend.stand_of (site_of frames grants p.setup) p.device) (Some a) t new → IsProper frames grants p.setup.dom.0 (held_in frames grants m p.setup) (wanted a) (note_at (rules frames grants p.setup) (backend.stand_of (site_of frames grants p.setup) p.device) (Did a))
-    proper_step m p a t new good steps =
-        proper_next (display (site_of frames grants p.setup)) (reading (site_of frames grants p.setup)) (IsProper frames grants p.setup.dom.0) (holding frames) (sound frames grants p.setup.dom.0 (parts_of p.setup.kind)) (backend.stand_of (site_of frames grants p.setup) p.device) a (held_in frames grants m p.setup) good (first_may (site_of frames grants p.setup) a t (backend.stand_of (site_of frames grants p.setup) p.device) steps.explained)
+    -- the device's own access is listed
+    listed_step : (old new : W) (m : List Item) (p : Placed) (a : Option Access) (t : Option Said) → Makes makes old a new → (g.port old).device ≡ Some p.setup.dev.0 → ((d : ℕ) → g.frames old d ≡ frames d) → IsExplainedIn frames grants m p.setup → Continues p.setup.kind (site_of frames grants p.setup) (own p.setup.dev.0 m) (steps_of a t) → IsPlaced g frames grants old m p → IsListed (g.port new) p.setup.dev.0 (held_after frames grants p.setup (own p.setup.dev.0 m ++ steps_of a t))
+    listed_step old new m p None t made his e x c h =
+        subst (λ (k : Holds). IsListed (g.port new) p.setup.dev.0 k) (sym (quiet_holds frames grants p.setup.dom.0 p.setup.kind (own p.setup.dev.0 m) t))
+        (subst (λ (w : W). IsListed (g.port w) p.setup.dev.0 (held_in frames grants m p.setup)) (sym made) h.listed)
+    listed_step old new m p (Some a) t made his e x c h =
+        let y = step_holds frames grants p.setup.dom.0 p.setup.kind (own p.setup.dev.0 m) a t x c in
+        subst (λ (k : Holds). IsListed (g.port new) p.setup.dev.0 k) (sym y.2)
+        (subst (λ (k : Holds). IsListed (g.port new) p.setup.dev.0 k) (holding_same (g.frames old) frames e (held_in frames grants m p.setup) y.0 a)
+        (listed_own (g.frames old) (g.grants old) (g.port old) (g.port new) a (b.leaves old a new made) p.setup.dev.0 (held_in frames grants m p.setup) y.0 his h.listed y.1.1.1))
 
-    listed_step : (old new : W) (m : List Item) (p : Placed) (a : Option Access) (t : Option Said) (stand : Stand Work End) → Makes makes old a new → (g.port old).device ≡ Some p.setup.dev.0 → ((d : ℕ) → g.frames old d ≡ frames d) → IsGoodAt p.setup (backend.stand_of (site_of frames grants p.setup) p.device) (held_in frames grants m p.setup) → Steps (display (site_of frames grants p.setup)) (backend.stand_of (site_of frames grants p.setup) p.device) a t stand → IsPlaced g frames grants old m p → IsListed (g.port new) p.setup.dev.0 (held_by p.setup (stand_after frames grants m p.setup) (held_in frames grants m p.setup) a)
-    listed_step old new m p None t stand made his e good steps h = subst (λ (w : W). IsListed (g.port w) p.setup.dev.0 (held_in frames grants m p.setup)) (sym made) h.listed
-    listed_step old new m p (Some a) t stand made his e good steps h =
-        let proper = proper_step m p a t stand good steps in
-        subst (λ (s : Stand Work End). IsListed (g.port new) p.setup.dev.0 (holding frames (held_in frames grants m p.setup) (note_at (rules frames grants p.setup) s (Did a)) a)) h.stands
-        (subst (λ (k : Holds). IsListed (g.port new) p.setup.dev.0 k) (holding_same (g.frames old) frames e (held_in frames grants m p.setup) (note_at (rules frames grants p.setup) (backend.stand_of (site_of frames grants p.setup) p.device) (Did a)) a)
-        (listed_own (g.frames old) (g.grants old) (g.port old) (g.port new) a (b.leaves old a new made) p.setup.dev.0 (held_in frames grants m p.setup) (note_at (rules frames grants p.setup) (backend.stand_of (site_of frames grants p.setup) p.device) (Did a)) his h.listed proper.1.1))
-
-    true_step : (old new : W) (devices : List Placed) (m : List Item) (p : Placed) (a : Option Access) (t : Option Said) (stand : Stand Work End) → Makes makes old a new → IsGoodAt p.setup (backend.stand_of (site_of frames grants p.setup) p.device) (held_in frames grants m p.setup) → Steps (display (site_of frames grants p.setup)) (backend.stand_of (site_of frames grants p.setup) p.device) a t stand → Stands g frames grants old devices m → IsTrueOf frames grants (memory_after (entries m)) a
-    true_step old new devices m p None t stand made good steps st = tt
-    true_step old new devices m p (Some a) t stand made good steps st =
-        let proper = proper_step m p a t stand good steps in
-        access_true g frames grants makes b old new devices m a (subst (λ (q : Place). InRange frames grants q) (sym (aimed a)) proper.0) made st
+    true_step : (old new : W) (devices : List Placed) (m : List Item) (p : Placed) (a : Option Access) (t : Option Said) → Makes makes old a new → IsExplainedIn frames grants m p.setup → Continues p.setup.kind (site_of frames grants p.setup) (own p.setup.dev.0 m) (steps_of a t) → Stands g frames grants old devices m → IsTrueOf frames grants (memory_after (entries m)) a
+    true_step old new devices m p None t made x c st = tt
+    true_step old new devices m p (Some a) t made x c st =
+        let y = step_holds frames grants p.setup.dom.0 p.setup.kind (own p.setup.dev.0 m) a t x c in
+        access_true g frames grants makes b old new devices m a (subst (λ (q : Place). InRange frames grants q) (sym (aimed a)) y.1.0) made st
 
     frames_step : (old new : W) (a : Option Access) → Makes makes old a new → (d : ℕ) → g.frames new d ≡ g.frames old d
     frames_step old new None h d = ap (λ (w : W). g.frames w d) h
@@ -217,53 +211,27 @@ module _ {W : Type 0} (g : Sight W) (frames grants : ℕ → ℕ) where
     words_step old new m (Some a) h e f w q r = words_after g frames grants makes b old new m a h e f w q r
 
     -- a whole step: what the world stands for then
-    pub step_stands : (old new : W) (devices : List Placed) (i : ℕ) (p r : Placed) (m : List Item) (a : Option Access) (t : Option Said) → slice_get devices i ≡ Some p → Makes makes old a new → (g.port old).device ≡ Some p.setup.dev.0 → Steps (display (site_of frames grants p.setup)) (backend.stand_of (site_of frames grants p.setup) p.device) a t (backend.stand_of (site_of frames grants p.setup) r.device) → r.setup ≡ p.setup → backend.dom_of r.device ≡ backend.dom_of p.device → backend.parts_of r.device ≡ backend.parts_of p.device → r.nodes ≡ p.nodes → Stands g frames grants old devices m → Stands g frames grants new (set devices i r) (m ++ items_of p.setup.dev a t)
-    step_stands old new devices i p r m a t at made his steps same dom parts nodes st =
-        let items : List Item = items_of p.setup.dev a t in
+    pub step_stands : (old new : W) (devices : List Placed) (i : ℕ) (p r : Placed) (m : List Item) (a : Option Access) (t : Option Said) → slice_get devices i ≡ Some p → Makes makes old a new → (g.port old).device ≡ Some p.setup.dev.0 → AddsAt (backend.site_of (g.frames old) (g.grants old) p.device) p.device (steps_of a t) r.device → r.setup ≡ p.setup → r.nodes ≡ p.nodes → Stands g frames grants old devices m → Stands g frames grants new (set devices i r) (m ++ items_of p.setup.dev a t)
+    step_stands old new devices i p r m a t at made his adds same nodes st =
+        let items = items_of p.setup.dev a t in
+        let s = p.setup in
         let placed = at_index (IsPlaced g frames grants old m) devices i p at st.placed in
-        let explained = at_index (λ q. IsExplainedIn frames grants m q.setup) devices i p at (all_back devices st.so_far.explained) in
-        let good = good_placed old m p explained placed in
-        let declared = setups_set devices i p r at same in
-        record {
-          frames_are = λ d. frames_step old new a made d ∙ st.frames_are d;
-          grants_are = λ d. grants_step old new a made d ∙ st.grants_are d;
-          words_are = λ q range. words_step old new (memory_after (entries m)) a made st.frames_are st.grants_are st.words_are q range ∙ sym (memory_more m items q ∙ step_leaves (memory_after (entries m)) p.setup.dev a t q);
+        let explained = at_index (λ q. IsExplainedIn frames grants m q.setup) devices i p at (all_back (IsExplainedIn frames grants m) devices st.so_far.explained) in
+        let is = site_is old m p st.frames_are st.grants_are placed in
+        let here = subst (λ (site : Site). AddsAt site p.device (steps_of a t) r.device) is adds in
+        let goes = here s.kind (own s.dev.0 m) placed.stands placed.settled in
+        let now : own s.dev.0 (m ++ items) ≡ own s.dev.0 m ++ steps_of a t = own_is frames grants m items s ∙ ap (λ (es : List Own). own s.dev.0 m ++ es) (own_step s.dev (nodes_in s.dev.0 m) a t) in
+        goes_stands g frames grants old new devices i p r m items (steps_of a t) at (step_tells m s a t placed.settled goes.comes) same goes
+        (nodes ∙ (placed.nodes_are ∙ sym (nodes_more frames grants m items s.dev.0 ∙ nodes_step s.dev.0 s.dev (nodes_in s.dev.0 m) a t)))
+        (record {
+          frames_are = frames_step old new a made;
+          grants_are = grants_step old new a made;
+          words_are = λ q range. words_step old new (memory_after (entries m)) a made st.frames_are st.grants_are st.words_are q range ∙ sym (memory_more m items q ∙ step_leaves (memory_after (entries m)) s.dev a t q);
           whole = whole_step old new a made st.whole;
-          domains = λ d h. domains_step old new a d made (st.domains d h);
-          apart = subst (λ (x : List DeviceSetup). AreApart x) (sym declared) st.apart;
-          placed = all_step (IsPlaced g frames grants old m) (IsPlaced g frames grants new (m ++ items)) devices i p r st.apart at (other_placed items) (own_placed good) st.placed;
-          so_far = subst (λ (x : List DeviceSetup). IsHistory frames grants x (m ++ items)) (sym declared)
-              (history_more frames grants (setups devices) m items st.so_far (step_true frames grants (memory_after (entries m)) p.setup.dev a t (true_step old new devices m p a t (backend.stand_of (site_of frames grants p.setup) r.device) made good steps st))
-              (step_belongs (setups devices) p.setup.dev a t (declared_at devices i p at))
-              (subst (λ (x : List DeviceSetup). AllByRecursion (IsNextIn frames grants m items) x) declared
-              (all_setups (λ q. IsNextIn frames grants m items q.setup) (IsNextIn frames grants m items) (set devices i r) (λ q h. h)
-              (all_step (IsPlaced g frames grants old m) (λ q. IsNextIn frames grants m items q.setup) devices i p r st.apart at (λ q e h. next_silent g frames grants m items q (other_silent m p.setup.dev a t q.setup e) h.stands) (λ h. subst (λ (s : DeviceSetup). IsNextIn frames grants m items s) (sym same) (own_next placed)) st.placed))));
-        } where
-          all_back : (ps : List Placed) → AllByRecursion (IsExplainedIn frames grants m) (setups ps) → AllByRecursion (λ q. IsExplainedIn frames grants m q.setup) ps
-          all_back [] k = tt
-          all_back (q ∷ qs) k = (k.0, all_back qs k.1)
-
-          other_placed : (items : List Item) (q : Placed) → (p.setup.dev.0 == q.setup.dev.0) ≡ false → IsPlaced g frames grants old m q → IsPlaced g frames grants new (m ++ items_of p.setup.dev a t) q
-          other_placed items q e h =
-              placed_silent g frames grants old new m (items_of p.setup.dev a t) q (other_silent m p.setup.dev a t q.setup e) (known_after old new a q.setup.dev.0 q.setup.dom.0 made h.known) (listed_others old new a q.setup.dev.0 p.setup.dev.0 (held_in frames grants m q.setup) made his e h.listed) h
-
-          own_next : IsPlaced g frames grants old m p → IsNextIn frames grants m (items_of p.setup.dev a t) p.setup
-          own_next h =
-              subst (λ (es : List Own). IsExplained (rules frames grants p.setup) (stand_after frames grants m p.setup) es) (sym (own_step p.setup.dev (nodes_in p.setup.dev.0 m) a t))
-              (subst (λ (s : Stand Work End). IsExplained (rules frames grants p.setup) s (steps_of a t)) h.stands steps.explained)
-
-          moved : IsGoodAt p.setup (backend.stand_of (site_of frames grants p.setup) p.device) (held_in frames grants m p.setup) → IsPlaced g frames grants old m p → IsPlaced g frames grants new (m ++ items_of p.setup.dev a t) (record { setup = p.setup; device = r.device; nodes = r.nodes })
-          moved good h =
-              record {
-                stands = steps.left ∙ (ap (λ (s : Stand Work End). after (next (rules frames grants p.setup)) s (steps_of a t)) h.stands ∙ (ap (λ (es : List Own). after (next (rules frames grants p.setup)) (stand_after frames grants m p.setup) es) (sym (own_step p.setup.dev (nodes_in p.setup.dev.0 m) a t)) ∙ sym (stand_more frames grants m (items_of p.setup.dev a t) p.setup)));
-                dom_is = dom ∙ h.dom_is;
-                parts_are = parts ∙ h.parts_are;
-                nodes_are = nodes ∙ (h.nodes_are ∙ sym (nodes_more frames grants m (items_of p.setup.dev a t) p.setup.dev.0 ∙ nodes_step p.setup.dev.0 p.setup.dev (nodes_in p.setup.dev.0 m) a t));
-                known = known_after old new a p.setup.dev.0 p.setup.dom.0 made h.known;
-                listed = subst (λ (k : Holds). IsListed (g.port new) p.setup.dev.0 k) (sym (held_step m p.setup a t)) (listed_step old new m p a t (backend.stand_of (site_of frames grants p.setup) r.device) made his st.frames_are good steps h);
-              }
-
-          own_placed : IsGoodAt p.setup (backend.stand_of (site_of frames grants p.setup) p.device) (held_in frames grants m p.setup) → IsPlaced g frames grants old m p → IsPlaced g frames grants new (m ++ items_of p.setup.dev a t) r
-          own_placed good h =
-              let is : record { setup = p.setup; device = r.device; nodes = r.nodes } ≡ r = ap (λ (s : DeviceSetup). record { setup = s; device = r.device; nodes = r.nodes }) (sym same) in
-              subst (λ (x : Placed). IsPlaced g frames grants new (m ++ items_of p.setup.dev a t) x) is (moved good h)
+          domains = λ d h. domains_step old new a d made h;
+          devices = λ d dom h. known_after old new a d dom made h;
+          lawful = step_true frames grants (memory_after (entries m)) s.dev a t (true_step old new devices m p a t made explained goes.comes st);
+        })
+        (step_belongs (setups devices) s.dev a t (declared_at devices i p at))
+        (subst (λ (es : List Own). IsListed (g.port new) s.dev.0 (held_after frames grants s es)) (sym now) (listed_step old new m p a t made his st.frames_are explained goes.comes placed))
+        (λ q e l. listed_others old new a q.setup.dev.0 s.dev.0 (held_in frames grants m q.setup) made his e l) st

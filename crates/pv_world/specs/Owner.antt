@@ -17,9 +17,8 @@ use Rattle.grant_table.specs.OwnerLeft.{permit_left, end_left}
 use Rattle.pv_world.specs.declared.owner.Owning.{Owning}
 use Rattle.pv_world.specs.declared.owner.Owning.TheVariants as owning
 use Rattle.pv_world.specs.declared.world.Placed.{Placed}
-use Rattle.pv_world.specs.Marked.{Item, Entered, entries}
-use Rattle.pv_world.specs.History.{IsHistory}
-use Rattle.pv_world.specs.Record.{Shows}
+use Rattle.backend_core.specs.Marked.{Item, Entered, entries}
+use Rattle.backend_core.specs.History.{IsHistory}
 use Rattle.pv_world.specs.World.{Sight, Stands, front_access, setups}
 
 -- what is left of a permit or an end
@@ -56,30 +55,34 @@ pub record IsUnderWay (plan : Plan Owned) (here : List Item) : Type 0 where
   pub left : Plan Owned
   pub leads : Leads plan here left
 
--- the journal is full, and with one entry more it would be a further part of the permit or end, or the whole of it
-pub record IsFullAt (frames grants : ℕ → ℕ) (devices : List DeviceSetup) (dom : DomId) (gref : GrantRef) (plan : Plan Owned) (m part : List Item) (es : List Entry) : Type 0 where
+-- The journal is full, and with one entry more it would be a further part of the permit or end, or the whole of it. That entry
+-- is what the domain is told of a result, or an access that wasn't made.
+pub record IsFullAt (frames grants : ℕ → ℕ) (devices : List DeviceSetup) (dom : DomId) (gref : GrantRef) (plan : Plan Owned) (m part due : List Item) (es : List Entry) : Type 0 where
   pub length_is : length es ≡ 8388608
-  pub due : Entry
-  pub goes_on : IsHistory frames grants devices (m ++ (part ++ Entered due ∷ []))
-  pub next : IsUnderWay plan (part ++ Entered due ∷ []) ⊎ IsDone dom gref plan (part ++ Entered due ∷ [])
+  pub further : Entry
+  pub goes_on : IsHistory frames grants devices (m ++ (part ++ Entered further ∷ []))
+  pub next : IsUnderWay plan (part ++ Entered further ∷ []) ⊎ IsDone dom gref plan (part ++ Entered further ∷ [])
+  pub due_is : (due ≡ []) ⊎ (due ≡ Entered further ∷ [])
 
-abbrev pub HasCauseAt : (frames grants : ℕ → ℕ) (devices : List DeviceSetup) (dom : DomId) (gref : GrantRef) (plan : Plan Owned) (m part : List Item) (es : List Entry) → Stop → Type 0
-HasCauseAt frames grants devices dom gref plan m part es JournalFull = IsFullAt frames grants devices dom gref plan m part es
-HasCauseAt frames grants devices dom gref plan m part es OutOfMemory = length es < 8388608
+abbrev pub HasCauseAt : (frames grants : ℕ → ℕ) (devices : List DeviceSetup) (dom : DomId) (gref : GrantRef) (plan : Plan Owned) (m part due : List Item) (es : List Entry) → Stop → Type 0
+HasCauseAt frames grants devices dom gref plan m part due es JournalFull = IsFullAt frames grants devices dom gref plan m part due es
+HasCauseAt frames grants devices dom gref plan m part due es OutOfMemory = (length es < 8388608) × (due ≡ [])
 
--- it was stopped after some of its accesses
-pub record StopsOwning (frames grants : ℕ → ℕ) (devices : List DeviceSetup) (dom : DomId) (gref : GrantRef) (plan : Plan Owned) (stop : Stop) (m : List Item) (es : List Entry) : Type 0 where
+-- It was stopped after some of its accesses. The world stands for these and for what the domain is to be told, if that alone
+-- found no room.
+pub record StopsOwning {W : Type 0} (g : Sight W) (frames grants : ℕ → ℕ) (memory : W) (devices : List Placed) (dom : DomId) (gref : GrantRef) (plan : Plan Owned) (stop : Stop) (m : List Item) (es : List Entry) : Type 0 where
   pub part : List Item
+  pub due : List Item
   pub of : IsUnderWay plan part
-  pub so_far : IsHistory frames grants devices (m ++ part)
+  pub stands : Stands g frames grants memory devices (m ++ (part ++ due))
   pub entered : entries (m ++ part) ≡ es
-  pub cause : HasCauseAt frames grants devices dom gref plan m part es stop
+  pub cause : HasCauseAt frames grants (setups devices) dom gref plan m part due es stop
 
 -- a permit or an end was made, or was stopped
 abbrev pub Owns : {W : Type 0} → Sight W → (frames grants : ℕ → ℕ) (memory : W) (devices : List Placed) (dom : DomId) (gref : GrantRef) (plan : Plan Owned) (es : List Entry) (m : List Item) {A : Type 0} → Result A Stop → Type 0
 Owns g frames grants memory devices dom gref plan es m (Ok x) =
     (here : List Item) × IsDone dom gref plan here × Stands g frames grants memory devices (m ++ here) × (entries (m ++ here) ≡ es)
-Owns g frames grants memory devices dom gref plan es m (Err stop) = StopsOwning frames grants (setups devices) dom gref plan stop m es
+Owns g frames grants memory devices dom gref plan es m (Err stop) = StopsOwning g frames grants memory devices dom gref plan stop m es
 
 -- accesses were made, and this is left; or it was made whole, or was stopped
 abbrev pub OwnsOn : {W : Type 0} → Sight W → (frames grants : ℕ → ℕ) (memory : W) (devices : List Placed) (dom : DomId) (gref : GrantRef) (plan left : Plan Owned) (es : List Entry) (m : List Item) → Result Bool Stop → Type 0
@@ -87,7 +90,7 @@ OwnsOn g frames grants memory devices dom gref plan left es m (Ok true) =
     (here : List Item) × Leads plan here left × IsUnfinished left × Stands g frames grants memory devices (m ++ here) × (entries (m ++ here) ≡ es)
 OwnsOn g frames grants memory devices dom gref plan left es m (Ok false) =
     (here : List Item) × IsDone dom gref plan here × Stands g frames grants memory devices (m ++ here) × (entries (m ++ here) ≡ es)
-OwnsOn g frames grants memory devices dom gref plan left es m (Err stop) = StopsOwning frames grants (setups devices) dom gref plan stop m es
+OwnsOn g frames grants memory devices dom gref plan left es m (Err stop) = StopsOwning g frames grants memory devices dom gref plan stop m es
 
 -- what is entered of one step: its access, and what is told of its result
 abbrev pub access_items : Option Access → List Item
@@ -98,10 +101,9 @@ abbrev pub news_of : GrantRef → Option Owned → Option Told
 news_of gref None = None
 news_of gref (Some o) = told_of gref o
 
--- the access found no room, or what is told found none
+-- the access, and what is told of the result, were entered; or what is told found no room
 abbrev pub EntersTurn : DomId → GrantRef → Option Access → Option Owned → List Entry → List Entry → Result Bool Stop → Type 0
 EntersTurn dom gref a o old new (Ok more) =
     (new ≡ old ++ (entries (access_items a) ++ entries (told_items dom (news_of gref o)))) × (more ≡ is_none o)
 EntersTurn dom gref a o old new (Err stop) =
-    ((new ≡ old) × Shows stop new)
-    ⊎ ((t : Told) × (news_of gref o ≡ Some t) × (new ≡ old ++ entries (access_items a)) × Shows stop new)
+    (t : Told) × (news_of gref o ≡ Some t) × (new ≡ old ++ entries (access_items a)) × (stop ≡ JournalFull) × (length new ≡ 8388608)

@@ -1,31 +1,36 @@
 -- What one step of a device enters.
-use Rattle.std.specs.Prelude.{◌≡◌, ◌<◌, Bool, true, false, List, ◌∷◌, ◌++◌, length, Option, Some, None, Result, Ok, Err}
+use Rattle.std.specs.Prelude.{◌≡◌, ℕ, ◌-◌, ◌<◌, ◌≤◌, min, Bool, List, [], ◌∷◌, ◌++◌, length, Option, Some, None, Result, Ok, Err}
 use Rattle.pv_words.specs.declared.access.Access.{Access}
+use Rattle.pv_words.specs.declared.device.HostEvent.{HostEvent}
+use Rattle.pv_words.specs.declared.device.HostRefusal.{HostRefusal}
 use Rattle.pv_words.specs.declared.device.Said.{Said}
 use Rattle.pv_words.specs.declared.entry.Entry.{Entry}
+use Rattle.pv_words.specs.declared.entry.Entry.TheVariants as entry
 use Rattle.pv_words.specs.declared.journal.Stop.{Stop}
+use Rattle.pv_words.specs.declared.place.DevId.{DevId}
 use Rattle.pv_words.specs.declared.journal.Stop.TheVariants.{JournalFull, OutOfMemory}
-use Rattle.pv_world.specs.Marked.{Item, Entered, entries}
-
--- what a step did: it made an access (true), or said something alone (false), or was idle (None)
-abbrev pub progress : Option Access → Option Said → Option Bool
-progress None None = None
-progress None (Some s) = Some false
-progress (Some a) s = Some true
+use Rattle.pv_words.specs.Room.{Book}
+use Rattle.backend_core.specs.Marked.{Item, Entered, entries, host_items, progress}
+use Rattle.host_events.specs.Queue.{refusal_in}
 
 -- what a stop shows of the journal: it is at its limit, or memory was wanting below it
 abbrev pub Shows : Stop → List Entry → Type 0
 Shows JournalFull es = length es ≡ 8388608
 Shows OutOfMemory es = length es < 8388608
 
--- the items were entered up to one of them
+-- so many further entries have room, as far as the journal may have them
+abbrev pub HasRoom : ℕ → Book → Type 0
+HasRoom n j = min n (8388608 - length j.entries) ≤ j.spare
+
+-- the items were entered up to one of them, at which the journal was full
 pub record EntersFront (items : List Item) (stop : Stop) (old new : List Entry) : Type 0 where
   pub done : List Item
   pub due : Entry
   pub rest : List Item
   pub split : items ≡ done ++ Entered due ∷ rest
   pub entered : new ≡ old ++ entries done
-  pub limit : Shows stop new
+  pub full : stop ≡ JournalFull
+  pub limit : length new ≡ 8388608
 
 -- the items of a step were entered, or some of them
 abbrev pub Records : List Item → Option Access → Option Said → List Entry → List Entry → Result (Option Bool) Stop → Type 0
@@ -42,3 +47,9 @@ abbrev pub Grows : Result (Option Bool) Stop → List Entry → List Entry → T
 Grows (Ok (Some accessed)) old new = IsLonger old new
 Grows (Ok None) old new = Unit {0}
 Grows (Err stop) old new = Unit {0}
+
+-- an event of a host was entered, and then its refusal, where it is refused; or the journal was full before that
+abbrev pub EntersHost : DevId → HostEvent → Result (Unit {0}) HostRefusal → List Entry → List Entry → {A : Type 0} → Result A Stop → Type 0
+EntersHost dev e answer old new (Ok x) = new ≡ old ++ entries (host_items dev e (refusal_in answer))
+EntersHost dev e answer old new (Err stop) =
+    (why : HostRefusal) × (refusal_in answer ≡ Some why) × (new ≡ old ++ entry.Host dev e ∷ []) × (stop ≡ JournalFull) × (length new ≡ 8388608)

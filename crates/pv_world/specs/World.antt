@@ -16,14 +16,14 @@ use Rattle.pv_words.specs.declared.setup.DeviceSetup.{DeviceSetup}
 use Rattle.pv_words.specs.Memory.{memory_after, place_of}
 use Rattle.pv_words.specs.Place.{InRange, domain_of}
 use Rattle.pv_words.specs.Port.{Port, IsFree, IsListed, no_listing}
-use Rattle.backend_core.specs.Device as backend
+use Rattle.backend_core.specs.Device.{StandsFor}
 use Rattle.pv_world.specs.declared.world.Placed.{Placed}
 use Rattle.pv_world.specs.declared.world.World.{World}
-use Rattle.pv_world.specs.Record.{Shows, progress}
-use Rattle.pv_world.specs.Marked.{Item, Entered, Idle, entries, host_item, nodes_in, items_of, accesses_in, IsStepOf, AreSteps}
+use Rattle.pv_world.specs.Record.{Shows}
+use Rattle.backend_core.specs.Marked.{Item, Entered, Idle, entries, host_items, nodes_in, items_of, own, accesses_in, AreSteps, progress}
 use Rattle.xenbus_states.specs.Nodes.{no_nodes}
-use Rattle.device_core.specs.Site.{Site}
-use Rattle.pv_world.specs.History.{IsHistory, AreApart, first_stand, parts_of, site_of, stand_after, held_in}
+use Rattle.backend_core.specs.History.{IsHistory, IsPromptIn, IsSettledIn, AreApart, site_of, held_in}
+use Rattle.backend_core.specs.Kinds.{parts_of}
 
 -- what a machine shows of itself
 pub record Sight (W : Type 0) : Type 1 where
@@ -44,18 +44,18 @@ abbrev pub setups : List Placed → List DeviceSetup
 setups [] = []
 setups (p ∷ ps) = p.setup ∷ setups ps
 
--- A device stands where its entries left it, with the nodes as they were set; the memory knows it as one of its domain, and
--- lists what it mapped.
+-- A device stands for its entries, none of which is still due, with the nodes as they were set; the memory knows it as one of
+-- its domain, and lists what it mapped.
 pub record IsPlaced {W : Type 0} (g : Sight W) (frames grants : ℕ → ℕ) (memory : W) (m : List Item) (p : Placed) : Type 0 where
-  pub stands : backend.stand_of (site_of frames grants p.setup) p.device ≡ stand_after frames grants m p.setup
-  pub dom_is : backend.dom_of p.device ≡ p.setup.dom.0
-  pub parts_are : backend.parts_of p.device ≡ parts_of p.setup.kind
+  pub stands : StandsFor p.setup.kind (site_of frames grants p.setup) p.device (own p.setup.dev.0 m)
+  pub settled : IsSettledIn frames grants m p.setup
   pub nodes_are : p.nodes ≡ nodes_in p.setup.dev.0 m
   pub known : g.knows_device memory p.setup.dev.0 p.setup.dom.0
   pub listed : IsListed (g.port memory) p.setup.dev.0 (held_in frames grants m p.setup)
 
 -- The memory is whole, knows all domains, holds what the journal's entries left, and has frames and grants of these
--- numbers; the devices, of which no two have one number, stand where their entries left them.
+-- numbers; the devices, of which no two have one number, stand for their entries. What devices say and refuse stands directly
+-- behind that on which it is said.
 pub record Stands {W : Type 0} (g : Sight W) (frames grants : ℕ → ℕ) (memory : W) (devices : List Placed) (m : List Item) : Type 0 where
   pub frames_are : (d : ℕ) → g.frames memory d ≡ frames d
   pub grants_are : (d : ℕ) → g.grants memory d ≡ grants d
@@ -65,6 +65,7 @@ pub record Stands {W : Type 0} (g : Sight W) (frames grants : ℕ → ℕ) (memo
   pub apart : AreApart (setups devices)
   pub placed : AllByRecursion (IsPlaced g frames grants memory m) devices
   pub so_far : IsHistory frames grants (setups devices) m
+  pub prompt : AllByRecursion (IsPromptIn frames grants m) (setups devices)
 
 -- some history of the world's has these entries
 abbrev pub Standing : {W : Type 0} → Sight W → W → List Placed → List Entry → Type 0
@@ -76,27 +77,21 @@ abbrev pub AtMost : Option ℕ → ℕ → Type 0
 AtMost None n = Unit {0}
 AtMost (Some most) n = n ≤ most
 
--- The journal is full, and a further step of the device is due: with that one it would be a history too, with no more
--- accesses than were asked for.
-pub record IsFull (frames grants : ℕ → ℕ) (devices : List DeviceSetup) (d : ℕ) (most : Option ℕ) (m here : List Item) (es : List Entry) : Type 0 where
-  pub length_is : length es ≡ 8388608
-  pub due : Entry
-  pub of_device : IsStepOf d due
-  pub goes_on : IsHistory frames grants devices ((m ++ here) ++ Entered due ∷ [])
-  pub within : AtMost most (accesses_in (here ++ Entered due ∷ []))
+-- why a device was stopped: the journal is full, and this is due; or memory was wanting below that, and nothing is
+abbrev pub Lacks : Stop → (due : List Item) → List Entry → Type 0
+Lacks JournalFull due es = (length es ≡ 8388608) × ((e : Entry) × (rest : List Item) × (due ≡ Entered e ∷ rest))
+Lacks OutOfMemory due es = (length es < 8388608) × (due ≡ [])
 
-abbrev pub HasCause : (frames grants : ℕ → ℕ) (devices : List DeviceSetup) (d : ℕ) (most : Option ℕ) (m here : List Item) (es : List Entry) → Stop → Type 0
-HasCause frames grants devices d most m here es JournalFull = IsFull frames grants devices d most m here es
-HasCause frames grants devices d most m here es OutOfMemory = length es < 8388608
-
--- The device was stopped after some of its steps. What has been entered is a history.
-pub record StopsIn (frames grants : ℕ → ℕ) (devices : List DeviceSetup) (d : ℕ) (most : Option ℕ) (stop : Stop) (m : List Item) (es : List Entry) : Type 0 where
+-- The device was stopped after some of its steps. The world stands for what was entered, and, where the journal is full, for
+-- what of the last step found no room.
+pub record StopsIn {W : Type 0} (g : Sight W) (frames grants : ℕ → ℕ) (memory : W) (devices : List Placed) (d : ℕ) (most : Option ℕ) (stop : Stop) (m : List Item) (es : List Entry) : Type 0 where
   pub here : List Item
-  pub steps : AreSteps d here
-  pub within : AtMost most (accesses_in here)
-  pub so_far : IsHistory frames grants devices (m ++ here)
+  pub due : List Item
+  pub steps : AreSteps d (here ++ due)
+  pub within : AtMost most (accesses_in (here ++ due))
+  pub stands : Stands g frames grants memory devices (m ++ (here ++ due))
   pub entered : entries (m ++ here) ≡ es
-  pub cause : HasCause frames grants devices d most m here es stop
+  pub cause : Lacks stop due es
 
 -- One step of a device: it made an access or said something (true where it made an access), or was idle (None), or was
 -- stopped.
@@ -104,7 +99,7 @@ abbrev pub Advanced : {W : Type 0} → Sight W → (frames grants : ℕ → ℕ)
 Advanced g frames grants memory devices dev es m (Ok did) =
     (a : Option Access) × (s : Option Said) × (did ≡ progress a s)
     × Stands g frames grants memory devices (m ++ items_of dev a s) × (entries (m ++ items_of dev a s) ≡ es)
-Advanced g frames grants memory devices dev es m (Err stop) = StopsIn frames grants (setups devices) dev.0 (Some 1) stop m es
+Advanced g frames grants memory devices dev es m (Err stop) = StopsIn g frames grants memory devices dev.0 (Some 1) stop m es
 
 -- a device's steps until it was idle, with fewer accesses than were asked for
 pub record ComesToRest (d : ℕ) (most : Option ℕ) (here : List Item) : Type 0 where
@@ -130,7 +125,7 @@ IsStepped dev most here = ComesToRest dev.0 most here ⊎ MakesAll dev most here
 abbrev pub SteppedBy : {W : Type 0} → Sight W → (frames grants : ℕ → ℕ) (memory : W) (devices : List Placed) (dev : DevId) (most : Option ℕ) (es : List Entry) (m : List Item) {A : Type 0} → Result A Stop → Type 0
 SteppedBy g frames grants memory devices dev most es m (Ok x) =
     (here : List Item) × IsStepped dev most here × Stands g frames grants memory devices (m ++ here) × (entries (m ++ here) ≡ es)
-SteppedBy g frames grants memory devices dev most es m (Err stop) = StopsIn frames grants (setups devices) dev.0 most stop m es
+SteppedBy g frames grants memory devices dev most es m (Err stop) = StopsIn g frames grants memory devices dev.0 most stop m es
 
 -- a world's memory and its devices
 abbrev pub memory_of : {W : Type 0} → World W → W
@@ -163,42 +158,38 @@ pub record IsNew {W : Type 0} (g : Sight W) (frames grants : ℕ → ℕ) (memor
   pub listed : (d : ℕ) → IsFree (g.port memory) ⊎ ((g.port memory).listed d ≡ no_listing)
   pub apart : AreApart devices
 
--- one entry was entered, or found no room
+-- One entry was entered; or it found no room, and the world stands for what it stood for, with which it would be a history.
 abbrev pub Enters : {W : Type 0} → Sight W → (frames grants : ℕ → ℕ) (memory : W) (devices : List Placed) (due : Item) (es : List Entry) (m : List Item) {A : Type 0} → Result A Stop → Type 0
 Enters g frames grants memory devices due es m (Ok x) =
     Stands g frames grants memory devices (m ++ due ∷ []) × (entries (m ++ due ∷ []) ≡ es)
 Enters g frames grants memory devices due es m (Err stop) =
-    IsHistory frames grants (setups devices) (m ++ due ∷ []) × ((entries m ≡ es) × Shows stop es)
+    Stands g frames grants memory devices m × (entries m ≡ es) × IsHistory frames grants (setups devices) (m ++ due ∷ []) × Shows stop es
 
--- the entries of an item were entered up to one of them, which found no room
-pub record IsCut (item : Item) (old new : List Entry) : Type 0 where
-  pub done : List Entry
-  pub due : Entry
-  pub rest : List Entry
-  pub split : entries (item ∷ []) ≡ done ++ due ∷ rest
-  pub entered : new ≡ old ++ done
+-- an event of the host stands in the journal, which is full, and its refusal is due
+pub record IsCut {W : Type 0} (g : Sight W) (frames grants : ℕ → ℕ) (memory : W) (devices : List Placed) (dev : DevId) (e : HostEvent) (es : List Entry) (m : List Item) (stop : Stop) : Type 0 where
+  pub why : HostRefusal
+  pub stands : Stands g frames grants memory devices (m ++ host_items dev e (Some why))
+  pub entered : entries (m ++ Entered (entry.Host dev e) ∷ []) ≡ es
+  pub full : stop ≡ JournalFull
+  pub limit : length es ≡ 8388608
 
 -- A host told a device an event, which is refused or not: the entry, and then that of its refusal, if there is one; or there
--- was no room for one of them.
+-- was no room for the event, of which the device wasn't told, or for its refusal.
 abbrev pub Hosted : {W : Type 0} → Sight W → (frames grants : ℕ → ℕ) (memory : W) (devices : List Placed) (dev : DevId) (e : HostEvent) (es : List Entry) (m : List Item) {A : Type 0} → Result A Stop → Type 0
 Hosted g frames grants memory devices dev e es m (Ok x) =
-    (answer : Option HostRefusal) × Stands g frames grants memory devices (m ++ host_item dev e answer ∷ []) × (entries (m ++ host_item dev e answer ∷ []) ≡ es)
+    (answer : Option HostRefusal) × Stands g frames grants memory devices (m ++ host_items dev e answer) × (entries (m ++ host_items dev e answer) ≡ es)
 Hosted g frames grants memory devices dev e es m (Err stop) =
-    (answer : Option HostRefusal) × IsHistory frames grants (setups devices) (m ++ host_item dev e answer ∷ [])
-    × IsCut (host_item dev e answer) (entries m) es × Shows stop es
+    Enters g frames grants memory devices (Entered (entry.Host dev e)) es m {A = Unit {0}} (Err stop) ⊎ IsCut g frames grants memory devices dev e es m stop
 
 -- a word was exchanged where it was `old`, or there was no room for the entry
 abbrev pub Exchanged : {W : Type 0} → Sight W → (frames grants : ℕ → ℕ) (memory : W) (devices : List Placed) (at : Place) (old new : ℕ) (es : List Entry) (m : List Item) {A : Type 0} → Result A Stop → Type 0
 Exchanged g frames grants memory devices at old new es m r =
     (seen : ℕ) × Enters g frames grants memory devices (front_swap at old new seen) es m r
 
--- a device that was just declared
+-- a device that was just declared: it stands for nothing yet
 pub record IsDeclaredAs (s : DeviceSetup) (p : Placed) : Type 0 where
   pub setup_is : p.setup ≡ s
-  pub stands : (site : Site) → backend.stand_of site p.device ≡ first_stand
-  pub dev_is : backend.dev_of p.device ≡ s.dev.0
-  pub dom_is : backend.dom_of p.device ≡ s.dom.0
-  pub parts_are : backend.parts_of p.device ≡ parts_of s.kind
+  pub stands : (frames grants : ℕ → ℕ) → StandsFor s.kind (site_of frames grants s) p.device []
   pub nodes_are : p.nodes ≡ no_nodes
 
 abbrev pub AreDeclaredAs : List DeviceSetup → List Placed → Type 0

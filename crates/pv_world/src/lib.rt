@@ -4,4 +4,4 @@
 mod owner;
 mod world;
 
-pub use world::{World, histories_are_runs};
+pub use world::World;

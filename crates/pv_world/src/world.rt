@@ -2,24 +2,23 @@
 
 ghost use Rattle.std.specs.Prelude.{◌≡◌, ◌++◌, ◌∷◌, [], ◌<◌, ◌≤◌, ◌+◌, OnOk, OnErr, IfErr, IfOk, IsSome, Ok, Some, true, length, slice_get};
 ghost use Rattle.std.specs.List.{AllByRecursion};
-ghost use Rattle.pv_world.specs.Marked.{entry_of, items_of, Entered};
+ghost use Rattle.backend_core.specs.Marked.{entry_of, items_of, Entered};
 ghost use Rattle.pv_words.specs.declared.entry.Entry.TheVariants as entry;
 ghost use Rattle.pv_words.specs.declared.entry.End.TheVariants as end;
 ghost use Rattle.pv_words.specs.Place.{domain_of};
-ghost use Rattle.pv_world.specs.History.{HistoriesAreRuns, parts_of};
-ghost use Rattle.pv_world.specs.Record.{Records, Grows, Shows, IsLonger};
+ghost use Rattle.backend_core.specs.Kinds.{parts_of};
+ghost use Rattle.pv_words.specs.declared.journal.Stop.TheVariants as stop;
+ghost use Rattle.pv_world.specs.Record.{EntersHost, Records, Grows, HasRoom, Shows, IsLonger};
 ghost use Rattle.pv_world.specs.World.{AreDeclaredAs, HasParts, IsDeclaredAs};
 ghost use Rattle.pv_world.specs.Owner.{EntersTurn};
 
 use crate::owner::{Owning, news, place};
 use backend_core::Device;
 use device_core::Step;
-use display_backend::Display;
 use grant_table::{Owned, OwnerStep};
 use pv_words::{
-    Access, DevId, DeviceKind, DeviceSetup, DomId, End, Entry, Frame, GrantRef, HostEvent,
-    JOURNAL_LIMIT, Journal, Machine, Mode, NodeValue, Place, Said, Setup, State, Stop, Turn,
-    Who,
+    Access, DevId, DeviceSetup, DomId, End, Entry, Frame, GrantRef, HostEvent, HostRefusal,
+    JOURNAL_LIMIT, Journal, Machine, Mode, NodeValue, Place, Said, Setup, State, Stop, Turn, Who,
 };
 use std::alloc::{AllocError, Global};
 use xenbus_states::Nodes;
@@ -39,18 +38,44 @@ pub struct World<W> {
     devices: Vec<Placed>,
 }
 
-// Appends an entry, for which it makes room.
-fn enter(journal: &mut Journal, entry: Entry) -> Result<(), Stop>
-    ensures ok { OnOk result (journal.new.entries ≡ journal.old.entries ++ entry ∷ []) }
-    ensures err { OnErr result (journal.new.entries ≡ journal.old.entries) }
+// Makes room for so many further entries, as far as the journal may have them. It fails below the journal's limit alone.
+fn make_room(journal: &mut Journal, n: u32) -> Result<(), Stop>
+    ensures same { journal.new.entries ≡ journal.old.entries }
+    ensures ok { OnOk result (HasRoom n journal.new) }
+    ensures err { IfErr result (λ why. (why ≡ stop.OutOfMemory) × (length journal.new.entries < JOURNAL_LIMIT)) }
+{
+    let wanted = n.min(JOURNAL_LIMIT - journal.len());
+    if journal.spare() < wanted && journal.reserve(wanted).is_err() {
+        return Err(Stop::OutOfMemory);
+    }
+    Ok(())
+}
+
+// Makes room for so many further entries, or for as many as the journal may have, which is one at least.
+fn admit(journal: &mut Journal, n: u32) -> Result<(), Stop>
+    requires { 1 ≤ n }
+    ensures same { journal.new.entries ≡ journal.old.entries }
+    ensures room { OnOk result (HasRoom n journal.new) }
+    ensures below { OnOk result (length journal.new.entries < JOURNAL_LIMIT) }
     ensures cause { IfErr result (λ stop. Shows stop journal.new.entries) }
-    ensures room { OnOk result (length journal.old.entries < JOURNAL_LIMIT) }
 {
     if journal.len() >= JOURNAL_LIMIT {
         return Err(Stop::JournalFull);
     }
-    if journal.spare() == 0 && journal.reserve(1).is_err() {
-        return Err(Stop::OutOfMemory);
+    make_room(journal, n)
+}
+
+// Appends an entry, for which there is room unless the journal is full.
+fn enter(journal: &mut Journal, entry: Entry) -> Result<(), Stop>
+    requires { HasRoom 1 journal.old }
+    ensures ok { OnOk result (journal.new.entries ≡ journal.old.entries ++ entry ∷ []) }
+    ensures err { OnErr result (journal.new.entries ≡ journal.old.entries) }
+    ensures full { IfErr result (λ why. (why ≡ stop.JournalFull) × (length journal.new.entries ≡ JOURNAL_LIMIT)) }
+    ensures below { OnOk result (length journal.old.entries < JOURNAL_LIMIT) }
+    ensures room { HasRoom 2 journal.old → OnOk result (HasRoom 1 journal.new) }
+{
+    if journal.len() >= JOURNAL_LIMIT {
+        return Err(Stop::JournalFull);
     }
     journal.push(entry);
     Ok(())
@@ -66,8 +91,10 @@ fn said_entry(dev: DevId, said: Said) -> Entry
     }
 }
 
-// Enters what a step did, and tells whether it made an access, or was idle.
+// Enters what a step did, for which there is room unless the journal becomes full, and tells whether it made an access, or was
+// idle.
 fn record(journal: &mut Journal, dev: DevId, step: &Step) -> Result<Option<bool>, Stop>
+    requires { HasRoom 2 journal.old }
     ensures records { Records (items_of dev step.now.access step.now.said) step.now.access step.now.said journal.old.entries journal.new.entries result }
     ensures grows { Grows result journal.old.entries journal.new.entries }
 {
@@ -104,11 +131,13 @@ fn enter_turn(
     turn: &Turn<Owned>,
 ) -> Result<bool, Stop>
     requires access { IsSome turn.now.access }
+    requires room { HasRoom 2 journal.old }
+    requires below { length journal.old.entries < JOURNAL_LIMIT }
     ensures enters { EntersTurn dom gref turn.now.access turn.now.done journal.old.entries journal.new.entries result }
     ensures grows { result ≡ Ok true → IsLonger journal.old.entries journal.new.entries }
 {
     if let Some(access) = turn.access {
-        enter(journal, Entry::Front(domain(place(access)), access))?;
+        journal.push(Entry::Front(domain(place(access)), access));
     }
     if let Some(told) = news(gref, turn.done) {
         enter(journal, Entry::Told(dom, told))?;
@@ -116,11 +145,23 @@ fn enter_turn(
     Ok(turn.done.is_none())
 }
 
-/// Whatever was played, what a device said and heard is a run of the display machine, its accepted requests are answered, and
-/// each of its accesses lies in a page that it mapped and holds.
-pub fn histories_are_runs()
-    ensures { HistoriesAreRuns }
-{}
+// Enters an event of a host, for which there is room, and its refusal, where it is refused.
+fn enter_host(
+    journal: &mut Journal,
+    dev: DevId,
+    e: HostEvent,
+    answer: Result<(), HostRefusal>,
+) -> Result<(), Stop>
+    requires room { HasRoom 2 journal.old }
+    requires below { length journal.old.entries < JOURNAL_LIMIT }
+    ensures { EntersHost dev e answer journal.old.entries journal.new.entries result }
+{
+    journal.push(Entry::Host(dev, e));
+    match answer {
+        Ok(()) => Ok(()),
+        Err(why) => enter(journal, Entry::Refused(dev, why)),
+    }
+}
 
 // A device as it is declared.
 fn declare(alloc: Global, setup: &DeviceSetup) -> Result<Placed, AllocError>
@@ -128,11 +169,7 @@ fn declare(alloc: Global, setup: &DeviceSetup) -> Result<Placed, AllocError>
     requires most { parts_of setup.now.kind ≤ 4 }
     ensures { IfOk result (λ p. IsDeclaredAs setup.now p) }
 {
-    let device = match &setup.kind {
-        DeviceKind::Display(connectors) => {
-            Device::Display(Display::new(alloc, setup.dev, setup.dom, *connectors)?)
-        }
-    };
+    let device = Device::new(alloc, setup)?;
     Ok(Placed {
         setup: setup.clone()?,
         device,
@@ -175,9 +212,8 @@ impl<W: Machine> World<W> {
     ghost use Rattle.pv_words.specs.Plan.{IsUnfinished};
     ghost use Rattle.pv_words.specs.Place.{InRange};
     ghost use Rattle.grant_table.specs.Owning.{end_plan, permit_plan};
-    ghost use Rattle.pv_world.specs.Marked.{Item, entries};
-    ghost use Rattle.display_backend.specs.Waiting.{is_for};
-    ghost use Rattle.pv_world.specs.History.{is_declared, parts_by};
+    ghost use Rattle.backend_core.specs.Marked.{Item, entries};
+    ghost use Rattle.backend_core.specs.History.{is_declared, parts_by, takes_by};
     ghost use Rattle.pv_words.specs.Keeping.{MayGoOn};
     ghost use Rattle.pv_words.specs.Port.{IsUnkept, KeepsSame};
     ghost use Rattle.pv_world.specs.Owner.{Owns, OwnsOn, left_of};
@@ -204,18 +240,20 @@ impl<W: Machine> World<W> {
         ensures stored { (frames grants : ℕ → ℕ) (m : List Item) →
             Stands (sight W.word W.frames_of W.grants_of W.port W.whole W.knows_device W.knows_domain) frames grants (memory_of self.old) (devices_of self.old) m → entries m ≡ journal.old.entries →
             Enters (sight W.word W.frames_of W.grants_of W.port W.whole W.knows_device W.knows_domain) frames grants (memory_of self.new) (devices_of self.new) (front_store place v) journal.new.entries m result }
+        ensures err { OnErr result (self.new ≡ self.old) }
         ensures devices { setups (devices_of self.new) ≡ setups (devices_of self.old) }
         ensures keeps { KeepsSame (W.port (memory_of self.old)) (W.port (memory_of self.new)) }
     {
+        admit(journal, 1)?;
         let dom = domain(place);
-        enter(journal, Entry::Front(dom, Access::Store(place, v)))?;
         self.memory.turn(Who::Dom(dom));
         self.memory.store(place, v);
+        journal.push(Entry::Front(dom, Access::Store(place, v)));
         Ok(())
     }
 
     /// A domain exchanges a word, but none of a grant entry that the memory keeps, for `new` where it is `old`. Where the
-    /// entry finds no room, the exchange was made all the same.
+    /// entry finds no room, nothing changes.
     pub fn swap(
         &mut self,
         place: Place,
@@ -229,16 +267,16 @@ impl<W: Machine> World<W> {
         ensures exchanged { (frames grants : ℕ → ℕ) (m : List Item) →
             Stands (sight W.word W.frames_of W.grants_of W.port W.whole W.knows_device W.knows_domain) frames grants (memory_of self.old) (devices_of self.old) m → entries m ≡ journal.old.entries →
             Exchanged (sight W.word W.frames_of W.grants_of W.port W.whole W.knows_device W.knows_domain) frames grants (memory_of self.new) (devices_of self.new) place old new journal.new.entries m result }
+        ensures err { OnErr result (self.new ≡ self.old) }
         ensures devices { setups (devices_of self.new) ≡ setups (devices_of self.old) }
         ensures keeps { KeepsSame (W.port (memory_of self.old)) (W.port (memory_of self.new)) }
     {
+        admit(journal, 1)?;
         let dom = domain(place);
         self.memory.turn(Who::Dom(dom));
         let seen = self.memory.swap_if(place, old, new);
-        enter(
-            journal,
-            Entry::Front(dom, Access::Cas(place, old, new, seen)),
-        )
+        journal.push(Entry::Front(dom, Access::Cas(place, old, new, seen)));
+        Ok(())
     }
 
     // Makes the next access of a permit or an end, and enters it. Tells whether it goes on.
@@ -262,6 +300,7 @@ impl<W: Machine> World<W> {
         ensures keeps { KeepsSame (W.port (memory_of self.old)) (W.port (memory_of self.new)) }
         ensures grows { result ≡ Ok true → IsLonger journal.old.entries journal.new.entries }
     {
+        admit(journal, 2)?;
         self.memory.turn(Who::Dom(dom));
         let turn = owning.step(&mut self.memory);
         enter_turn(journal, dom, gref, &turn)
@@ -351,11 +390,13 @@ impl<W: Machine> World<W> {
             Stands (sight W.word W.frames_of W.grants_of W.port W.whole W.knows_device W.knows_domain) frames grants (memory_of self.old) (devices_of self.old) m → entries m ≡ journal.old.entries →
             Enters (sight W.word W.frames_of W.grants_of W.port W.whole W.knows_device W.knows_domain) frames grants (memory_of self.new) (devices_of self.new) (Entered (entry.Node dev part key v)) journal.new.entries m result }
         ensures devices { setups (devices_of self.new) ≡ setups (devices_of self.old) }
+        ensures err { OnErr result (self.new ≡ self.old) }
         ensures memory { memory_of self.new ≡ memory_of self.old }
     {
+        admit(journal, 1)?;
         let i = self.position(dev);
-        enter(journal, Entry::Node(dev, part, key, v))?;
         self.devices[i].nodes.set(part, key, v);
+        journal.push(Entry::Node(dev, part, key, v));
         Ok(())
     }
 
@@ -366,12 +407,14 @@ impl<W: Machine> World<W> {
             Stands (sight W.word W.frames_of W.grants_of W.port W.whole W.knows_device W.knows_domain) frames grants (memory_of self.old) (devices_of self.old) m → entries m ≡ journal.old.entries →
             Enters (sight W.word W.frames_of W.grants_of W.port W.whole W.knows_device W.knows_domain) frames grants (memory_of self.new) (devices_of self.new) (Entered (entry.Bus dev end.Front s)) journal.new.entries m result }
         ensures devices { setups (devices_of self.new) ≡ setups (devices_of self.old) }
+        ensures err { OnErr result (self.new ≡ self.old) }
         ensures memory { memory_of self.new ≡ memory_of self.old }
     {
+        admit(journal, 1)?;
         let i = self.position(dev);
-        enter(journal, Entry::Bus(dev, End::Front, s))?;
         let placed = &mut self.devices[i];
         placed.device.bus(s, &placed.nodes);
+        journal.push(Entry::Bus(dev, End::Front, s));
         Ok(())
     }
 
@@ -380,19 +423,17 @@ impl<W: Machine> World<W> {
     pub fn host(&mut self, dev: DevId, e: HostEvent, journal: &mut Journal) -> Result<(), Stop>
         requires standing { Standing (sight W.word W.frames_of W.grants_of W.port W.whole W.knows_device W.knows_domain) (memory_of self.old) (devices_of self.old) journal.old.entries }
         requires declared { is_declared (setups (devices_of self.old)) dev.0 ≡ true }
-        requires fits { is_for (parts_by (setups (devices_of self.old)) dev.0) e ≡ true }
+        requires fits { takes_by (setups (devices_of self.old)) dev.0 e ≡ true }
         ensures hosted { (frames grants : ℕ → ℕ) (m : List Item) →
             Stands (sight W.word W.frames_of W.grants_of W.port W.whole W.knows_device W.knows_domain) frames grants (memory_of self.old) (devices_of self.old) m → entries m ≡ journal.old.entries →
             Hosted (sight W.word W.frames_of W.grants_of W.port W.whole W.knows_device W.knows_domain) frames grants (memory_of self.new) (devices_of self.new) dev e journal.new.entries m result }
         ensures devices { setups (devices_of self.new) ≡ setups (devices_of self.old) }
         ensures memory { memory_of self.new ≡ memory_of self.old }
     {
+        admit(journal, 2)?;
         let i = self.position(dev);
-        enter(journal, Entry::Host(dev, e))?;
-        if let Err(why) = self.devices[i].device.host(e) {
-            enter(journal, Entry::Refused(dev, why))?;
-        }
-        Ok(())
+        let answer = self.devices[i].device.host(e);
+        enter_host(journal, dev, e, answer)
     }
 
     /// A frontend raises its device's pending word.
@@ -403,7 +444,9 @@ impl<W: Machine> World<W> {
             Enters (sight W.word W.frames_of W.grants_of W.port W.whole W.knows_device W.knows_domain) frames grants (memory_of self.new) (devices_of self.new) (Entered (entry.Wake dev)) journal.new.entries m result }
         ensures same { self.new ≡ self.old }
     {
-        enter(journal, Entry::Wake(dev))
+        admit(journal, 1)?;
+        journal.push(Entry::Wake(dev));
+        Ok(())
     }
 
     // Makes one step of a device and enters it. Tells whether it made an access, or was idle.
@@ -418,6 +461,7 @@ impl<W: Machine> World<W> {
         ensures keeps { KeepsSame (W.port (memory_of self.old)) (W.port (memory_of self.new)) }
         ensures grows { Grows result journal.old.entries journal.new.entries }
     {
+        make_room(journal, 2)?;
         self.memory.turn(Who::Dev(dev));
         let step = self.devices[i].device.step(&mut self.memory);
         record(journal, dev, &step)

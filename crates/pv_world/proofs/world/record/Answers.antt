@@ -2,8 +2,8 @@ use Rattle.std.proofs.Common.{◌∙◌, [], ◌∷◌, sym}
 use Rattle.std.proofs.lemmas.List.{append-nil}
 use Rattle.std.proofs.lemmas.Result.{err_from_is_err_and}
 use Rattle.pv_words.specs.declared.entry.Entry.TheVariants as entry
-use Rattle.pv_world.specs.Marked.{Entered, entry_of}
-use Rattle.pv_world.proofs.Items.{access_first, said_second, said_alone, rest_of}
+use Rattle.backend_core.specs.Marked.{Entered, entry_of}
+use Rattle.backend_core.proofs.Items.{access_first, said_second, said_alone, rest_of}
 use Rattle.pv_world.proofs.world.record.Goals as goal
 
 pub returns-in_err-enter-clause-records : goal.returns-in_err-enter-clause-records
@@ -16,7 +16,8 @@ returns-in_err-enter-clause-records c =
       rest = rest_of c.args.dev step.said;
       split = access_first c.args.dev c.in-Some.access step.access step.said c.in-Some.is;
       entered = c.in_err-enter.ensures.err ∙ sym (append-nil c.args.journal.now.entries);
-      limit = c.in_err-enter.ensures.cause;
+      full = c.in_err-enter.ensures.full.0;
+      limit = c.in_err-enter.ensures.full.1;
     })
 
 pub returns-in_err-enter-2-clause-records : goal.returns-in_err-enter-2-clause-records
@@ -29,7 +30,8 @@ returns-in_err-enter-2-clause-records c =
       rest = [];
       split = said_second c.args.dev c.in-Some.access c.in-Some-said.said step.access step.said c.in-Some.is c.in-Some-said.is;
       entered = c.in_err-enter-2.ensures.err ∙ c.in_ok-enter.ensures.ok;
-      limit = c.in_err-enter-2.ensures.cause;
+      full = c.in_err-enter-2.ensures.full.0;
+      limit = c.in_err-enter-2.ensures.full.1;
     })
 
 pub returns-in_err-enter-3-clause-records : goal.returns-in_err-enter-3-clause-records
@@ -42,5 +44,6 @@ returns-in_err-enter-3-clause-records c =
       rest = [];
       split = said_alone c.args.dev c.in-Some-said-2.said step.access step.said c.in_default.is c.in-Some-said-2.is;
       entered = c.in_err-enter-3.ensures.err ∙ sym (append-nil c.args.journal.now.entries);
-      limit = c.in_err-enter-3.ensures.cause;
+      full = c.in_err-enter-3.ensures.full.0;
+      limit = c.in_err-enter-3.ensures.full.1;
     })

@@ -1,19 +1,23 @@
 use Rattle.std.proofs.Common.{◌≡◌, ◌++◌, Some, refl, sym, ◌∙◌, ap, subst, slice_get, slice_set}
-use Rattle.pv_world.specs.Marked.{items_of}
+use Rattle.backend_core.specs.Marked.{items_of}
 use Rattle.pv_words.specs.declared.place.DevId.{DevId}
 use Rattle.pv_words.specs.declared.place.Who.TheVariants.{Dev}
-use Rattle.device_core.specs.Order.{Steps}
-use Rattle.device_core.specs.Site.{Site}
-use Rattle.display_backend.specs.Work.{display}
-use Rattle.backend_core.specs.Device as backend
+use Rattle.std.proofs.lemmas.Result.{err_from_is_err_and}
 use Rattle.pv_world.specs.declared.world.Placed.{Placed}
 use Rattle.pv_world.specs.World.{IsPlaced, Stands, sight}
 use Rattle.pv_world.proofs.Devices.{at_index, is_at_set, read_is, setups_set}
-use Rattle.pv_world.proofs.Serving.{recorded}
+use Rattle.pv_world.proofs.Serving.{recorded, wanting}
 use Rattle.pv_world.proofs.Standings.{Behaves, Hands, turned_stands}
-use Rattle.pv_world.proofs.Stepping.{may_next, site_is, step_stands}
+use Rattle.pv_world.proofs.Stepping.{may_step, step_stands}
 use Rattle.pv_world.proofs.Keeps.{keeps_on}
 use Rattle.pv_world.proofs.world.World.advance.Goals as goal
+
+pub returns-in_err-make_room-clause-advanced : goal.returns-in_err-make_room-clause-advanced
+returns-in_err-make_room-clause-advanced g c = λ frames grants m st e.
+    let sees = sight g.W.Machine.word g.W.Words.frames_of g.W.Words.grants_of g.W.Words.port g.W.Machine.whole g.W.Machine.knows_device g.W.Machine.knows_domain in
+    let w = c.args.self.now in
+    let p = err_from_is_err_and c.from_residual.result c.from_residual.ensures.1 in
+    rw (p.1, p.2) (wanting sees frames grants w.memory w.devices.items c.args.dev.0 c.in_err-make_room.field-0.0 c.args.journal.now.entries c.make_room.new.journal.entries m st e c.make_room.ensures.same c.in_err-make_room.ensures.err.0 c.in_err-make_room.ensures.err.1)
 
 pub step-step-requires : goal.step-step-requires
 step-step-requires g c =
@@ -27,7 +31,7 @@ step-step-requires g c =
     let dev = ap (λ (p : Placed). p.setup.dev) read ∙ x.2 in
     let st = turned_stands sees s.0 s.1 (Dev c.args.dev) w.memory c.turn.new.self w.devices.items s.2 hands s.3 in
     let placed = at_index (IsPlaced sees s.0 s.1 w.memory s.2) w.devices.items c.args.i c.index_mut.result.now at s.3.placed in
-    may_next sees s.0 s.1 g.W.Words.may g.met.W.Words.allows c.turn.new.self w.devices.items c.args.i c.index_mut.result.now s.2 at (c.turn.ensures.turned.device ∙ ap (λ (d : DevId). Some d.0) (sym dev)) (c.turn.ensures.turned.serves c.index_mut.result.now.setup.dom.0 (subst (λ (d : DevId). g.W.Machine.knows_device w.memory d.0 c.index_mut.result.now.setup.dom.0) dev placed.known)) st
+    may_step sees s.0 s.1 g.W.Words.may g.met.W.Words.allows c.turn.new.self w.devices.items c.args.i c.index_mut.result.now s.2 at (c.turn.ensures.turned.device ∙ ap (λ (d : DevId). Some d.0) (sym dev)) (c.turn.ensures.turned.serves c.index_mut.result.now.setup.dom.0 (subst (λ (d : DevId). g.W.Machine.knows_device w.memory d.0 c.index_mut.result.now.setup.dom.0) dev placed.known)) st
 
 pub returns-clause-advanced : goal.returns-clause-advanced
 returns-clause-advanced g c = λ frames grants m st e.
@@ -42,12 +46,9 @@ returns-clause-advanced g c = λ frames grants m st e.
     let at = subst (λ (q : Placed). slice_get w.devices.items c.args.i ≡ Some q) (sym read) x.1 in
     let dev = ap (λ (q : Placed). q.setup.dev) read ∙ x.2 in
     let turned = turned_stands sees frames grants (Dev c.args.dev) w.memory c.turn.new.self w.devices.items m hands st in
-    let placed = at_index (IsPlaced sees frames grants c.turn.new.self m) w.devices.items c.args.i p at turned.placed in
-    let is = site_is sees frames grants c.turn.new.self m p turned.frames_are turned.grants_are placed in
-    let steps = subst (λ (site : Site). Steps (display site) (backend.stand_of site p.device) c.step-step.result.access c.step-step.result.said (backend.stand_of site r.device)) is c.step-step.ensures.steps in
-    let later = step_stands sees frames grants g.W.Words.makes behaves c.turn.new.self c.step-step.new.words w.devices.items c.args.i p r m c.step-step.result.access c.step-step.result.said at c.step-step.ensures.made (c.turn.ensures.turned.device ∙ ap (λ (d : DevId). Some d.0) (sym dev)) steps refl c.step-step.ensures.dom c.step-step.ensures.parts refl turned in
-    recorded sees frames grants c.step-step.new.words (slice_set w.devices.items c.args.i r) c.args.dev c.step-step.result.access c.step-step.result.said c.args.journal.now.entries c.record.new.journal.entries m c.record.result
-    (subst (λ (d : DevId). Stands sees frames grants c.step-step.new.words (slice_set w.devices.items c.args.i r) (m ++ items_of d c.step-step.result.access c.step-step.result.said)) dev later) e c.record.ensures.records
+    let later = step_stands sees frames grants g.W.Words.makes behaves c.turn.new.self c.step-step.new.words w.devices.items c.args.i p r m c.step-step.result.access c.step-step.result.said at c.step-step.ensures.made (c.turn.ensures.turned.device ∙ ap (λ (d : DevId). Some d.0) (sym dev)) c.step-step.ensures.steps refl refl turned in
+    recorded sees frames grants c.step-step.new.words (slice_set w.devices.items c.args.i r) c.args.dev c.step-step.result.access c.step-step.result.said c.make_room.new.journal.entries c.record.new.journal.entries m c.record.result
+    (subst (λ (d : DevId). Stands sees frames grants c.step-step.new.words (slice_set w.devices.items c.args.i r) (m ++ items_of d c.step-step.result.access c.step-step.result.said)) dev later) (e ∙ sym c.make_room.ensures.same) c.record.ensures.records
 
 pub returns-clause-at : goal.returns-clause-at
 returns-clause-at g c =

@@ -1,6 +1,6 @@
 use Rattle.std.proofs.Common.{◌+◌, ◌++◌, Bool, Option, Some, Ok, arith, subst, sym, ap, ◌∙◌}
 use Rattle.std.proofs.lemmas.Result.{err_from_is_err_and}
-use Rattle.pv_world.specs.Marked.{items_of}
+use Rattle.backend_core.specs.Marked.{items_of}
 use Rattle.pv_world.specs.Record.{Grows, IsLonger}
 use Rattle.pv_world.specs.World.{Advanced, devices_of, memory_of, sight}
 use Rattle.pv_world.proofs.Serving.{accessed, all_asked, fewer_still, made_all, rested, said_more, stopped}
@@ -9,7 +9,7 @@ use Rattle.pv_world.proofs.world.World.back.Goals as goal
 pub returns-in_err-accessed-clause-stepped : goal.returns-in_err-accessed-clause-stepped
 returns-in_err-accessed-clause-stepped g c = λ frames grants m st e.
     let p = err_from_is_err_and c.from_residual.result c.from_residual.ensures.1 in
-    rw (p.1, p.2) (stopped (sight g.W.Machine.word g.W.Words.frames_of g.W.Words.grants_of g.W.Words.port g.W.Machine.whole g.W.Machine.knows_device g.W.Machine.knows_domain) frames grants (memory_of c.stepping.self) (devices_of c.stepping.self) (devices_of c.advance.new.self) c.args.dev c.args.most c.stepping.made c.in_err-accessed.field-0.0 c.stepping.journal.entries c.advance.new.journal.entries m c.stepping.invariant.fewer (c.stepping.invariant.steps frames grants m st e) (λ n s d. c.in_err-accessed.ensures.advanced frames grants n s d))
+    rw (p.1, p.2) (stopped (sight g.W.Machine.word g.W.Words.frames_of g.W.Words.grants_of g.W.Words.port g.W.Machine.whole g.W.Machine.knows_device g.W.Machine.knows_domain) frames grants (memory_of c.stepping.self) (memory_of c.advance.new.self) (devices_of c.stepping.self) (devices_of c.advance.new.self) c.args.dev c.args.most c.stepping.made c.in_err-accessed.field-0.0 c.stepping.journal.entries c.advance.new.journal.entries m c.stepping.invariant.fewer (c.stepping.invariant.steps frames grants m st e) (λ n s d. c.in_err-accessed.ensures.advanced frames grants n s d))
 
 pub returns-then-eq-clause-stepped : goal.returns-then-eq-clause-stepped
 returns-then-eq-clause-stepped g c = λ frames grants m st e.

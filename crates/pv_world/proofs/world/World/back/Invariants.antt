@@ -1,6 +1,6 @@
 use Rattle.std.proofs.Common.{◌≡◌, ℕ, ◌-◌, ◌<◌, ◌≤◌, length, List, Some}
 use Rattle.pv_words.specs.Port.{KeepsSame}
-use Rattle.pv_world.specs.Marked.{Item, entries}
+use Rattle.backend_core.specs.Marked.{Item, entries}
 use Rattle.pv_world.specs.World.{IsAt, Standing, Stands, devices_of, memory_of, setups, sight}
 use Rattle.pv_world.proofs.Serving.{HasStepped}
 use Rattle.pv_world.proofs.world.World.back.Given as goal

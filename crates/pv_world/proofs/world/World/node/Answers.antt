@@ -5,20 +5,20 @@ use Rattle.pv_words.specs.declared.entry.Entry.{Entry}
 use Rattle.pv_words.specs.declared.entry.Entry.TheVariants as entry
 use Rattle.pv_words.specs.declared.place.DevId.{DevId}
 use Rattle.pv_world.specs.declared.world.Placed.{Placed}
-use Rattle.pv_world.specs.Marked.{Entered}
-use Rattle.pv_world.specs.History.{Belongs}
+use Rattle.backend_core.specs.Marked.{Entered}
+use Rattle.backend_core.specs.History.{Belongs}
 use Rattle.pv_world.specs.World.{Stands, setups, sight}
-use Rattle.pv_world.proofs.Buses.{node_history, node_stands}
+use Rattle.pv_world.proofs.Entering.{entered_one, refused_one}
+use Rattle.pv_world.proofs.News.{node_history, node_stands}
 use Rattle.pv_world.proofs.Devices.{read_is, setups_set}
-use Rattle.pv_world.proofs.Items.{entries_append}
 use Rattle.pv_world.proofs.world.World.node.Goals as goal
 
-pub returns-in_err-enter-clause-set : goal.returns-in_err-enter-clause-set
-returns-in_err-enter-clause-set g c = λ frames grants m st e.
+pub returns-in_err-admit-clause-set : goal.returns-in_err-admit-clause-set
+returns-in_err-admit-clause-set g c = λ frames grants m st e.
     let sees = sight g.W.Machine.word g.W.Words.frames_of g.W.Words.grants_of g.W.Words.port g.W.Machine.whole g.W.Machine.knows_device g.W.Machine.knows_domain in
     let w = c.args.self.now in
     let p = err_from_is_err_and c.from_residual.result c.from_residual.ensures.1 in
-    rw (p.1, p.2) (node_history sees frames grants w.memory (setups w.devices.items) m c.args.dev c.args.part c.args.key c.args.v (c.requires.declared, c.requires.part, c.requires.key) st.so_far, (e ∙ sym c.in_err-enter.ensures.err, c.in_err-enter.ensures.cause))
+    rw (p.1, p.2) (refused_one (Unit {0}) sees frames grants w.memory w.devices.items (Entered (entry.Node c.args.dev c.args.part c.args.key c.args.v)) m c.args.journal.now.entries c.admit.new.journal.entries c.in_err-admit.field-0.0 st e (node_history sees frames grants w.memory w.devices.items m c.args.dev c.args.part c.args.key c.args.v (c.requires.declared, c.requires.part, c.requires.key) st) c.admit.ensures.same c.in_err-admit.ensures.cause)
 
 pub index_mut-requires : goal.index_mut-requires
 index_mut-requires g c = let x = c.position-i.ensures in let within = slice_get_within c.args.self.now.devices.items c.position-i.result x.0 x.1 in let same = c.args.self.now.devices.ok in omega (arith, within, same)
@@ -35,10 +35,9 @@ returns-clause-set g c = λ frames grants m st e.
     let at = subst (λ (q : Placed). slice_get w.devices.items i ≡ Some q) (sym read) x.1 in
     let dev = ap (λ (q : Placed). q.setup.dev) read ∙ x.2 in
     let belongs = subst (λ (d : DevId). Belongs (setups w.devices.items) (entry.Node d c.args.part c.args.key c.args.v)) (sym dev) (c.requires.declared, c.requires.part, c.requires.key) in
-    let ok : c.enter.new.journal.entries ≡ c.args.journal.now.entries ++ entry.Node c.args.dev c.args.part c.args.key c.args.v ∷ [] = c.in_ok-enter.ensures.ok in (
-      subst (λ (d : DevId). Stands sees frames grants w.memory (slice_set w.devices.items i r) (m ++ Entered (entry.Node d c.args.part c.args.key c.args.v) ∷ [])) dev (node_stands sees frames grants w.memory w.devices.items i p r m c.args.part c.args.key c.args.v at belongs refl refl c.set.ensures st),
-      entries_append m (Entered (entry.Node c.args.dev c.args.part c.args.key c.args.v) ∷ []) ∙ (ap (λ (es : List Entry). es ++ entry.Node c.args.dev c.args.part c.args.key c.args.v ∷ []) e ∙ sym ok),
-    )
+    entered_one sees frames grants w.memory (slice_set w.devices.items i r) (entry.Node c.args.dev c.args.part c.args.key c.args.v) m c.args.journal.now.entries c.push.new.self.entries (tt {0})
+    (subst (λ (d : DevId). Stands sees frames grants w.memory (slice_set w.devices.items i r) (m ++ Entered (entry.Node d c.args.part c.args.key c.args.v) ∷ [])) dev (node_stands sees frames grants w.memory w.devices.items i p r m c.args.part c.args.key c.args.v at belongs refl refl c.set.ensures st)) e
+    (c.push.ensures.pushed ∙ ap (λ (es : List Entry). es ++ entry.Node c.args.dev c.args.part c.args.key c.args.v ∷ []) c.admit.ensures.same)
 
 pub returns-clause-devices : goal.returns-clause-devices
 returns-clause-devices g c =

@@ -2,7 +2,7 @@ use Rattle.std.proofs.Common.{◌≡◌, ℕ, ◌-◌, length, List, Ok, true}
 use Rattle.pv_words.specs.Keeping.{MayGoOn}
 use Rattle.pv_words.specs.Plan.{IsUnfinished}
 use Rattle.pv_words.specs.Port.{KeepsSame}
-use Rattle.pv_world.specs.Marked.{Item, entries}
+use Rattle.backend_core.specs.Marked.{Item, entries}
 use Rattle.pv_world.specs.Owner.{OwnsOn, left_of}
 use Rattle.pv_world.specs.World.{Standing, Stands, devices_of, memory_of, sight}
 use Rattle.pv_world.proofs.world.World.own.Given as goal

@@ -1,5 +1,5 @@
 use Rattle.std.proofs.Common.{◌≡◌, ◌-◌, length, true, drop}
-use Rattle.pv_world.specs.History.{is_declared}
+use Rattle.backend_core.specs.History.{is_declared}
 use Rattle.pv_world.specs.World.{setups}
 use Rattle.pv_world.proofs.world.World.position.Given as goal
 

@@ -1,4 +1,4 @@
-use Rattle.std.proofs.Common.{◌≡◌, List, [], ◌∷◌, ◌++◌, Some, refl, sym, ◌∙◌, ap}
+use Rattle.std.proofs.Common.{List, Ok, [], ◌∷◌, ◌++◌, Some, refl, sym, subst, ◌∙◌, ap}
 use Rattle.std.proofs.lemmas.Result.{err_from_is_err_and}
 use Rattle.pv_words.specs.declared.access.Access.TheVariants as access
 use Rattle.pv_words.specs.declared.entry.Entry.{Entry}
@@ -7,21 +7,21 @@ use Rattle.pv_words.specs.declared.place.DomId.{DomId}
 use Rattle.pv_words.specs.declared.place.Who.TheVariants.{Dom}
 use Rattle.pv_words.specs.Plan as plan
 use Rattle.pv_words.proofs.Listing.{port_may_own, owns_store, unkept_turned}
-use Rattle.pv_world.specs.Marked.{entries}
-use Rattle.pv_world.specs.World.{front_store, sight}
-use Rattle.pv_world.proofs.Histories.{in_range_from}
-use Rattle.pv_world.proofs.Items.{entries_append}
+use Rattle.backend_core.specs.Marked.{Entered}
+use Rattle.pv_world.specs.World.{Enters, Stands, front_store, sight}
+use Rattle.backend_core.proofs.Histories.{in_range_from}
+use Rattle.pv_world.proofs.Entering.{entered_one, refused_one}
 use Rattle.pv_world.proofs.Standings.{Behaves, Hands, front_history, front_stands, turned_stands}
 use Rattle.pv_world.proofs.Keeps.{keeps_on}
 use Rattle.pv_world.proofs.world.World.put.Goals as goal
 
-pub returns-in_err-enter-clause-stored : goal.returns-in_err-enter-clause-stored
-returns-in_err-enter-clause-stored g c = λ frames grants m st e.
+pub returns-in_err-admit-clause-stored : goal.returns-in_err-admit-clause-stored
+returns-in_err-admit-clause-stored g c = λ frames grants m st e.
     let sees = sight g.W.Machine.word g.W.Words.frames_of g.W.Words.grants_of g.W.Words.port g.W.Machine.whole g.W.Machine.knows_device g.W.Machine.knows_domain in
     let w = c.args.self.now in
     let p = err_from_is_err_and c.from_residual.result c.from_residual.ensures.1 in
     let range = in_range_from (g.W.Words.frames_of w.memory) frames (g.W.Words.grants_of w.memory) grants st.frames_are st.grants_are c.args.place c.requires.range in
-    rw (p.1, p.2) (front_history sees frames grants w.memory w.devices.items m (access.Store c.args.place c.args.v) (range, tt) st, (e ∙ sym c.in_err-enter.ensures.err, c.in_err-enter.ensures.cause))
+    rw (p.1, p.2) (refused_one (Unit {0}) sees frames grants w.memory w.devices.items (front_store c.args.place c.args.v) m c.args.journal.now.entries c.admit.new.journal.entries c.in_err-admit.field-0.0 st e (front_history sees frames grants w.memory w.devices.items m (access.Store c.args.place c.args.v) (range, tt) st) c.admit.ensures.same c.in_err-admit.ensures.cause)
 
 pub store-requires : goal.store-requires
 store-requires g c =
@@ -37,10 +37,11 @@ returns-clause-stored g c = λ frames grants m st e.
     let w = c.args.self.now in
     let hands : Hands sees (Dom c.domain-dom.result) w.memory c.turn.new.self = record { turned = c.turn.ensures.turned; words = c.turn.ensures.words; frames = c.turn.ensures.frames; grants = c.turn.ensures.grants; whole = c.turn.ensures.whole; devices = c.turn.ensures.devices; domains = c.turn.ensures.domains } in
     let range = in_range_from (g.W.Words.frames_of w.memory) frames (g.W.Words.grants_of w.memory) grants st.frames_are st.grants_are c.args.place c.requires.range in
-    let entered : c.enter.new.journal.entries ≡ c.args.journal.now.entries ++ entry.Front c.domain-dom.result (access.Store c.args.place c.args.v) ∷ [] = c.in_ok-enter.ensures.ok in (
-      front_stands sees frames grants g.W.Words.makes behaves c.turn.new.self c.store.new.self w.devices.items m (access.Store c.args.place c.args.v) c.turn.ensures.turned.device range c.store.ensures (turned_stands sees frames grants (Dom c.domain-dom.result) w.memory c.turn.new.self w.devices.items m hands st),
-      entries_append m (front_store c.args.place c.args.v ∷ []) ∙ (ap (λ (es : List Entry). es ++ entries (front_store c.args.place c.args.v ∷ [])) e ∙ (ap (λ (d : DomId). c.args.journal.now.entries ++ entry.Front d (access.Store c.args.place c.args.v) ∷ []) (sym c.domain-dom.ensures) ∙ sym entered)),
-    )
+    subst (λ (d : DomId). Enters sees frames grants c.store.new.self w.devices.items (Entered (entry.Front d (access.Store c.args.place c.args.v))) c.push.new.self.entries m (Ok (tt {0}))) c.domain-dom.ensures
+    (entered_one sees frames grants c.store.new.self w.devices.items (entry.Front c.domain-dom.result (access.Store c.args.place c.args.v)) m c.args.journal.now.entries c.push.new.self.entries (tt {0})
+    (subst (λ (d : DomId). Stands sees frames grants c.store.new.self w.devices.items (m ++ Entered (entry.Front d (access.Store c.args.place c.args.v)) ∷ [])) (sym c.domain-dom.ensures)
+    (front_stands sees frames grants g.W.Words.makes behaves c.turn.new.self c.store.new.self w.devices.items m (access.Store c.args.place c.args.v) c.turn.ensures.turned.device range c.store.ensures (turned_stands sees frames grants (Dom c.domain-dom.result) w.memory c.turn.new.self w.devices.items m hands st))) e
+    (c.push.ensures.pushed ∙ ap (λ (es : List Entry). es ++ entry.Front c.domain-dom.result (access.Store c.args.place c.args.v) ∷ []) c.admit.ensures.same))
 
 pub returns-clause-keeps : goal.returns-clause-keeps
 returns-clause-keeps g c =

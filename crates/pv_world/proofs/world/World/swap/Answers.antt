@@ -1,16 +1,29 @@
-use Rattle.std.proofs.Common.{◌≡◌, [], ◌∷◌, ◌++◌, OnOk, Some, refl, sym, ap, subst}
+use Rattle.std.proofs.Common.{List, Ok, [], ◌∷◌, ◌++◌, Some, refl, sym, ◌∙◌, ap, subst}
 use Rattle.pv_words.specs.declared.access.Access.TheVariants as access
 use Rattle.pv_words.specs.declared.entry.Entry.TheVariants as entry
 use Rattle.pv_words.specs.declared.place.DomId.{DomId}
 use Rattle.pv_words.specs.declared.place.Who.TheVariants.{Dom}
 use Rattle.pv_words.specs.Plan as plan
 use Rattle.pv_words.proofs.Listing.{port_may_own, owns_swap, unkept_turned}
-use Rattle.pv_world.specs.World.{sight}
-use Rattle.pv_world.proofs.Histories.{in_range_from}
-use Rattle.pv_world.proofs.Standings.{Behaves, Hands, turned_stands}
-use Rattle.pv_world.proofs.Swapping.{exchanged}
+use Rattle.backend_core.specs.Marked.{Entered, entries}
+use Rattle.pv_words.specs.Memory.{memory_after}
+use Rattle.pv_words.specs.declared.entry.Entry.{Entry}
+use Rattle.pv_world.specs.World.{Enters, Stands, front_swap, sight}
+use Rattle.backend_core.proofs.Histories.{in_range_from}
+use Rattle.pv_world.proofs.Standings.{Behaves, Hands, front_history, front_stands, turned_stands}
+use Rattle.std.proofs.lemmas.Result.{err_from_is_err_and}
+use Rattle.pv_world.proofs.Entering.{entered_one, refused_one, true_now}
 use Rattle.pv_world.proofs.Keeps.{keeps_on}
 use Rattle.pv_world.proofs.world.World.swap.Goals as goal
+
+pub returns-in_err-admit-clause-exchanged : goal.returns-in_err-admit-clause-exchanged
+returns-in_err-admit-clause-exchanged g c = λ frames grants m st e.
+    let sees = sight g.W.Machine.word g.W.Words.frames_of g.W.Words.grants_of g.W.Words.port g.W.Machine.whole g.W.Machine.knows_device g.W.Machine.knows_domain in
+    let w = c.args.self.now in
+    let p = err_from_is_err_and c.from_residual.result c.from_residual.ensures.1 in
+    let range = in_range_from (g.W.Words.frames_of w.memory) frames (g.W.Words.grants_of w.memory) grants st.frames_are st.grants_are c.args.place c.requires.range in
+    let seen = memory_after (entries m) c.args.place in
+    rw (p.1, p.2) (seen, refused_one (Unit {0}) sees frames grants w.memory w.devices.items (front_swap c.args.place c.args.old c.args.new seen) m c.args.journal.now.entries c.admit.new.journal.entries c.in_err-admit.field-0.0 st e (front_history sees frames grants w.memory w.devices.items m (access.Cas c.args.place c.args.old c.args.new seen) (true_now frames grants (memory_after (entries m)) (plan.Swap c.args.place c.args.old c.args.new) range) st) c.admit.ensures.same c.in_err-admit.ensures.cause)
 
 pub swap_if-seen-requires : goal.swap_if-seen-requires
 swap_if-seen-requires g c =
@@ -25,10 +38,14 @@ returns-clause-exchanged g c = λ frames grants m st e.
     let behaves : Behaves sees g.W.Words.makes = record { frames = g.met.W.Words.keeps_frames; grants = g.met.W.Words.keeps_grants; remembers = g.met.W.Machine.remembers; leaves = g.met.W.Words.leaves; whole = g.met.W.Machine.keeps_whole; devices = g.met.W.Machine.keeps_devices; domains = g.met.W.Machine.keeps_domains } in
     let w = c.args.self.now in
     let hands : Hands sees (Dom c.domain-dom.result) w.memory c.turn.new.self = record { turned = c.turn.ensures.turned; words = c.turn.ensures.words; frames = c.turn.ensures.frames; grants = c.turn.ensures.grants; whole = c.turn.ensures.whole; devices = c.turn.ensures.devices; domains = c.turn.ensures.domains } in
-    let range = in_range_from (g.W.Words.frames_of w.memory) frames (g.W.Words.grants_of w.memory) grants st.frames_are st.grants_are c.args.place c.requires.range in
-    let a = access.Cas c.args.place c.args.old c.args.new c.swap_if-seen.result in
-    let ok = subst (λ (d : DomId). OnOk c.enter.result (c.enter.new.journal.entries ≡ c.args.journal.now.entries ++ entry.Front d a ∷ [])) c.domain-dom.ensures c.enter.ensures.ok in
-    exchanged sees frames grants g.W.Words.makes behaves c.turn.new.self c.swap_if-seen.new.self w.devices.items m c.args.place c.args.old c.args.new c.swap_if-seen.result c.args.journal.now.entries c.enter.new.journal.entries c.enter.result c.turn.ensures.turned.device range c.swap_if-seen.ensures (turned_stands sees frames grants (Dom c.domain-dom.result) w.memory c.turn.new.self w.devices.items m hands st) e ok c.enter.ensures.err c.enter.ensures.cause
+    let range = in_range_from (g.W.Words.frames_of w.memory) frames (g.W.Words.grants_of w.memory) grants st.frames_are st.grants_are c.args.place c.requires.range in (
+      c.swap_if-seen.result,
+      subst (λ (d : DomId). Enters sees frames grants c.swap_if-seen.new.self w.devices.items (Entered (entry.Front d (access.Cas c.args.place c.args.old c.args.new c.swap_if-seen.result))) c.push.new.self.entries m (Ok (tt {0}))) c.domain-dom.ensures
+          (entered_one sees frames grants c.swap_if-seen.new.self w.devices.items (entry.Front c.domain-dom.result (access.Cas c.args.place c.args.old c.args.new c.swap_if-seen.result)) m c.args.journal.now.entries c.push.new.self.entries (tt {0})
+          (subst (λ (d : DomId). Stands sees frames grants c.swap_if-seen.new.self w.devices.items (m ++ Entered (entry.Front d (access.Cas c.args.place c.args.old c.args.new c.swap_if-seen.result)) ∷ [])) (sym c.domain-dom.ensures)
+          (front_stands sees frames grants g.W.Words.makes behaves c.turn.new.self c.swap_if-seen.new.self w.devices.items m (access.Cas c.args.place c.args.old c.args.new c.swap_if-seen.result) c.turn.ensures.turned.device range c.swap_if-seen.ensures (turned_stands sees frames grants (Dom c.domain-dom.result) w.memory c.turn.new.self w.devices.items m hands st))) e
+          (c.push.ensures.pushed ∙ ap (λ (es : List Entry). es ++ entry.Front c.domain-dom.result (access.Cas c.args.place c.args.old c.args.new c.swap_if-seen.result) ∷ []) c.admit.ensures.same)),
+    )
 
 pub returns-clause-keeps : goal.returns-clause-keeps
 returns-clause-keeps g c =

@@ -7,7 +7,8 @@ use Rattle.pv_words.specs.declared.setup.DeviceSetup.{DeviceSetup}
 use Rattle.scenario_text.specs.Lookups as text
 use Rattle.scenario_text.specs.Playable as playable
 use Rattle.scenario_text.specs.Playable.{AreDifferent, IsDevice}
-use Rattle.pv_world.specs.History.{AreApart, parts_by, parts_of}
+use Rattle.backend_core.specs.History.{AreApart, parts_by}
+use Rattle.backend_core.specs.Kinds.{parts_of}
 use Rattle.pv_world.specs.World.{HasParts}
 
 -- a device has as many parts in a world as in the text that declared it

@@ -1,5 +1,5 @@
 -- From single stores to all stores of a statement.
-use Rattle.std.proofs.Common.{◌≡◌, ℕ, suc, ◌+◌, ◌*◌, ◌%◌, ◌^◌, ◌<◌, inl, List, [], ◌∷◌, ◌++◌, Ok, refl, sym, subst, ◌∙◌, ap, append_assoc, arith}
+use Rattle.std.proofs.Common.{◌≡◌, ℕ, suc, ◌+◌, ◌*◌, ◌%◌, ◌^◌, ◌<◌, inl, List, [], ◌∷◌, ◌++◌, Ok, Err, refl, subst, ◌∙◌, ap, append_assoc, arith}
 use Rattle.std.proofs.Math.Nat.{add-mod-mod, div-lt_iff_lt-mul, mod-lt}
 use Rattle.pv_words.specs.declared.entry.Entry.{Entry}
 use Rattle.pv_words.specs.declared.journal.Stop.{Stop}
@@ -10,12 +10,12 @@ use Rattle.pv_words.specs.declared.setup.DeviceSetup.{DeviceSetup}
 use Rattle.scenario_text.specs.declared.statement.Filling.{Filling}
 use Rattle.scenario_text.specs.declared.statement.Statement.TheVariants.{Fill}
 use Rattle.pv_world.specs.declared.world.Placed.{Placed}
-use Rattle.pv_world.specs.Marked.{Item, entries}
-use Rattle.pv_world.specs.History.{IsHistory}
+use Rattle.backend_core.specs.Marked.{Item, entries}
 use Rattle.pv_world.specs.Record.{Shows}
 use Rattle.pv_world.specs.World.{Enters, Sight, Stands, front_store, setups}
 use Rattle.scenario_run.specs.Follows.{filling, stores_of, word_at}
-use Rattle.scenario_run.specs.Played.{StopsAt, HasCauseIn}
+use Rattle.scenario_run.specs.Played.{HasCauseIn, IsPromptHistory, StopsAt}
+use Rattle.scenario_run.proofs.Wholes.{next_prompt, stands_prompt}
 
 -- the word of a number below that of all words lies in a frame
 pub word_in_range : (frames grants : ℕ → ℕ) (dom : DomId) (n : ℕ) → n < 1024 * frames dom.0 → InRange frames grants (word_at dom n)
@@ -39,22 +39,22 @@ module _ {W : Type 0} (g : Sight W) (frames grants : ℕ → ℕ) (f : Filling) 
       let whole : (m ++ stores_of f n) ++ filling f n ∷ [] ≡ m ++ stores_of f (n + 1) = joined ∙ ap (λ (k : ℕ). m ++ stores_of f k) next in
       (subst (λ (y : List Item). Stands g frames grants later then y) whole h.0, subst (λ (y : List Item). entries y ≡ new) whole h.1)
 
-  store_cause : (devices : List DeviceSetup) (n : ℕ) (stop : Stop) (m : List Item) (es : List Entry) → n < f.count → IsHistory frames grants devices ((m ++ stores_of f n) ++ filling f n ∷ []) → Shows stop es → HasCauseIn frames grants devices (Fill f) m (stores_of f n) es stop
+  store_cause : (devices : List DeviceSetup) (n : ℕ) (stop : Stop) (m : List Item) (es : List Entry) → n < f.count → IsPromptHistory frames grants devices ((m ++ stores_of f n) ++ filling f n ∷ []) → Shows stop es → HasCauseIn frames grants devices (Fill f) m (stores_of f n) es stop
   store_cause devices n JournalFull m es below h limit =
       record {
         length_is = limit;
         due = _;
-        goes_on = subst (λ (y : List Item). IsHistory frames grants devices y) (append_assoc m (stores_of f n) (filling f n ∷ [])) h;
+        goes_on = subst (λ (y : List Item). IsPromptHistory frames grants devices y) (append_assoc m (stores_of f n) (filling f n ∷ [])) h;
         next = inl (suc n, below, refl);
       }
   store_cause devices n OutOfMemory m es below h limit = limit
 
-  pub fill_stops : (memory : W) (devices then : List Placed) (n : ℕ) (es new : List Entry) (m : List Item) (stop : Stop) → n < f.count → setups then ≡ setups devices → Filled g frames grants memory devices f n es m → IsHistory frames grants (setups then) ((m ++ stores_of f n) ++ filling f n ∷ []) × ((entries (m ++ stores_of f n) ≡ new) × Shows stop new) → StopsAt frames grants (setups then) (Fill f) stop m new
-  fill_stops memory devices then n es new m stop below same before h =
+  pub fill_stops : (later : W) (then : List Placed) (n : ℕ) (new : List Entry) (m : List Item) (stop : Stop) → n < f.count → Enters g frames grants later then (filling f n) new (m ++ stores_of f n) {A = Unit {0}} (Err stop) → StopsAt frames grants (setups then) (Fill f) stop m new
+  fill_stops later then n new m stop below h =
       record {
         part = stores_of f n;
         of = (n, omega (arith, below), refl);
-        so_far = subst (λ (ds : List DeviceSetup). IsHistory frames grants ds (m ++ stores_of f n)) (sym same) before.0.so_far;
-        entered = h.1.0;
-        cause = store_cause (setups then) n stop m new below h.0 h.1.1;
+        so_far = stands_prompt g frames grants later then (m ++ stores_of f n) h.0;
+        entered = h.1;
+        cause = store_cause (setups then) n stop m new below (next_prompt g frames grants later then (m ++ stores_of f n) (filling f n) h.0 h.2) h.3;
       }

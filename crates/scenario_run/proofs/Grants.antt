@@ -7,17 +7,16 @@ use Rattle.pv_words.specs.declared.journal.Stop.{Stop}
 use Rattle.pv_words.specs.declared.journal.Stop.TheVariants.{JournalFull, OutOfMemory}
 use Rattle.pv_words.specs.declared.place.DomId.{DomId}
 use Rattle.pv_words.specs.declared.place.GrantRef.{GrantRef}
-use Rattle.pv_words.specs.declared.setup.DeviceSetup.{DeviceSetup}
 use Rattle.pv_words.specs.Plan.{Plan}
 use Rattle.grant_table.specs.declared.owner.Owned.{Owned}
 use Rattle.scenario_text.specs.declared.statement.Statement.{Statement}
 use Rattle.pv_world.specs.declared.world.Placed.{Placed}
-use Rattle.pv_world.specs.Marked.{Item, Entered, entries}
-use Rattle.pv_world.specs.History.{IsHistory}
+use Rattle.backend_core.specs.Marked.{Item, Entered, entries}
 use Rattle.pv_world.specs.Owner.{IsDone, IsUnderWay, HasCauseAt, Owns, StopsOwning}
 use Rattle.pv_world.specs.World.{Sight, Stands, setups}
 use Rattle.scenario_run.specs.Follows.{EachDone, EachTo, IsPartOf, IsRow}
-use Rattle.scenario_run.specs.Played.{StopsAt, HasCauseIn}
+use Rattle.scenario_run.specs.Played.{HasCauseIn, IsPromptHistory, StopsAt}
+use Rattle.scenario_run.proofs.Wholes.{front_prompt, further_prompt, stands_prompt}
 
 -- the first n grants are done, and the world stands for it
 abbrev pub SoFar : {W : Type 0} (g : Sight W) (frames grants : ℕ → ℕ) (memory : W) (devices : List Placed) (dom : DomId) (gref : GrantRef) (plans : ℕ → Plan Owned) (n : ℕ) (es : List Entry) (m : List Item) → Type 0
@@ -43,28 +42,32 @@ module _ (frames grants : ℕ → ℕ) (dom : DomId) (gref : GrantRef) (plans : 
       let l : suc n ≤ count = omega (arith, below) in
       row_next (front ++ more) (front, more, refl, done, d) (eq-or-lt_of_le l)
 
-  each_cause : (devices : List DeviceSetup) (stop : Stop) (m front part : List Item) (es : List Entry) → EachDone dom gref plans n front → HasCauseAt frames grants devices dom (record { 0 = gref.0 + n }) (plans n) (m ++ front) part es stop → HasCauseIn frames grants devices s m (front ++ part) es stop
-  each_cause devices JournalFull m front part es done h =
-      let joined : front ++ (part ++ Entered h.due ∷ []) ≡ (front ++ part) ++ Entered h.due ∷ [] = sym (append_assoc front part (Entered h.due ∷ [])) in
-      record {
-        length_is = h.length_is;
-        due = h.due;
-        goes_on = subst (λ (y : List Item). IsHistory frames grants devices y) (append_assoc m front (part ++ Entered h.due ∷ []) ∙ ap (λ (y : List Item). m ++ y) joined) h.goes_on;
-        next = subst (λ (y : List Item). IsPartOf s y ⊎ IsRow s y) joined (next_of front (part ++ Entered h.due ∷ []) done h.next);
-      }
-  each_cause devices OutOfMemory m front part es done h = h
-
   module _ {W : Type 0} (g : Sight W) where
-    pub each_stops : (memory later : W) (devices then : List Placed) (es new : List Entry) (m : List Item) (stop : Stop) → SoFar g frames grants memory devices dom gref plans n es m → ((k : List Item) → Stands g frames grants memory devices k → entries k ≡ es → StopsOwning frames grants (setups then) dom (record { 0 = gref.0 + n }) (plans n) stop k new) → StopsAt frames grants (setups then) s stop m new
+    each_cause : (memory : W) (devices : List Placed) (stop : Stop) (m front part due : List Item) (es : List Entry) → EachDone dom gref plans n front → Stands g frames grants memory devices ((m ++ front) ++ (part ++ due)) → HasCauseAt frames grants (setups devices) dom (record { 0 = gref.0 + n }) (plans n) (m ++ front) part due es stop → HasCauseIn frames grants (setups devices) s m (front ++ part) es stop
+    each_cause memory devices JournalFull m front part due es done st h =
+        let one : List Item = Entered h.further ∷ [] in
+        let joined : front ++ (part ++ one) ≡ (front ++ part) ++ one = sym (append_assoc front part one) in
+        record {
+          length_is = h.length_is;
+          due = h.further;
+          goes_on = subst (λ (y : List Item). IsPromptHistory frames grants (setups devices) y) (append_assoc m front (part ++ one) ∙ ap (λ (y : List Item). m ++ y) joined) (further_prompt g frames grants memory devices (m ++ front) part due h.further st h.goes_on h.due_is);
+          next = subst (λ (y : List Item). IsPartOf s y ⊎ IsRow s y) joined (next_of front (part ++ one) done h.next);
+        }
+    each_cause memory devices OutOfMemory m front part due es done st h = h.0
+
+    pub each_stops : (memory later : W) (devices then : List Placed) (es new : List Entry) (m : List Item) (stop : Stop) → SoFar g frames grants memory devices dom gref plans n es m → ((k : List Item) → Stands g frames grants memory devices k → entries k ≡ es → StopsOwning g frames grants later then dom (record { 0 = gref.0 + n }) (plans n) stop k new) → StopsAt frames grants (setups then) s stop m new
     each_stops memory later devices then es new m stop a f =
         let b = f (m ++ a.0) a.2 a.3 in
         let joined : (m ++ a.0) ++ b.part ≡ m ++ (a.0 ++ b.part) = append_assoc m a.0 b.part in
+        let stands = stands_prompt g frames grants later then ((m ++ a.0) ++ (b.part ++ b.due)) b.stands in
+        let parts : (m ++ a.0) ++ (b.part ++ b.due) ≡ ((m ++ a.0) ++ b.part) ++ b.due = sym (append_assoc (m ++ a.0) b.part b.due) in
+        let entered_part = front_prompt frames grants (setups then) ((m ++ a.0) ++ b.part) b.due (subst (λ (y : List Item). IsPromptHistory frames grants (setups then) y) parts stands) in
         record {
           part = a.0 ++ b.part;
           of = part_next a.0 b.part a.1 b.of;
-          so_far = subst (λ (y : List Item). IsHistory frames grants (setups then) y) joined b.so_far;
+          so_far = subst (λ (y : List Item). IsPromptHistory frames grants (setups then) y) joined entered_part;
           entered = subst (λ (y : List Item). entries y ≡ new) joined b.entered;
-          cause = each_cause (setups then) stop m a.0 b.part new a.1 b.cause;
+          cause = each_cause later then stop m a.0 b.part b.due new a.1 b.stands b.cause;
         }
 
 module _ {W : Type 0} (g : Sight W) (frames grants : ℕ → ℕ) (dom : DomId) (gref : GrantRef) (plans : ℕ → Plan Owned) where

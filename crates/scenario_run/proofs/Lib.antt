@@ -2,3 +2,4 @@ pub mod Devices
 pub mod Fills
 pub mod Grants
 pub mod Plays
+pub mod Wholes

@@ -22,120 +22,153 @@ use Rattle.scenario_text.specs.Lookups.{has_device}
 use Rattle.scenario_text.specs.Playable.{IsDevice, IsPlayed}
 use Rattle.scenario_text.specs.Scenario.{Scenario}
 use Rattle.pv_world.specs.declared.world.Placed.{Placed}
-use Rattle.pv_world.specs.Marked.{Item, Entered, entries, AreSteps, accesses_in}
-use Rattle.pv_world.specs.History.{IsHistory, IsExplainedIn, is_declared, parts_by}
-use Rattle.pv_world.specs.World.{AtMost, Enters, Exchanged, HasCause, Sight, StopsIn, SteppedBy, setups, front_store}
+use Rattle.backend_core.specs.Marked.{Item, Entered, entries, AreSteps, accesses_in}
+use Rattle.backend_core.specs.History.{IsExplainedIn, IsPromptIn, is_declared, parts_by, site_of}
+use Rattle.pv_world.specs.World.{AtMost, Enters, Exchanged, Lacks, Sight, StopsIn, SteppedBy, setups, front_store}
 use Rattle.pv_world.specs.Record.{Shows}
-use Rattle.pv_world.proofs.Consequences.{histories_are_runs}
-use Rattle.pv_world.proofs.Histories.{in_range_from}
-use Rattle.pv_world.proofs.Items.{entries_append, steps_append}
+use Rattle.backend_core.proofs.Consequences.{histories_are_runs}
+use Rattle.backend_core.proofs.EachKind.{first_explained}
+use Rattle.backend_core.proofs.Histories.{all_of, in_range_from}
+use Rattle.backend_core.proofs.Items.{entries_append}
 use Rattle.scenario_run.specs.Follows.{Follows, FollowsTo, IsBegun, IsRow, IsPartOf, opening, closing}
-use Rattle.scenario_run.specs.Legal.{IsLegalTo, IsFullFor, IsTrueJournal}
-use Rattle.scenario_run.specs.Played.{Played, StopsAt, IsFullIn, HasCauseIn, CanPlay}
+use Rattle.scenario_run.specs.Legal.{IsFullFor, IsLegalTo, IsTrueJournal, IsWholeIn}
+use Rattle.scenario_run.specs.Played.{CanPlay, HasCauseIn, IsFullIn, IsPromptHistory, Played, StopsAt}
 use Rattle.scenario_run.proofs.Devices.{same_parts_by, few_parts}
+use Rattle.scenario_run.proofs.Wholes.{at_most_front, front_prompt, next_prompt, stands_prompt, steps_front}
 
 -- a statement that enters one item
 module _ {W : Type 0} (g : Sight W) (frames grants : ℕ → ℕ) (s : Statement) (due : Entry)
     (none_of : IsPartOf s []) (row : IsRow s (Entered due ∷ [])) where
-  entered_cause : (devices : List DeviceSetup) (stop : Stop) (m : List Item) (es : List Entry) → IsHistory frames grants devices (m ++ Entered due ∷ []) → Shows stop es → HasCauseIn frames grants devices s m [] es stop
+  entered_cause : (devices : List DeviceSetup) (stop : Stop) (m : List Item) (es : List Entry) → IsPromptHistory frames grants devices (m ++ Entered due ∷ []) → Shows stop es → HasCauseIn frames grants devices s m [] es stop
   entered_cause devices JournalFull m es h limit = record { length_is = limit; due = due; goes_on = h; next = inr row }
   entered_cause devices OutOfMemory m es h limit = limit
 
-  pub entered : {A : Type 0} (memory : W) (devices : List Placed) (es : List Entry) (m : List Item) (r : Result A Stop) → IsHistory frames grants (setups devices) m → Enters g frames grants memory devices (Entered due) es m r → Played g frames grants memory devices s es m r
-  entered memory devices es m (Ok x) so_far h = (Entered due ∷ [], row, h.0, h.1)
-  entered memory devices es m (Err stop) so_far h =
+  pub entered : {A : Type 0} (memory : W) (devices : List Placed) (es : List Entry) (m : List Item) (r : Result A Stop) → Enters g frames grants memory devices (Entered due) es m r → Played g frames grants memory devices s es m r
+  entered memory devices es m (Ok x) h = (Entered due ∷ [], row, h.0, h.1)
+  entered memory devices es m (Err stop) h =
       record {
         part = [];
         of = none_of;
-        so_far = subst (λ (x : List Item). IsHistory frames grants (setups devices) x) (sym (append-nil m)) so_far;
-        entered = ap entries (append-nil m) ∙ h.1.0;
-        cause = entered_cause (setups devices) stop m es h.0 h.1.1;
+        so_far = subst (λ (x : List Item). IsPromptHistory frames grants (setups devices) x) (sym (append-nil m)) (stands_prompt g frames grants memory devices m h.0);
+        entered = ap entries (append-nil m) ∙ h.1;
+        cause = entered_cause (setups devices) stop m es (next_prompt g frames grants memory devices m (Entered due) h.0 h.2) h.3;
       }
 
 -- a statement that steps a device
 module _ {W : Type 0} (g : Sight W) (frames grants : ℕ → ℕ) (s : Statement) (dev : DevId) (most : Option ℕ)
     (part_of : (h : List Item) → AreSteps dev.0 h → AtMost most (accesses_in h) → IsPartOf s h) where
-  stepped_cause : (devices : List DeviceSetup) (stop : Stop) (m here : List Item) (es : List Entry) → AreSteps dev.0 here → HasCause frames grants devices dev.0 most m here es stop → HasCauseIn frames grants devices s m here es stop
-  stepped_cause devices JournalFull m here es steps h =
+  stepped_cause : (devices : List DeviceSetup) (stop : Stop) (m here due : List Item) (es : List Entry) → AreSteps dev.0 (here ++ due) → AtMost most (accesses_in (here ++ due)) → IsPromptHistory frames grants devices (m ++ (here ++ due)) → Lacks stop due es → HasCauseIn frames grants devices s m here es stop
+  stepped_cause devices JournalFull m here due es steps within h lacks =
+      let further = lacks.1.0 in
+      let rest = lacks.1.1 in
+      let next : List Item = here ++ Entered further ∷ [] in
+      let split : here ++ due ≡ next ++ rest = ap (λ (y : List Item). here ++ y) lacks.1.2 ∙ sym (append_assoc here (Entered further ∷ []) rest) in
+      let all : m ++ (here ++ due) ≡ (m ++ next) ++ rest = ap (λ (y : List Item). m ++ y) split ∙ sym (append_assoc m next rest) in
       record {
-        length_is = h.length_is;
-        due = h.due;
-        goes_on = subst (λ (x : List Item). IsHistory frames grants devices x) (append_assoc m here (Entered h.due ∷ [])) h.goes_on;
-        next = inl (part_of (here ++ Entered h.due ∷ []) (steps_append dev.0 here (Entered h.due ∷ []) steps (h.of_device, tt)) h.within);
+        length_is = lacks.0;
+        due = further;
+        goes_on = front_prompt frames grants devices (m ++ next) rest (subst (λ (y : List Item). IsPromptHistory frames grants devices y) all h);
+        next = inl (
+            part_of next (steps_front dev.0 next rest (subst (λ (y : List Item). AreSteps dev.0 y) split steps))
+            (at_most_front most next rest (subst (λ (y : List Item). AtMost most (accesses_in y)) split within))
+            );
       }
-  stepped_cause devices OutOfMemory m here es steps h = h
+  stepped_cause devices OutOfMemory m here due es steps within h lacks = lacks.0
 
-  pub stops : (devices : List DeviceSetup) (stop : Stop) (m : List Item) (es : List Entry) → StopsIn frames grants devices dev.0 most stop m es → StopsAt frames grants devices s stop m es
-  stops devices stop m es h =
-      record { part = h.here; of = part_of h.here h.steps h.within; so_far = h.so_far; entered = h.entered; cause = stepped_cause devices stop m h.here es h.steps h.cause }
+  pub stops : (memory : W) (devices : List Placed) (stop : Stop) (m : List Item) (es : List Entry) → StopsIn g frames grants memory devices dev.0 most stop m es → StopsAt frames grants (setups devices) s stop m es
+  stops memory devices stop m es h =
+      let whole = stands_prompt g frames grants memory devices (m ++ (h.here ++ h.due)) h.stands in
+      let parts : m ++ (h.here ++ h.due) ≡ (m ++ h.here) ++ h.due = sym (append_assoc m h.here h.due) in
+      record {
+        part = h.here;
+        of = part_of h.here (steps_front dev.0 h.here h.due h.steps) (at_most_front most h.here h.due h.within);
+        so_far = front_prompt frames grants (setups devices) (m ++ h.here) h.due (subst (λ (y : List Item). IsPromptHistory frames grants (setups devices) y) parts whole);
+        entered = h.entered;
+        cause = stepped_cause (setups devices) stop m h.here h.due es h.steps h.within whole h.cause;
+      }
 
 module _ {W : Type 0} (g : Sight W) (frames grants : ℕ → ℕ) where
-  pub put_played : {A : Type 0} (memory : W) (devices : List Placed) (at : Place) (v : ℕ) (es : List Entry) (m : List Item) (r : Result A Stop) → IsHistory frames grants (setups devices) m → Enters g frames grants memory devices (front_store at v) es m r → Played g frames grants memory devices (Put at v) es m r
-  put_played memory devices at v es m r so_far h = entered g frames grants (Put at v) _ refl refl memory devices es m r so_far h
+  pub put_played : {A : Type 0} (memory : W) (devices : List Placed) (at : Place) (v : ℕ) (es : List Entry) (m : List Item) (r : Result A Stop) → Enters g frames grants memory devices (front_store at v) es m r → Played g frames grants memory devices (Put at v) es m r
+  put_played memory devices at v es m r h = entered g frames grants (Put at v) _ refl refl memory devices es m r h
 
-  pub swap_played : {A : Type 0} (memory : W) (devices : List Placed) (at : Place) (old new : ℕ) (es : List Entry) (m : List Item) (r : Result A Stop) → IsHistory frames grants (setups devices) m → Exchanged g frames grants memory devices at old new es m r → Played g frames grants memory devices (Swap at old new) es m r
-  swap_played memory devices at old new es m r so_far h =
-      entered g frames grants (Swap at old new) _ refl (h.0, refl) memory devices es m r so_far h.1
+  pub swap_played : {A : Type 0} (memory : W) (devices : List Placed) (at : Place) (old new : ℕ) (es : List Entry) (m : List Item) (r : Result A Stop) → Exchanged g frames grants memory devices at old new es m r → Played g frames grants memory devices (Swap at old new) es m r
+  swap_played memory devices at old new es m r h =
+      entered g frames grants (Swap at old new) _ refl (h.0, refl) memory devices es m r h.1
 
-  pub node_played : {A : Type 0} (memory : W) (devices : List Placed) (dev : DevId) (part key : ℕ) (v : NodeValue) (es : List Entry) (m : List Item) (r : Result A Stop) → IsHistory frames grants (setups devices) m → Enters g frames grants memory devices (Entered (entry.Node dev part key v)) es m r → Played g frames grants memory devices (Node dev part key v) es m r
-  node_played memory devices dev part key v es m r so_far h = entered g frames grants (Node dev part key v) _ refl refl memory devices es m r so_far h
+  pub node_played : {A : Type 0} (memory : W) (devices : List Placed) (dev : DevId) (part key : ℕ) (v : NodeValue) (es : List Entry) (m : List Item) (r : Result A Stop) → Enters g frames grants memory devices (Entered (entry.Node dev part key v)) es m r → Played g frames grants memory devices (Node dev part key v) es m r
+  node_played memory devices dev part key v es m r h = entered g frames grants (Node dev part key v) _ refl refl memory devices es m r h
 
-  pub bus_played : {A : Type 0} (memory : W) (devices : List Placed) (dev : DevId) (state : State) (es : List Entry) (m : List Item) (r : Result A Stop) → IsHistory frames grants (setups devices) m → Enters g frames grants memory devices (Entered (entry.Bus dev Front state)) es m r → Played g frames grants memory devices (Bus dev state) es m r
-  bus_played memory devices dev state es m r so_far h = entered g frames grants (Bus dev state) _ refl refl memory devices es m r so_far h
+  pub bus_played : {A : Type 0} (memory : W) (devices : List Placed) (dev : DevId) (state : State) (es : List Entry) (m : List Item) (r : Result A Stop) → Enters g frames grants memory devices (Entered (entry.Bus dev Front state)) es m r → Played g frames grants memory devices (Bus dev state) es m r
+  bus_played memory devices dev state es m r h = entered g frames grants (Bus dev state) _ refl refl memory devices es m r h
 
-  pub wake_played : {A : Type 0} (memory : W) (devices : List Placed) (dev : DevId) (es : List Entry) (m : List Item) (r : Result A Stop) → IsHistory frames grants (setups devices) m → Enters g frames grants memory devices (Entered (entry.Wake dev)) es m r → Played g frames grants memory devices (Wake dev) es m r
-  wake_played memory devices dev es m r so_far h = entered g frames grants (Wake dev) _ refl refl memory devices es m r so_far h
+  pub wake_played : {A : Type 0} (memory : W) (devices : List Placed) (dev : DevId) (es : List Entry) (m : List Item) (r : Result A Stop) → Enters g frames grants memory devices (Entered (entry.Wake dev)) es m r → Played g frames grants memory devices (Wake dev) es m r
+  wake_played memory devices dev es m r h = entered g frames grants (Wake dev) _ refl refl memory devices es m r h
 
   pub back_played : {A : Type 0} (memory : W) (devices : List Placed) (dev : DevId) (count : ℕ) (es : List Entry) (m : List Item) (r : Result A Stop) → SteppedBy g frames grants memory devices dev (Some count) es m r → Played g frames grants memory devices (Back dev count) es m r
   back_played memory devices dev count es m (Ok x) h = h
-  back_played memory devices dev count es m (Err stop) h = stops g frames grants (Back dev count) dev (Some count) (λ h a b. (a, b)) (setups devices) stop m es h
+  back_played memory devices dev count es m (Err stop) h = stops g frames grants (Back dev count) dev (Some count) (λ h a b. (a, b)) memory devices stop m es h
 
   pub serve_played : {A : Type 0} (memory : W) (devices : List Placed) (dev : DevId) (es : List Entry) (m : List Item) (r : Result A Stop) → SteppedBy g frames grants memory devices dev None es m r → Played g frames grants memory devices (Serve dev) es m r
   serve_played memory devices dev es m (Ok x) h = h
-  serve_played memory devices dev es m (Err stop) h = stops g frames grants (Serve dev) dev None (λ h a b. a) (setups devices) stop m es h
+  serve_played memory devices dev es m (Err stop) h = stops g frames grants (Serve dev) dev None (λ h a b. a) memory devices stop m es h
 
 -- one statement more
-pub follows_push : (ss : List Statement) (x : Statement) (m here : List Item) → Follows ss m → IsRow x here → Follows (ss ++ x ∷ []) (m ++ here)
-follows_push [] x m here f row =
-    (here, [], ap (λ (y : List Item). y ++ here) f ∙ sym (append-nil here), row, refl)
-follows_push (s ∷ ss) x m here f row =
-    (f.0, f.1 ++ here, ap (λ (y : List Item). y ++ here) f.2 ∙ append_assoc f.0 f.1 here, f.3, follows_push ss x f.1 here f.4 row)
+pub follows_push : (IsWhole : List Item → Type 0) (ss : List Statement) (x : Statement) (before m here : List Item) → Follows IsWhole ss before m → IsRow x here → IsWhole (before ++ (m ++ here)) → Follows IsWhole (ss ++ x ∷ []) before (m ++ here)
+follows_push IsWhole [] x before m here f row whole =
+    let none : m ++ here ≡ here = ap (λ (y : List Item). y ++ here) f in
+    (here, [], none ∙ sym (append-nil here), row, subst (λ (y : List Item). IsWhole (before ++ y)) none whole, refl)
+follows_push IsWhole (s ∷ ss) x before m here f row whole =
+    let all : m ++ here ≡ f.0 ++ (f.1 ++ here) = ap (λ (y : List Item). y ++ here) f.2 ∙ append_assoc f.0 f.1 here in
+    let behind : before ++ (m ++ here) ≡ (before ++ f.0) ++ (f.1 ++ here) = ap (λ (y : List Item). before ++ y) all ∙ sym (append_assoc before f.0 (f.1 ++ here)) in (
+      f.0,
+      f.1 ++ here,
+      all,
+      f.3,
+      f.4,
+      follows_push IsWhole ss x (before ++ f.0) f.1 here f.5 row (subst (λ (y : List Item). IsWhole y) behind whole),
+    )
+
+none_part : (s : Statement) → IsPartOf s []
+none_part (Put at v) = refl
+none_part (Fill f) = (0, omega arith, refl)
+none_part (Swap at old new) = refl
+none_part (Open o) = record { number = 0; front = []; last = []; split = refl; done = refl; under_way = record { left = opening o 0; leads = refl }; within = inr (refl, refl) }
+none_part (End e) = record { number = 0; front = []; last = []; split = refl; done = refl; under_way = record { left = closing e 0; leads = refl }; within = inr (refl, refl) }
+none_part (Node dev part key v) = refl
+none_part (Bus dev state) = refl
+none_part (Wake dev) = refl
+none_part (Back dev count) = (tt, omega arith)
+none_part (Serve dev) = tt
 
 none_begun : (ss : List Statement) → IsBegun ss []
 none_begun [] = refl
-none_begun (Put at v ∷ ss) = refl
-none_begun (Fill f ∷ ss) = (0, omega arith, refl)
-none_begun (Swap at old new ∷ ss) = refl
-none_begun (Open o ∷ ss) = record { number = 0; front = []; last = []; split = refl; done = refl; under_way = record { left = opening o 0; leads = refl }; within = inr (refl, refl) }
-none_begun (End e ∷ ss) = record { number = 0; front = []; last = []; split = refl; done = refl; under_way = record { left = closing e 0; leads = refl }; within = inr (refl, refl) }
-none_begun (Node dev part key v ∷ ss) = refl
-none_begun (Bus dev state ∷ ss) = refl
-none_begun (Wake dev ∷ ss) = refl
-none_begun (Back dev count ∷ ss) = (tt, omega arith)
-none_begun (Serve dev ∷ ss) = tt
+none_begun (s ∷ ss) = inl (none_part s)
 
 -- whatever was played
-pub true_journal : (s : Scenario) (m : List Item) (es : List Entry) → entries m ≡ es → IsHistory (frames_by s.sizes) (grants_by s.sizes) s.devices m → IsTrueJournal s m es
+pub true_journal : (s : Scenario) (m : List Item) (es : List Entry) → entries m ≡ es → IsPromptHistory (frames_by s.sizes) (grants_by s.sizes) s.devices m → IsTrueJournal s m es
 true_journal s m es e h =
-    let all = histories_are_runs (frames_by s.sizes) (grants_by s.sizes) s.devices m h in
+    let all = histories_are_runs (frames_by s.sizes) (grants_by s.sizes) s.devices m h.0 in
     record {
       entered = e;
-      history = h;
+      history = h.0;
+      prompt = h.1;
       machine_run = all.0;
       answered = all.1;
       kept = all.2;
     }
 
-none_explained : (frames grants : ℕ → ℕ) (devices : List DeviceSetup) → AllByRecursion (IsExplainedIn frames grants []) devices
-none_explained frames grants [] = tt
-none_explained frames grants (d ∷ ds) = (tt, none_explained frames grants ds)
+none_entered : (frames grants : ℕ → ℕ) (devices : List DeviceSetup) → IsPromptHistory frames grants devices []
+none_entered frames grants devices = (
+  record { lawful = tt; belongs = tt; explained = all_of (IsExplainedIn frames grants []) (λ s. first_explained s.kind (site_of frames grants s)) devices },
+  all_of (IsPromptIn frames grants []) (λ s. tt) devices,
+)
 
 -- before the first statement
 pub nothing_played : (s : Scenario) (es : List Entry) → es ≡ [] → IsLegalTo s es
 nothing_played s es e =
     record {
       marked = [];
-      so_far = true_journal s [] es (sym e) (record { lawful = tt; belongs = tt; explained = none_explained (frames_by s.sizes) (grants_by s.sizes) s.devices });
+      so_far = true_journal s [] es (sym e) (none_entered (frames_by s.sizes) (grants_by s.sizes) s.devices);
       follows = record { done = []; left = s.statements; followed = []; part = []; statements = refl; items = refl; follows = refl; begun = none_begun s.statements };
     }
 
@@ -146,25 +179,8 @@ module _ (s : Scenario) (i : ℕ) (x : Statement) (inside : i < length s.stateme
   pub front_is : take (i + 1) s.statements ≡ take i s.statements ++ x ∷ []
   front_is = take_more s.statements i x inside ∙ ap (λ (y : Statement). take i s.statements ++ y ∷ []) (sym item)
 
-  pub stops_legal : (stop : Stop) (followed : List Item) (es : List Entry) → Follows (take i s.statements) followed → StopsAt (frames_by s.sizes) (grants_by s.sizes) s.devices x stop followed es → IsLegalTo s es
-  stops_legal stop followed es f h =
-      record {
-        marked = followed ++ h.part;
-        so_far = true_journal s (followed ++ h.part) es h.entered h.so_far;
-        follows = record {
-          done = take i s.statements;
-          left = drop i s.statements;
-          followed = followed;
-          part = h.part;
-          statements = sym (take-append-drop i s.statements);
-          items = refl;
-          follows = f;
-          begun = subst (λ (ss : List Statement). IsBegun ss h.part) (sym rest_is) h.of;
-        };
-      }
-
-  further : (followed more : List Item) → Follows (take i s.statements) followed → IsPartOf x more ⊎ IsRow x more → FollowsTo s.statements (followed ++ more)
-  further followed more f (inl part) =
+  further : (followed more : List Item) → Follows (IsWholeIn s) (take i s.statements) [] followed → IsPartOf x more ⊎ IsRow x more → FollowsTo (IsWholeIn s) s.statements (followed ++ more)
+  further followed more f begun =
       record {
         done = take i s.statements;
         left = drop i s.statements;
@@ -173,21 +189,18 @@ module _ (s : Scenario) (i : ℕ) (x : Statement) (inside : i < length s.stateme
         statements = sym (take-append-drop i s.statements);
         items = refl;
         follows = f;
-        begun = subst (λ (ss : List Statement). IsBegun ss more) (sym rest_is) part;
-      }
-  further followed more f (inr row) =
-      record {
-        done = take (i + 1) s.statements;
-        left = drop (i + 1) s.statements;
-        followed = followed ++ more;
-        part = [];
-        statements = sym (take-append-drop (i + 1) s.statements);
-        items = sym (append-nil (followed ++ more));
-        follows = subst (λ (ss : List Statement). Follows ss (followed ++ more)) (sym front_is) (follows_push (take i s.statements) x followed more f row);
-        begun = none_begun (drop (i + 1) s.statements);
+        begun = subst (λ (ss : List Statement). IsBegun ss more) (sym rest_is) begun;
       }
 
-  full_in : (followed part : List Item) (es : List Entry) → Follows (take i s.statements) followed → entries (followed ++ part) ≡ es → IsFullIn (frames_by s.sizes) (grants_by s.sizes) s.devices x followed part es → IsFullFor s es
+  pub stops_legal : (stop : Stop) (followed : List Item) (es : List Entry) → Follows (IsWholeIn s) (take i s.statements) [] followed → StopsAt (frames_by s.sizes) (grants_by s.sizes) s.devices x stop followed es → IsLegalTo s es
+  stops_legal stop followed es f h =
+      record {
+        marked = followed ++ h.part;
+        so_far = true_journal s (followed ++ h.part) es h.entered h.so_far;
+        follows = further followed h.part f (inl h.of);
+      }
+
+  full_in : (followed part : List Item) (es : List Entry) → Follows (IsWholeIn s) (take i s.statements) [] followed → entries (followed ++ part) ≡ es → IsFullIn (frames_by s.sizes) (grants_by s.sizes) s.devices x followed part es → IsFullFor s es
   full_in followed part es f e h =
       let more : List Item = part ++ Entered h.due ∷ [] in
       let whole : entries (followed ++ more) ≡ es ++ h.due ∷ [] = ap entries (sym (append_assoc followed part (Entered h.due ∷ []))) ∙ (entries_append (followed ++ part) (Entered h.due ∷ []) ∙ ap (λ (y : List Entry). y ++ h.due ∷ []) e) in
@@ -201,7 +214,7 @@ module _ (s : Scenario) (i : ℕ) (x : Statement) (inside : i < length s.stateme
         };
       }
 
-  pub stops_full : (stop : Stop) (followed : List Item) (es : List Entry) → stop ≡ JournalFull → Follows (take i s.statements) followed → StopsAt (frames_by s.sizes) (grants_by s.sizes) s.devices x stop followed es → IsFullFor s es
+  pub stops_full : (stop : Stop) (followed : List Item) (es : List Entry) → stop ≡ JournalFull → Follows (IsWholeIn s) (take i s.statements) [] followed → StopsAt (frames_by s.sizes) (grants_by s.sizes) s.devices x stop followed es → IsFullFor s es
   stops_full stop followed es full f h =
       full_in followed h.part es f h.entered (subst (λ (y : Stop). HasCauseIn (frames_by s.sizes) (grants_by s.sizes) s.devices x followed h.part es y) full h.cause)
 

@@ -14,7 +14,7 @@ use Rattle.scenario_text.specs.declared.statement.Opening.{Opening}
 use Rattle.scenario_text.specs.declared.statement.Closing.{Closing}
 use Rattle.scenario_text.specs.declared.statement.Statement.{Statement}
 use Rattle.scenario_text.specs.declared.statement.Statement.TheVariants.{Put, Fill, Swap, Open, End, Node, Bus, Wake, Back, Serve}
-use Rattle.pv_world.specs.Marked.{Item, Entered, AreSteps, accesses_in}
+use Rattle.backend_core.specs.Marked.{Item, Entered, AreSteps, accesses_in}
 use Rattle.pv_world.specs.Owner.{IsDone, IsUnderWay}
 use Rattle.pv_world.specs.World.{AtMost, IsStepped, front_store, front_swap}
 
@@ -82,23 +82,24 @@ IsPartOf (Wake dev) here = here ≡ []
 IsPartOf (Back dev count) here = AreSteps dev.0 here × AtMost (Some count) (accesses_in here)
 IsPartOf (Serve dev) here = AreSteps dev.0 here
 
--- the entries of each statement, one after another
-abbrev pub Follows : List Statement → List Item → Type 0
-Follows [] m = m ≡ []
-Follows (s ∷ ss) m = (here : List Item) × (rest : List Item) × (m ≡ here ++ rest) × IsRow s here × Follows ss rest
+-- the entries of each statement, one after another, behind what came before; after each the journal is whole
+abbrev pub Follows : (IsWhole : List Item → Type 0) → List Statement → (before m : List Item) → Type 0
+Follows IsWhole [] before m = m ≡ []
+Follows IsWhole (s ∷ ss) before m =
+    (here : List Item) × (rest : List Item) × (m ≡ here ++ rest) × IsRow s here × IsWhole (before ++ here) × Follows IsWhole ss (before ++ here) rest
 
 -- the next statement was begun, if one is left
 abbrev pub IsBegun : List Statement → List Item → Type 0
 IsBegun [] part = part ≡ []
-IsBegun (s ∷ ss) part = IsPartOf s part
+IsBegun (s ∷ ss) part = IsPartOf s part ⊎ IsRow s part
 
 -- the entries of the statements up to some one, of that one perhaps a part
-pub record FollowsTo (ss : List Statement) (m : List Item) : Type 0 where
+pub record FollowsTo (IsWhole : List Item → Type 0) (ss : List Statement) (m : List Item) : Type 0 where
   pub done : List Statement
   pub left : List Statement
   pub followed : List Item
   pub part : List Item
   pub statements : ss ≡ done ++ left
   pub items : m ≡ followed ++ part
-  pub follows : Follows done followed
+  pub follows : Follows IsWhole done [] followed
   pub begun : IsBegun left part

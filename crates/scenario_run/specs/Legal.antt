@@ -4,8 +4,8 @@ use Rattle.std.specs.List.{AllByRecursion}
 use Rattle.pv_words.specs.declared.entry.Entry.{Entry}
 use Rattle.pv_words.specs.Sizes.{frames_by, grants_by}
 use Rattle.scenario_text.specs.Scenario.{Scenario}
-use Rattle.pv_world.specs.Marked.{Item, entries}
-use Rattle.pv_world.specs.History.{AnswersIn, IsHistory, IsMachineRunIn, KeepsIn}
+use Rattle.backend_core.specs.Marked.{Item, entries}
+use Rattle.backend_core.specs.History.{AnswersIn, IsHistory, IsMachineRunIn, IsPromptIn, IsSettledIn, KeepsIn}
 use Rattle.scenario_run.specs.Follows.{Follows, FollowsTo}
 
 -- Whatever was played: the journal is lawful and explained; what each device says and hears is a run of the display
@@ -13,22 +13,28 @@ use Rattle.scenario_run.specs.Follows.{Follows, FollowsTo}
 pub record IsTrueJournal (s : Scenario) (m : List Item) (es : List Entry) : Type 0 where
   pub entered : entries m ≡ es
   pub history : IsHistory (frames_by s.sizes) (grants_by s.sizes) s.devices m
+  -- what a device says on an access directly follows it, and a refusal directly follows its event
+  pub prompt : AllByRecursion (IsPromptIn (frames_by s.sizes) (grants_by s.sizes) m) s.devices
   pub machine_run : AllByRecursion (IsMachineRunIn (frames_by s.sizes) (grants_by s.sizes) m) s.devices
   pub answered : AllByRecursion (AnswersIn (frames_by s.sizes) (grants_by s.sizes) m) s.devices
   -- no access comes after its page is gone
   pub kept : AllByRecursion (KeepsIn (frames_by s.sizes) (grants_by s.sizes) m) s.devices
 
+-- no device has an event still to say, or a refusal still to tell
+abbrev pub IsWholeIn : Scenario → List Item → Type 0
+IsWholeIn s m = AllByRecursion (IsSettledIn (frames_by s.sizes) (grants_by s.sizes) m) s.devices
+
 -- the journal is the scenario's, to its end
 pub record IsLegal (s : Scenario) (es : List Entry) : Type 0 where
   pub marked : List Item
   pub so_far : IsTrueJournal s marked es
-  pub follows : Follows s.statements marked
+  pub follows : Follows (IsWholeIn s) s.statements [] marked
 
 -- the journal is the scenario's, up to some statement
 pub record IsLegalTo (s : Scenario) (es : List Entry) : Type 0 where
   pub marked : List Item
   pub so_far : IsTrueJournal s marked es
-  pub follows : FollowsTo s.statements marked
+  pub follows : FollowsTo (IsWholeIn s) s.statements marked
 
 -- the journal has as many entries as it may have, and a further one is due
 pub record IsFullFor (s : Scenario) (es : List Entry) : Type 0 where

@@ -1,24 +1,29 @@
 -- What one statement makes of a world.
 use Rattle.std.specs.Prelude.{◌≡◌, ℕ, ◌+◌, ◌*◌, ◌<◌, ◌≤◌, true, ◌⊎◌, List, [], ◌∷◌, ◌++◌, length, Result, Ok, Err}
+use Rattle.std.specs.List.{AllByRecursion}
 use Rattle.pv_words.specs.declared.entry.Entry.{Entry}
 use Rattle.pv_words.specs.declared.journal.Stop.{Stop}
 use Rattle.pv_words.specs.declared.journal.Stop.TheVariants.{JournalFull, OutOfMemory}
 use Rattle.pv_words.specs.declared.setup.DeviceSetup.{DeviceSetup}
 use Rattle.scenario_text.specs.declared.statement.Statement.{Statement}
 use Rattle.pv_world.specs.declared.world.Placed.{Placed}
-use Rattle.pv_world.specs.Marked.{Item, Entered, entries}
+use Rattle.backend_core.specs.Marked.{Item, Entered, entries}
 use Rattle.pv_words.specs.Place.{InRange}
 use Rattle.pv_words.specs.Port.{IsUnkept, Port}
 use Rattle.scenario_text.specs.declared.statement.Statement.TheVariants.{Put, Fill, Swap, Open, End, Node, Bus, Wake, Back, Serve}
-use Rattle.pv_world.specs.History.{IsHistory, is_declared, parts_by}
+use Rattle.backend_core.specs.History.{IsHistory, IsPromptIn, is_declared, parts_by}
 use Rattle.pv_world.specs.World.{Sight, Stands, setups}
 use Rattle.scenario_run.specs.Follows.{IsRow, IsPartOf}
+
+-- a history in which devices say and refuse without delay
+abbrev pub IsPromptHistory : (frames grants : ℕ → ℕ) → List DeviceSetup → List Item → Type 0
+IsPromptHistory frames grants devices m = IsHistory frames grants devices m × AllByRecursion (IsPromptIn frames grants m) devices
 
 -- the journal is full, and with one entry more it would be a further part of the statement, or the whole of it
 pub record IsFullIn (frames grants : ℕ → ℕ) (devices : List DeviceSetup) (s : Statement) (m part : List Item) (es : List Entry) : Type 0 where
   pub length_is : length es ≡ 8388608
   pub due : Entry
-  pub goes_on : IsHistory frames grants devices (m ++ (part ++ Entered due ∷ []))
+  pub goes_on : IsPromptHistory frames grants devices (m ++ (part ++ Entered due ∷ []))
   pub next : IsPartOf s (part ++ Entered due ∷ []) ⊎ IsRow s (part ++ Entered due ∷ [])
 
 abbrev pub HasCauseIn : (frames grants : ℕ → ℕ) (devices : List DeviceSetup) (s : Statement) (m part : List Item) (es : List Entry) → Stop → Type 0
@@ -29,7 +34,7 @@ HasCauseIn frames grants devices s m part es OutOfMemory = length es < 8388608
 pub record StopsAt (frames grants : ℕ → ℕ) (devices : List DeviceSetup) (s : Statement) (stop : Stop) (m : List Item) (es : List Entry) : Type 0 where
   pub part : List Item
   pub of : IsPartOf s part
-  pub so_far : IsHistory frames grants devices (m ++ part)
+  pub so_far : IsPromptHistory frames grants devices (m ++ part)
   pub entered : entries (m ++ part) ≡ es
   pub cause : HasCauseIn frames grants devices s m part es stop
 

@@ -7,7 +7,7 @@ ghost use Rattle.pv_words.specs.Port.{KeepsNone, KeepsSame};
 ghost use Rattle.pv_words.specs.Sizes.{frames_by, grants_by};
 ghost use Rattle.scenario_text.specs.Playable.{IsPlayable};
 ghost use Rattle.scenario_text.specs.declared.statement.Statement.TheVariants as statement;
-ghost use Rattle.pv_world.specs.Marked.{Item, entries};
+ghost use Rattle.backend_core.specs.Marked.{Item, entries};
 ghost use Rattle.pv_world.specs.World.{Standing, Stands, devices_of, memory_of, setups, sight};
 ghost use Rattle.scenario_run.specs.Legal.{IsLegal, IsLegalTo, IsFullFor};
 ghost use Rattle.scenario_run.specs.Played.{Played, CanPlay};

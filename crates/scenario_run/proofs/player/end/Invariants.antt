@@ -1,6 +1,6 @@
 use Rattle.std.proofs.Common.{◌≡◌, ℕ, List}
 use Rattle.pv_words.specs.Port.{KeepsSame}
-use Rattle.pv_world.specs.Marked.{Item, entries}
+use Rattle.backend_core.specs.Marked.{Item, entries}
 use Rattle.pv_world.specs.World.{Stands, devices_of, memory_of, setups, sight}
 use Rattle.scenario_run.specs.Follows.{closing}
 use Rattle.scenario_run.proofs.Grants.{SoFar}

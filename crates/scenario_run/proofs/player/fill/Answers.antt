@@ -1,6 +1,6 @@
 use Rattle.std.proofs.Common.{◌≡◌, ◌∙◌, ◌+◌, ◌*◌, ◌<◌, ◌++◌, Ok, Err, subst, sym, arith}
 use Rattle.std.proofs.lemmas.Result.{err_from_is_err_and}
-use Rattle.pv_world.specs.Marked.{Item}
+use Rattle.backend_core.specs.Marked.{Item}
 use Rattle.pv_world.specs.World.{Enters, devices_of, memory_of, sight}
 use Rattle.scenario_run.specs.Follows.{stores_of}
 use Rattle.scenario_run.proofs.Fills.{fill_stops, one_more, store_is, word_in_range}
@@ -29,7 +29,7 @@ returns-in_err-put-clause-played g c = λ frames grants m st e.
     let before = c.loop-k.invariant.steps frames grants m st e in
     let stored = c.in_err-put.ensures.stored frames grants (m ++ stores_of f c.loop-k.k) before.0 before.1 in
     let due = subst (λ (i : Item). Enters w frames grants (memory_of c.put.new.self) (devices_of c.put.new.self) i c.put.new.journal.entries (m ++ stores_of f c.loop-k.k) {A = Unit {0}} (Err c.in_err-put.field-0.0)) (store_is f c.from.result c.loop-k.k c.from.ensures) stored in
-    rw (p.1, p.2) (fill_stops w frames grants f (memory_of c.loop-k.world) (devices_of c.loop-k.world) (devices_of c.put.new.self) c.loop-k.k c.loop-k.journal.entries c.put.new.journal.entries m c.in_err-put.field-0.0 c.loop-k-test.true c.put.ensures.devices before due)
+    rw (p.1, p.2) (fill_stops w frames grants f (memory_of c.put.new.self) (devices_of c.put.new.self) c.loop-k.k c.put.new.journal.entries m c.in_err-put.field-0.0 c.loop-k-test.true due)
 
 pub loop-k-preserved : goal.loop-k-preserved
 loop-k-preserved g c =

@@ -3,7 +3,7 @@ use Rattle.std.specs.List.{AllByRecursion}
 use Rattle.pv_words.specs.declared.setup.DeviceSetup.{DeviceSetup}
 use Rattle.pv_words.specs.declared.setup.DomainSize.{DomainSize}
 use Rattle.pv_words.specs.Sizes.{frames_by, grants_by}
-use Rattle.pv_world.specs.History.{AreApart}
+use Rattle.backend_core.specs.History.{AreApart}
 use Rattle.pv_world.specs.World.{HasParts}
 use Rattle.scenario_run.proofs.Devices.{all_known, apart, have_parts}
 use Rattle.scenario_run.proofs.Plays.{nothing_played}

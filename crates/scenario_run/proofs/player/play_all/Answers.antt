@@ -1,6 +1,7 @@
-use Rattle.std.proofs.Common.{◌≡◌, ℕ, ◌<◌, ◌++◌, List, length, take, get_or, sym, subst, ◌∙◌, ap, arith}
+use Rattle.std.proofs.Common.{◌≡◌, ℕ, ◌<◌, ◌++◌, List, [], length, take, get_or, sym, subst, ◌∙◌, ap, arith}
 use Rattle.std.proofs.lemmas.List.{get_or_default, take_all}
 use Rattle.std.proofs.lemmas.Result.{err_from_is_err_and}
+use Rattle.std.specs.List.{AllByRecursion}
 use Rattle.pv_words.specs.declared.journal.Stop.TheVariants.{JournalFull, OutOfMemory}
 use Rattle.pv_words.specs.declared.place.Place.TheVariants.{Cell}
 use Rattle.pv_words.specs.declared.setup.DeviceSetup.{DeviceSetup}
@@ -9,10 +10,12 @@ use Rattle.scenario_text.specs.declared.statement.Statement.{Statement}
 use Rattle.scenario_text.specs.declared.statement.Statement.TheVariants.{Put}
 use Rattle.scenario_text.specs.Playable.{IsPlayed}
 use Rattle.pv_world.specs.World.{setups, devices_of, memory_of}
-use Rattle.pv_world.specs.History.{IsHistory}
+use Rattle.backend_core.specs.History.{IsSettledIn}
 use Rattle.scenario_run.specs.Follows.{Follows}
-use Rattle.scenario_run.specs.Played.{StopsAt}
+use Rattle.scenario_run.specs.Legal.{IsWholeIn}
+use Rattle.scenario_run.specs.Played.{IsPromptHistory, StopsAt}
 use Rattle.scenario_run.proofs.Plays.{all_at, can_play, stops_legal, stops_full, stops_below, follows_push, front_is, true_journal}
+use Rattle.scenario_run.proofs.Wholes.{settled_all}
 use Rattle.scenario_run.proofs.player.play_all.Goals as goal
 
 -- a statement that no list has at a place beyond its end
@@ -81,9 +84,11 @@ loop-statement-preserved g c =
     let xs = c.statements-statements.result.now in
     let x = get_or xs i beyond in
     let inside : i < length s.statements = omega (arith, ap length c.statements-statements.ensures) in
-    let played = c.in_ok-play_statement.ensures.played (frames_by s.sizes) (grants_by s.sizes) inv.0 inv.2 inv.3 in (
+    let played = c.in_ok-play_statement.ensures.played (frames_by s.sizes) (grants_by s.sizes) inv.0 inv.2 inv.3 in
+    let world = c.play_statement.new.world in
+    let whole : IsWholeIn s (inv.0 ++ played.0) = subst (λ (ds : List DeviceSetup). AllByRecursion (IsSettledIn (frames_by s.sizes) (grants_by s.sizes) (inv.0 ++ played.0)) ds) (c.play_statement.ensures.devices ∙ inv.4) (settled_all _ (frames_by s.sizes) (grants_by s.sizes) (memory_of world) (devices_of world) (inv.0 ++ played.0) played.2) in (
       inv.0 ++ played.0,
-      subst (λ (ss : List Statement). Follows ss (inv.0 ++ played.0)) (sym (front_is s i x inside (turn xs s.statements i c.statements-statements.ensures inside))) (follows_push (take i s.statements) x inv.0 played.0 inv.1 played.1),
+      subst (λ (ss : List Statement). Follows (IsWholeIn s) ss [] (inv.0 ++ played.0)) (sym (front_is s i x inside (turn xs s.statements i c.statements-statements.ensures inside))) (follows_push (IsWholeIn s) (take i s.statements) x [] inv.0 played.0 inv.1 played.1 whole),
       played.2,
       played.3,
       c.play_statement.ensures.devices ∙ inv.4,
@@ -97,6 +102,6 @@ returns-clause-ok g c =
     let whole : take c.loop-statement.statement-index s.statements ≡ s.statements = take_all c.loop-statement.statement-index s.statements (omega (arith, ap length c.statements-statements.ensures)) in
     record {
       marked = inv.0;
-      so_far = true_journal s inv.0 c.loop-statement.journal.entries inv.3 (subst (λ (ds : List DeviceSetup). IsHistory (frames_by s.sizes) (grants_by s.sizes) ds inv.0) inv.4 inv.2.so_far);
-      follows = subst (λ (ss : List Statement). Follows ss inv.0) whole inv.1;
+      so_far = true_journal s inv.0 c.loop-statement.journal.entries inv.3 (subst (λ (ds : List DeviceSetup). IsPromptHistory (frames_by s.sizes) (grants_by s.sizes) ds inv.0) inv.4 (inv.2.so_far, inv.2.prompt));
+      follows = subst (λ (ss : List Statement). Follows (IsWholeIn s) ss [] inv.0) whole inv.1;
     }

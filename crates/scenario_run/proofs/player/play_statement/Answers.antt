@@ -1,8 +1,6 @@
-use Rattle.std.proofs.Common.{List, subst, sym}
-use Rattle.pv_world.specs.World.{devices_of, memory_of, setups, sight}
+use Rattle.std.proofs.Common.{subst, sym}
+use Rattle.pv_world.specs.World.{devices_of, memory_of, sight}
 use Rattle.scenario_text.specs.declared.statement.Statement.{Statement}
-use Rattle.pv_words.specs.declared.setup.DeviceSetup.{DeviceSetup}
-use Rattle.pv_world.specs.History.{IsHistory}
 use Rattle.scenario_run.specs.Played.{Played}
 use Rattle.scenario_run.proofs.Plays.{back_played, bus_played, node_played, put_played, serve_played, swap_played, wake_played}
 use Rattle.scenario_run.proofs.player.play_statement.Goals as goal
@@ -11,31 +9,31 @@ pub returns-in-Put-clause-played : goal.returns-in-Put-clause-played
 returns-in-Put-clause-played g c = λ frames grants m st e.
     let w = sight g.W.Machine.word g.W.Words.frames_of g.W.Words.grants_of g.W.Words.port g.W.Machine.whole g.W.Machine.knows_device g.W.Machine.knows_domain in
     subst (λ (s : Statement). Played w frames grants (memory_of c.put.new.self) (devices_of c.put.new.self) s c.put.new.journal.entries m c.put.result) (sym c.in-Put.is)
-    (put_played w frames grants (memory_of c.put.new.self) (devices_of c.put.new.self) c.in-Put.place c.in-Put.v c.put.new.journal.entries m c.put.result (subst (λ (ds : List DeviceSetup). IsHistory frames grants ds m) (sym c.put.ensures.devices) st.so_far) (c.put.ensures.stored frames grants m st e))
+    (put_played w frames grants (memory_of c.put.new.self) (devices_of c.put.new.self) c.in-Put.place c.in-Put.v c.put.new.journal.entries m c.put.result (c.put.ensures.stored frames grants m st e))
 
 pub returns-in-Swap-clause-played : goal.returns-in-Swap-clause-played
 returns-in-Swap-clause-played g c = λ frames grants m st e.
     let w = sight g.W.Machine.word g.W.Words.frames_of g.W.Words.grants_of g.W.Words.port g.W.Machine.whole g.W.Machine.knows_device g.W.Machine.knows_domain in
     subst (λ (s : Statement). Played w frames grants (memory_of c.swap.new.self) (devices_of c.swap.new.self) s c.swap.new.journal.entries m c.swap.result) (sym c.in-Swap.is)
-    (swap_played w frames grants (memory_of c.swap.new.self) (devices_of c.swap.new.self) c.in-Swap.place c.in-Swap.old c.in-Swap.new c.swap.new.journal.entries m c.swap.result (subst (λ (ds : List DeviceSetup). IsHistory frames grants ds m) (sym c.swap.ensures.devices) st.so_far) (c.swap.ensures.exchanged frames grants m st e))
+    (swap_played w frames grants (memory_of c.swap.new.self) (devices_of c.swap.new.self) c.in-Swap.place c.in-Swap.old c.in-Swap.new c.swap.new.journal.entries m c.swap.result (c.swap.ensures.exchanged frames grants m st e))
 
 pub returns-in-Node-clause-played : goal.returns-in-Node-clause-played
 returns-in-Node-clause-played g c = λ frames grants m st e.
     let w = sight g.W.Machine.word g.W.Words.frames_of g.W.Words.grants_of g.W.Words.port g.W.Machine.whole g.W.Machine.knows_device g.W.Machine.knows_domain in
     subst (λ (s : Statement). Played w frames grants (memory_of c.node.new.self) (devices_of c.node.new.self) s c.node.new.journal.entries m c.node.result) (sym c.in-Node.is)
-    (node_played w frames grants (memory_of c.node.new.self) (devices_of c.node.new.self) c.in-Node.dev c.in-Node.part c.in-Node.key c.in-Node.v c.node.new.journal.entries m c.node.result (subst (λ (ds : List DeviceSetup). IsHistory frames grants ds m) (sym c.node.ensures.devices) st.so_far) (c.node.ensures.set frames grants m st e))
+    (node_played w frames grants (memory_of c.node.new.self) (devices_of c.node.new.self) c.in-Node.dev c.in-Node.part c.in-Node.key c.in-Node.v c.node.new.journal.entries m c.node.result (c.node.ensures.set frames grants m st e))
 
 pub returns-in-Bus-clause-played : goal.returns-in-Bus-clause-played
 returns-in-Bus-clause-played g c = λ frames grants m st e.
     let w = sight g.W.Machine.word g.W.Words.frames_of g.W.Words.grants_of g.W.Words.port g.W.Machine.whole g.W.Machine.knows_device g.W.Machine.knows_domain in
     subst (λ (s : Statement). Played w frames grants (memory_of c.bus.new.self) (devices_of c.bus.new.self) s c.bus.new.journal.entries m c.bus.result) (sym c.in-Bus.is)
-    (bus_played w frames grants (memory_of c.bus.new.self) (devices_of c.bus.new.self) c.in-Bus.dev c.in-Bus.state c.bus.new.journal.entries m c.bus.result (subst (λ (ds : List DeviceSetup). IsHistory frames grants ds m) (sym c.bus.ensures.devices) st.so_far) (c.bus.ensures.heard frames grants m st e))
+    (bus_played w frames grants (memory_of c.bus.new.self) (devices_of c.bus.new.self) c.in-Bus.dev c.in-Bus.state c.bus.new.journal.entries m c.bus.result (c.bus.ensures.heard frames grants m st e))
 
 pub returns-in-Wake-clause-played : goal.returns-in-Wake-clause-played
 returns-in-Wake-clause-played g c = λ frames grants m st e.
     let w = sight g.W.Machine.word g.W.Words.frames_of g.W.Words.grants_of g.W.Words.port g.W.Machine.whole g.W.Machine.knows_device g.W.Machine.knows_domain in
     subst (λ (s : Statement). Played w frames grants (memory_of c.wake.new.self) (devices_of c.wake.new.self) s c.wake.new.journal.entries m c.wake.result) (sym c.in-Wake.is)
-    (wake_played w frames grants (memory_of c.wake.new.self) (devices_of c.wake.new.self) c.in-Wake.dev c.wake.new.journal.entries m c.wake.result (subst (λ x. IsHistory frames grants (setups (devices_of x)) m) (sym c.wake.ensures.same) st.so_far) (c.wake.ensures.woken frames grants m st e))
+    (wake_played w frames grants (memory_of c.wake.new.self) (devices_of c.wake.new.self) c.in-Wake.dev c.wake.new.journal.entries m c.wake.result (c.wake.ensures.woken frames grants m st e))
 
 pub returns-in-Back-clause-played : goal.returns-in-Back-clause-played
 returns-in-Back-clause-played g c = λ frames grants m st e.

@@ -7,7 +7,7 @@ use Rattle.report_text.specs.Report.{text}
 use Rattle.scenario_text.specs.Scenario.{Scenario}
 use Rattle.scenario_text.specs.Lines.{lines}
 use Rattle.scenario_text.specs.Reading.{scenario_of, holds_item}
-use Rattle.scenario_io.specs.Script.{GaveAtMost, GaveMany}
+use Rattle.scenario_io.specs.Script.{GaveBlocks, GaveMany}
 use Rattle.scenario_run.specs.Legal.{IsTrueJournal, IsLegal, IsLegalTo, IsFullFor}
 use Rattle.scenario_cli.specs.declared.status.Status.{Status}
 use Rattle.scenario_cli.specs.declared.status.Status.TheVariants as status
@@ -75,10 +75,10 @@ pub record EndsBy (was is : SourceTold) (old new : SinkTold) (es : List Entry) (
   pub no_fault : is.faults ≡ was.faults
   pub ends : EndsFor octets old new es s
 
--- memory was wanting for a script that wasn't read to its end: the source never failed, and no octet came that makes the
--- script too long
+-- memory was wanting for a script that wasn't read to its end: the source never failed, and gave whole blocks of octets, or
+-- none, and no octet that makes the script too long
 pub record EndsUnread (was is : SourceTold) (old new : SinkTold) (es : List Entry) : Type 0 where
-  pub gave : GaveAtMost was.rest is.rest 4194304
+  pub gave : GaveBlocks was.rest is.rest
   pub no_fault : is.faults ≡ was.faults
   pub nothing_done : NothingDone old new es
 

@@ -13,6 +13,7 @@ loop-len-preserved g c =
     record {
       within = below;
       small = omega (arith, c.in_ok-grow.ensures.within);
+      blocks = λ small. c.in_ok-grow.ensures.blocks (c.loop-len.invariant.blocks (omega arith)) (omega arith);
       gave = Gave-refill _ _ _ _ _ _ _ _ _ _ (omega (arith, c.deref_mut.ensures.len)) c.in_ok-len.ensures.fits below (rw kept at c.loop-len.invariant.gave) c.in_ok-len.ensures.gave;
       end = λ short. c.in_ok-len.ensures.end (omega arith);
       steady = c.in_ok-len.ensures.cause.passed ∙ c.loop-len.invariant.steady;

@@ -1,6 +1,6 @@
 //! The script that a program reads.
 
-ghost use Rattle.std.specs.Prelude.{◌≡◌, ℕ, ◌+◌, ◌<◌, ◌≤◌, ◌%◌, List, length, take, Some, IfOk, OnOk, OnErr, IsErrOf, vec_len};
+ghost use Rattle.std.specs.Prelude.{◌≡◌, ℕ, ◌+◌, ◌-◌, ◌<◌, ◌≤◌, ◌%◌, List, length, take, Some, IfOk, OnOk, OnErr, IsErrOf, vec_len};
 ghost use Rattle.pv_ports.specs.Port.{HasCause, Gave, IsAtEnd};
 ghost use Rattle.scenario_io.specs.Script.{GaveAtMost, GaveBlocks, GaveMany, TellsFaults};
 ghost use Rattle.scenario_io.specs.declared.script.ReadError.TheVariants as read_error;
@@ -66,7 +66,7 @@ fn fill<S: Source>(source: &mut S, into: &mut [u8]) -> Result<usize, Failed>
     ensures gave { IfOk result (λ count.
         Gave (S.rest source.old) (S.rest source.new) (take count into.new)) }
     ensures end { IfOk result (λ count. count < length into.new → IsAtEnd (S.rest source.new)) }
-    ensures err { OnErr result (GaveAtMost (S.rest source.old) (S.rest source.new) (length into.old)) }
+    ensures err { OnErr result (GaveAtMost (S.rest source.old) (S.rest source.new) (length into.old - 1)) }
     ensures cause { HasCause (S.faults source.old) (S.faults source.new) result }
 {
     let mut done = 0;
@@ -102,6 +102,10 @@ pub fn read_script<S: Source>(alloc: Global, source: &mut S) -> Result<Vec<u8>, 
 
     // The source failed exactly where that is the answer.
     ensures faults { TellsFaults (S.faults source.old) (S.faults source.new) result }
+
+    // A fault hides no script that is too long.
+    ensures failed { IsErrOf result ReadError.Failed
+        → GaveAtMost (S.rest source.old) (S.rest source.new) SCRIPT_LIMIT }
 
     // Memory is asked for before the first octet and behind whole blocks, and hides no script that is too long.
     ensures wanting { IsErrOf result ReadError.OutOfMemory

@@ -7,7 +7,7 @@ use Rattle.report_text.specs.Report.{text}
 use Rattle.scenario_text.specs.Scenario.{Scenario}
 use Rattle.scenario_text.specs.Lines.{lines}
 use Rattle.scenario_text.specs.Reading.{scenario_of, holds_item}
-use Rattle.scenario_io.specs.Script.{GaveAtMost, GaveMany}
+use Rattle.scenario_io.specs.Script.{GaveAtMost, GaveBlocks, GaveMany}
 use Rattle.scenario_run.specs.Legal.{IsTrueJournal, IsLegal, IsLegalTo, IsFullFor}
 use Rattle.scenario_cli.specs.declared.status.Status.{Status}
 use Rattle.scenario_cli.specs.declared.status.Status.TheVariants as status
@@ -60,9 +60,11 @@ WantsMemoryAt octets es =
 abbrev pub EndsFor : (octets : List ℕ) (old new : SinkTold) (es : List Entry) → Status → Type 0
 EndsFor octets old new es status.Ok = (s : Scenario) × (scenario_of octets ≡ ok s) × IsLegal s es × IsWritten old new (text es false)
 EndsFor octets old new es (status.Script f) = (scenario_of octets ≡ err f) × NothingDone old new es
-EndsFor octets old new es status.WriteFault = Rose old.faults new.faults × IsJournalFor octets es × AppendedPrefix old.bytes new.bytes (text es false)
+EndsFor octets old new es status.WriteFault =
+    Rose old.faults new.faults × IsJournalFor octets es × AppendedPrefix old.bytes new.bytes (text es false)
 EndsFor octets old new es status.OutOfMemory = WantsMemoryAt octets es × (new ≡ old)
-EndsFor octets old new es status.JournalFull = (s : Scenario) × (scenario_of octets ≡ ok s) × IsFullFor s es × IsLegalTo s es × IsWritten old new (text es false)
+EndsFor octets old new es status.JournalFull =
+    (s : Scenario) × (scenario_of octets ≡ ok s) × IsFullFor s es × IsLegalTo s es × IsWritten old new (text es false)
 EndsFor octets old new es status.Usage = ⊥
 EndsFor octets old new es status.ReadFault = ⊥
 EndsFor octets old new es status.TooLong = ⊥
@@ -75,17 +77,17 @@ pub record EndsBy (was is : SourceTold) (old new : SinkTold) (es : List Entry) (
   pub no_fault : is.faults ≡ was.faults
   pub ends : EndsFor octets old new es s
 
--- memory was wanting for a script that wasn't read to its end: the source never failed, and no octet came that makes the
--- script too long
+-- memory was wanting for a script that wasn't read to its end: the source never failed, and gave whole blocks of octets, or
+-- none, and no octet that makes the script too long
 pub record EndsUnread (was is : SourceTold) (old new : SinkTold) (es : List Entry) : Type 0 where
-  pub gave : GaveAtMost was.rest is.rest 4194304
+  pub gave : GaveBlocks was.rest is.rest
   pub no_fault : is.faults ≡ was.faults
   pub nothing_done : NothingDone old new es
 
 -- how a command ends: by status, with what the source was and is, and what the sink was and is
 abbrev pub Ends : (was is : SourceTold) (old new : SinkTold) (es : List Entry) → Status → Type 0
 Ends was is old new es status.Usage = (is ≡ was) × NothingDone old new es
-Ends was is old new es status.ReadFault = Rose was.faults is.faults × NothingDone old new es
+Ends was is old new es status.ReadFault = GaveAtMost was.rest is.rest 4194304 × Rose was.faults is.faults × NothingDone old new es
 Ends was is old new es status.TooLong = GaveMany was.rest is.rest 4194305 × (is.faults ≡ was.faults) × NothingDone old new es
 Ends was is old new es status.OutOfMemory = EndsUnread was is old new es ⊎ EndsBy was is old new es status.OutOfMemory
 Ends was is old new es status.Ok = EndsBy was is old new es status.Ok

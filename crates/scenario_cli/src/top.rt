@@ -46,8 +46,9 @@ fn play_text<K: Sink>(alloc: Global, text: &[u8], sink: &mut K, journal: &mut Jo
 
 /// Does what the words ask for: with `run`, it reads a script to its end, plays it into the journal, and then writes the
 /// report, one line at a time. With `Usage`, `Script`, `ReadFault` and `TooLong` nothing is played or written, and with
-/// `Usage` nothing is read. Want of memory hides no fault of the source or the sink, no script that is too long, and no
-/// fault in a script of which no line before holds a declaration or a statement.
+/// `Usage` nothing is read. Want of memory hides no fault of the source or the sink and no script that is too long. It is
+/// told where reading needs room for a further block of octets, for what a line of the script before its first fault
+/// holds, or in the play.
 #[tactic(auto, using(crate::proofs::Playing::has_played))]
 pub fn run<S: Source, K: Sink>(
     alloc: Global,

@@ -11,5 +11,5 @@ pub AppendedPrefix-line : (old mid new : Option (List ℕ)) (entries before rest
 AppendedPrefix-line old mid new entries before rest behind with_words entry piece along next is written front =
     let first : AppendedPrefix mid new (line entry with_words) = rw is at front in
     let split : text entries with_words ≡ text before with_words ++ (line entry with_words ++ text behind with_words) =
-        ap (λ es. text es with_words) (along ∙ ap (λ es. before ++ es) next) ∙ flat_map-append (λ e. line e with_words) before (entry ∷ behind) in
+    ap (λ es. text es with_words) (along ∙ ap (λ es. before ++ es) next) ∙ flat_map-append (λ e. line e with_words) before (entry ∷ behind) in
     rw split (AppendedPrefix-append old mid new (text before with_words) (line entry with_words ++ text behind with_words) written (AppendedPrefix-longer mid new (line entry with_words) (text behind with_words) first))

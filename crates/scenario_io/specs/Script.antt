@@ -1,5 +1,5 @@
 -- What is read of a source.
-use Rattle.std.specs.Prelude.{◌≡◌, ℕ, ◌≤◌, List, length, Option, Result, Ok, Err}
+use Rattle.std.specs.Prelude.{◌≡◌, ℕ, ◌≤◌, ◌%◌, List, length, Option, Result, Ok, Err}
 use Rattle.pv_ports.specs.Port.{Gave, Rose}
 use Rattle.scenario_io.specs.declared.script.ReadError.{ReadError}
 use Rattle.scenario_io.specs.declared.script.ReadError.TheVariants.{Failed, TooLong, OutOfMemory}
@@ -14,6 +14,13 @@ pub record GaveMany (old new : Option (List ℕ)) (count : ℕ) : Type 0 where
 pub record GaveAtMost (old new : Option (List ℕ)) (limit : ℕ) : Type 0 where
   pub octets : List ℕ
   pub few : length octets ≤ limit
+  pub gave : Gave old new octets
+
+-- the source gave so many whole blocks of 65536 octets as a script may have, or none
+pub record GaveBlocks (old new : Option (List ℕ)) : Type 0 where
+  pub octets : List ℕ
+  pub whole : length octets % 65536 ≡ 0
+  pub few : length octets ≤ 4194304
   pub gave : Gave old new octets
 
 -- how the source's count of faults stands after a result: it rose where the source failed, and is as it was after any other

@@ -1,8 +1,8 @@
 //! The script that a program reads.
 
-ghost use Rattle.std.specs.Prelude.{◌≡◌, ℕ, ◌+◌, ◌<◌, ◌≤◌, List, length, take, Some, IfOk, OnOk, OnErr, IsErrOf, vec_len};
+ghost use Rattle.std.specs.Prelude.{◌≡◌, ℕ, ◌+◌, ◌-◌, ◌<◌, ◌≤◌, ◌%◌, List, length, take, Some, IfOk, OnOk, OnErr, IsErrOf, vec_len};
 ghost use Rattle.pv_ports.specs.Port.{HasCause, Gave, IsAtEnd};
-ghost use Rattle.scenario_io.specs.Script.{GaveAtMost, GaveMany, TellsFaults};
+ghost use Rattle.scenario_io.specs.Script.{GaveAtMost, GaveBlocks, GaveMany, TellsFaults};
 ghost use Rattle.scenario_io.specs.declared.script.ReadError.TheVariants as read_error;
 
 use pv_ports::{Failed, Source};
@@ -51,6 +51,9 @@ fn grow(buffer: &mut Vec<u8>) -> Result<(), AllocError>
     ensures kept { OnOk result (take (vec_len buffer.old) buffer.new.items ≡ buffer.old.items) }
     ensures longer { OnOk result (vec_len buffer.old < vec_len buffer.new) }
     ensures within { OnOk result (vec_len buffer.new ≤ SCRIPT_LIMIT + 1) }
+    ensures blocks { OnOk result (vec_len buffer.old % FIRST_ROOM ≡ 0
+        → vec_len buffer.new ≤ SCRIPT_LIMIT
+        → vec_len buffer.new % FIRST_ROOM ≡ 0) }
 {
     let room = (buffer.len() * 2).clamp(FIRST_ROOM, SCRIPT_LIMIT + 1);
     buffer.resize(room, 0)
@@ -63,7 +66,7 @@ fn fill<S: Source>(source: &mut S, into: &mut [u8]) -> Result<usize, Failed>
     ensures gave { IfOk result (λ count.
         Gave (S.rest source.old) (S.rest source.new) (take count into.new)) }
     ensures end { IfOk result (λ count. count < length into.new → IsAtEnd (S.rest source.new)) }
-    ensures err { OnErr result (GaveAtMost (S.rest source.old) (S.rest source.new) (length into.old)) }
+    ensures err { OnErr result (GaveAtMost (S.rest source.old) (S.rest source.new) (length into.old - 1)) }
     ensures cause { HasCause (S.faults source.old) (S.faults source.new) result }
 {
     let mut done = 0;
@@ -100,9 +103,13 @@ pub fn read_script<S: Source>(alloc: Global, source: &mut S) -> Result<Vec<u8>, 
     // The source failed exactly where that is the answer.
     ensures faults { TellsFaults (S.faults source.old) (S.faults source.new) result }
 
-    // With so few octets want of memory hides no script that is too long.
-    ensures wanting { IsErrOf result ReadError.OutOfMemory
+    // A fault hides no script that is too long.
+    ensures failed { IsErrOf result ReadError.Failed
         → GaveAtMost (S.rest source.old) (S.rest source.new) SCRIPT_LIMIT }
+
+    // Memory is asked for before the first octet and behind whole blocks, and hides no script that is too long.
+    ensures wanting { IsErrOf result ReadError.OutOfMemory
+        → GaveBlocks (S.rest source.old) (S.rest source.new) }
 
     // Whatever the result, no more is taken than shows that a script is too long.
     ensures takes { GaveAtMost (S.rest source.old) (S.rest source.new) (SCRIPT_LIMIT + 1) }

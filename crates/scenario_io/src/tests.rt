@@ -3,7 +3,8 @@ ghost use Rattle.std.specs.Prelude.{None};
 
 use super::*;
 use pv_ports::{Failed, ListSink, ListSource, Source};
-use pv_words::{DevId, Entry, Said};
+use pv_words::{DevId, Entry, Journal, Said};
+use std::alloc::{AllocError, Global};
 use std::test::Fail;
 
 // A source of `#` octets without an end.
@@ -62,12 +63,13 @@ fn errors_have_texts(rt: HostRuntime) -> Result<(), Fail> {
     Ok(())
 }
 
-// The entries of a request and of its reply.
-fn request_and_reply() -> [Entry; 2] {
-    [
-        Entry::Said(DevId(1), Said::Request(0, 1, 4)),
-        Entry::Said(DevId(1), Said::Replied(0, 1, 0, true)),
-    ]
+// A journal of a request and of its reply.
+fn request_and_reply(alloc: Global) -> Result<Journal, AllocError> {
+    let mut journal = Journal::new(alloc);
+    journal.reserve(2)?;
+    journal.push(Entry::Said(DevId(1), Said::Request(0, 1, 4)));
+    journal.push(Entry::Said(DevId(1), Said::Replied(0, 1, 0, true)));
+    Ok(journal)
 }
 
 #[test]
@@ -75,10 +77,8 @@ fn a_report_has_a_line_an_entry(rt: HostRuntime) -> Result<(), Fail> {
     let alloc = rt.alloc();
     let mut sink = ListSink::new(alloc, Vec::new(alloc));
     sink.reserve(100)?;
-    assert_eq!(rt;
-        write_report(&mut sink, &request_and_reply(), false),
-        Ok(())
-    );
+    let journal = request_and_reply(alloc)?;
+    assert_eq!(rt; write_report(&mut sink, &journal, false), Ok(()));
     let wanted = b"request 1 0 1 4\nreply 1 0 1 0 notify\n";
     assert_eq!(rt; sink.as_slice(), wanted.as_slice());
     Ok(())
@@ -89,8 +89,8 @@ fn a_report_ends_at_a_fault(rt: HostRuntime) -> Result<(), Fail> {
     let alloc = rt.alloc();
     let mut sink = ListSink::new(alloc, vec![in alloc; 1u64]?);
     sink.reserve(100)?;
-    let result = write_report(&mut sink, &request_and_reply(), false);
-    assert_eq!(rt; result, Err(Failed));
+    let journal = request_and_reply(alloc)?;
+    assert_eq!(rt; write_report(&mut sink, &journal, false), Err(Failed));
     assert_eq!(rt; sink.as_slice(), b"request 1 0 1 4\n".as_slice());
     Ok(())
 }

@@ -374,3 +374,17 @@ fn faults_of_statements_of_devices(rt: HostRuntime) {
         assert_eq!(rt; fault_of(&rt, parsed), (3, column, kind), "at {column}");
     }
 }
+
+#[test]
+fn faults_have_texts(rt: HostRuntime) -> Result<(), Fail> {
+    let fault = ScriptFault {
+        line: 3,
+        column: 5,
+        kind: FaultKind::BadByte,
+    };
+    let text = ParseFault::Fault(fault).to_string(rt.alloc())?;
+    assert_eq!(rt; text.as_str(), "line 3, column 5: BadByte");
+    let text = ParseFault::OutOfMemory.to_string(rt.alloc())?;
+    assert_eq!(rt; text.as_str(), "out of memory");
+    Ok(())
+}

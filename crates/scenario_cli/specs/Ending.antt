@@ -2,7 +2,7 @@
 use Rattle.std.specs.Prelude.{◌≡◌, ◌<◌, ℕ, ◌≤◌, ◌⊎◌, Bool, true, false, List, [], ◌∷◌, length, codes, Option, Ok as ok, Err as err, String, string_bytes, bytes_eq}
 use Rattle.pv_words.specs.declared.entry.Entry.{Entry}
 use Rattle.pv_ports.specs.Port.{Gave, IsAtEnd, Appended, AppendedPrefix, Rose}
-use Rattle.pv_world.specs.Marked.{Item}
+use Rattle.backend_core.specs.Marked.{Item}
 use Rattle.report_text.specs.Report.{text}
 use Rattle.scenario_text.specs.Scenario.{Scenario}
 use Rattle.scenario_text.specs.Lines.{lines}

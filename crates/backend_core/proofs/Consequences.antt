@@ -1,6 +1,4 @@
 -- What is so of every history.
-use Rattle.std.proofs.Common.{List}
-use Rattle.pv_words.specs.Plan.{Want}
 use Rattle.pv_words.specs.Port.{PortMay}
 use Rattle.pv_words.proofs.Listing.{port_may}
 use Rattle.backend_core.specs.History.{AnswersIn, IsExplainedIn, IsMachineRunIn, KeepsIn, held_after}

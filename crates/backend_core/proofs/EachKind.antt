@@ -1,5 +1,5 @@
 -- What is so of devices of every kind, from what is so of each kind's order of work.
-use Rattle.std.proofs.Common.{◌≡◌, ℕ, true, List, [], ◌∷◌, ◌++◌, Option, Some, None, refl, sym, subst, ◌∙◌, ap, append_assoc, append-nil}
+use Rattle.std.proofs.Common.{◌≡◌, ℕ, List, [], ◌∷◌, ◌++◌, Option, Some, None, refl, sym, subst, ◌∙◌, ap, append-nil}
 use Rattle.pv_words.specs.declared.access.Access.{Access}
 use Rattle.pv_words.specs.declared.device.HostEvent.{HostEvent}
 use Rattle.pv_words.specs.declared.device.HostRefusal.{HostRefusal}
@@ -11,7 +11,7 @@ use Rattle.pv_words.specs.Along.{after, Along, after-append, Along-append}
 use Rattle.pv_words.specs.Held.{Holds, Made, IsProper, holding, holds_of, KeepsToGrants}
 use Rattle.pv_words.specs.Memory.{zeros}
 use Rattle.pv_words.specs.Plan.{Plan, Finished, Make, Note, Want, MayGo, wanted}
-use Rattle.device_core.specs.Machine.{Happening, HappensTo, IsRun, Reading}
+use Rattle.device_core.specs.Machine.{Happening, HappensTo, IsRun}
 use Rattle.device_core.specs.Order as order
 use Rattle.device_core.specs.Order.{Own, Did, Spoke, Heard, Hosts, Refused, Stand, Between, Station, MayStep, at_stand, due_at, followed, made_by, note_at, steps_of}
 use Rattle.device_core.specs.Site.{Site}
@@ -19,16 +19,16 @@ use Rattle.device_core.proofs.MachineRun.{IsGood, good_after, may_step, memory_l
 use Rattle.device_core.proofs.Passing.{news_may_come}
 use Rattle.device_core.proofs.Stations.{AreHeard, AreOthers, due_heard, heard_made, made_append, others_follow, others_made, station_is, told_is_due}
 use Rattle.display_backend.specs.Display as screen
-use Rattle.display_backend.specs.Machine.{Rows, Event}
+use Rattle.display_backend.specs.Machine.{Event}
 use Rattle.display_backend.specs.Waiting.{is_for}
-use Rattle.display_backend.specs.Work.{Work, End, Naming, choice, display, first_naming, first_work, reading}
+use Rattle.display_backend.specs.Work.{Work, End, choice, display, first_naming, first_work, reading}
 use Rattle.display_backend.proofs.Sound.{sound, first_good, first_named}
 use Rattle.backend_core.specs.declared.device.Device.{Device}
 use Rattle.backend_core.specs.declared.device.Device.TheVariants.{Display}
 use Rattle.backend_core.specs.Device as backend
 use Rattle.backend_core.specs.Device.{GoesOn, IsDisplay, MayMakeNext, StandsFor}
 use Rattle.backend_core.specs.History.{held_after, site_of}
-use Rattle.backend_core.specs.Kinds.{AnswersAll, Continues, IsExplained, IsMachineRun, IsSettled, display_events, display_station, due_after, first_snapshot, machine, made_after, owed_after, parts_of, takes_event}
+use Rattle.backend_core.specs.Kinds.{AnswersAll, Continues, IsExplained, IsMachineRun, IsSettled, display_station, due_after, first_snapshot, machine, made_after, owed_after, parts_of, takes_event}
 use Rattle.backend_core.proofs.Answers.{answers_then}
 
 pub along_front : {S E : Type 0} (step : S → E → S) (may : S → E → Type 0) (s : S) (es fs : List E) → Along step may s (es ++ fs) → Along step may s es
@@ -187,6 +187,24 @@ may_weaker may also f site (Display d) h = steps_weaker (screen.stand_of site d)
     steps_weaker (Between w) g = chooses_weaker (choice site w) g
     steps_weaker (order.During w p) g = goes_weaker p g
     steps_weaker (order.Telling t w o) g = tt
+
+-- where every access may be made, every step may
+pub may_any : (site : Site) (d : Device) → MayMakeNext (λ want. Unit {0}) site d
+may_any site (Display d) = steps_any (screen.stand_of site d)
+  where
+    goes_any : {A : Type 0} (p : Plan A) → MayGo (λ want. Unit {0}) p
+    goes_any (Finished x) = tt
+    goes_any (Make want note more) = tt
+
+    chooses_any : (c : order.Order Work End) → order.MayChoose (λ want. Unit {0}) c
+    chooses_any (order.Act v p) = goes_any p
+    chooses_any (order.Either v p u q) = (goes_any p, goes_any q)
+    chooses_any (order.Rest v) = tt
+
+    steps_any : (x : Stand Work End) → MayStep (λ want. Unit {0}) (display site) x
+    steps_any (Between w) = chooses_any (choice site w)
+    steps_any (order.During w p) = goes_any p
+    steps_any (order.Telling t w o) = tt
 
 -- what a device is tells its domain and its parts
 pub dom_of_one : (k : DeviceKind) (site : Site) (d : Device) (es : List Own) → StandsFor k site d es → backend.dom_of d ≡ site.dom

@@ -69,7 +69,7 @@ impl Words for Domain {
     }
 }
 
-#[tactic(auto, using(crate::proofs::Hears::may_step_any))]
+#[tactic(auto, using(crate::proofs::EachKind::may_any))]
 fn steps(device: &mut Device, words: &mut Domain) -> Step {
     device.step(words)
 }

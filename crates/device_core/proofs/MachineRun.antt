@@ -9,9 +9,9 @@ use Rattle.pv_words.specs.Along.{after, Along}
 use Rattle.pv_words.specs.Held.{Holds, Made}
 use Rattle.pv_words.specs.Memory.{Memory, place_of, written, zeros}
 use Rattle.pv_words.specs.Plan.{Plan, Finished, Make, Want, Note, FitsFrom, MayGo, wanted, seen_by, found}
-use Rattle.device_core.specs.Order.{News, Sets, Hosts, Own, Did, Spoke, Rested, Heard, Refused, Others, Order, Act, Either, Rest, Rules, Stand, Between, During, Telling, Station, Offers, is_in_page, picked, work_at, ended, going, begun, gone, told, next, May, MayBegin, MayGoOn, refused_by, owed, at_stand, followed, follow, MayFollow, MayFollowWith, IsExplained, MayStep, MayChoose, note_of, note_in, note_at, made_by}
+use Rattle.device_core.specs.Order.{News, Own, Did, Spoke, Rested, Heard, Refused, Others, Order, Act, Either, Rest, Rules, Stand, Between, During, Telling, Station, Offers, is_in_page, picked, work_at, ended, going, begun, gone, told, next, May, MayBegin, MayGoOn, refused_by, owed, followed, follow, MayFollowWith, IsExplained, MayStep, MayChoose, note_of, note_in, note_at, made_by}
 use Rattle.device_core.specs.Names.{words_at, all_drawn}
-use Rattle.device_core.specs.Machine.{Reading, Snapshot, Row, Refuses, HappensTo, IsRun, Stays, Moves, Sound, shown, row_of, draws, happens_first, happens_in, happens_told, happens_at, happens_by, happens, named_first, named_told, named_next, named_by, memory_next, history}
+use Rattle.device_core.specs.Machine.{Reading, Snapshot, Row, HappensTo, IsRun, Stays, Moves, Sound, shown, row_of, draws, happens_first, happens_in, happens_told, happens_at, happens_by, happens, named_first, named_told, named_next, named_by, memory_next, history}
 use Rattle.device_core.proofs.Drawing.{draws_run}
 use Rattle.device_core.proofs.Runs.{run_joins}
 

@@ -6,7 +6,7 @@ use Rattle.pv_words.specs.declared.device.HostRefusal.{HostRefusal}
 use Rattle.pv_words.specs.declared.device.Said.{Said}
 use Rattle.pv_words.specs.Along.{after}
 use Rattle.pv_words.specs.Held.{Made}
-use Rattle.device_core.specs.Order.{News, Own, Did, Spoke, Rested, Heard, Hosts, Refused, Others, Rules, Stand, Between, During, Telling, Station, Steps, MayTell, at_stand, due_at, followed, next, note_at, made_by, refused_by, steps_of, work_at, IsExplained}
+use Rattle.device_core.specs.Order.{News, Own, Did, Spoke, Rested, Heard, Hosts, Refused, Others, Rules, Stand, Between, During, Telling, Station, Steps, at_stand, due_at, followed, next, note_at, made_by, refused_by, steps_of, work_at, IsExplained}
 use Rattle.device_core.proofs.Passing.{news_may_come, others_may_pass, others_pass}
 
 -- nothing but accesses of others

@@ -8,7 +8,7 @@ use Rattle.pv_words.specs.Held.{Holds}
 use Rattle.pv_words.specs.Memory.{Memory, written}
 use Rattle.pv_words.specs.Plan.{Plan, Finished, Make, Want, Note, FitsFrom}
 use Rattle.device_core.specs.Names.{Name, Drawn, Stroke, Redraws, Loses, words_at, all_drawn, writing_of, strokes_by, with_name}
-use Rattle.device_core.specs.Order.{News, Own, Did, Spoke, Heard, Refused, Others, Order, Act, Either, Rest, Rules, Stand, Between, During, Telling, Station, Offers, followed, picked, refused_by}
+use Rattle.device_core.specs.Order.{News, Own, Did, Spoke, Heard, Refused, Others, Order, Act, Rest, Rules, Stand, Between, During, Telling, Station, Offers, followed, picked, refused_by}
 
 -- a table of rows: which happening leads from which rows to which, the number of the name that it makes, if it does, and the
 -- refusal that it leaves owed, if it is an event of the host that is refused

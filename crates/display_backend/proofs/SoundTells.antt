@@ -25,7 +25,6 @@ use Rattle.display_backend.specs.declared.display.Progress.TheVariants as progre
 use Rattle.display_backend.specs.declared.waiting.Waiting.{Waiting}
 use Rattle.display_backend.specs.declared.waiting.Waiting.TheVariants as waiting
 use Rattle.host_events.specs.Queue.{behind}
-use Rattle.device_core.specs.Site.{Site}
 use Rattle.display_backend.specs.Machine.{Rows, Hand, Event, Says, Enters, Serves, is_accepted}
 use Rattle.display_backend.specs.Machine as machine
 use Rattle.display_backend.specs.Work.{Work, Naming, End, Saw, Took, Listed, Freed, Answered, Slept, Met, Denied, Lacked, Shut, Left, Renewed, Served, settled, said_of, said_at, shut, entered, after_look, after_sleep, after_answer, after_walk, denied_by, status_of, is_denied, replied_in, reading, rows_of, names_of, named_after, named_by, unnamed, made_at, made_by, taken_at, live_names}

@@ -17,9 +17,7 @@ use displ_wire::Request;
 use host_events::Queue;
 use link_core::Link;
 use page_directory::Walk;
-use pv_words::{
-    DevId, DomId, GrantRefusal, Hold, HostEvent, HostRefusal, Reason, State, Words,
-};
+use pv_words::{DevId, DomId, GrantRefusal, Hold, HostEvent, HostRefusal, Reason, State, Words};
 use std::alloc::{AllocError, Global};
 use xenbus_states::{Action, Back, Nodes};
 

@@ -1,5 +1,4 @@
-use Rattle.std.proofs.Common.{◌≡◌, List, Some, refl, sym, ap, ◌∙◌}
-use Rattle.pv_words.specs.declared.device.HostRefusal.TheVariants.{NotConnected}
+use Rattle.std.proofs.Common.{◌≡◌, List, refl, sym, ap, ◌∙◌}
 use Rattle.pv_words.specs.declared.device.State.TheVariants as state
 use Rattle.device_core.specs.Order.{Hosts}
 use Rattle.display_backend.specs.declared.waiting.Waiting.{Waiting}

@@ -86,6 +86,11 @@ told_due (kind.Display n) site es a t u h c e =
     let is = station_more site es (Did a ∷ []) ∙ ap (λ p. followed (display site) p (Did a)) (station_settled n site es h) in
     told_is_due (display site) there.stand t u x.1 (sym (ap (λ (p : Station Work End). due_at p.stand) is) ∙ e)
 
+-- and the event that rides on the access is due behind it
+pub rides_after : (n : ℕ) (site : Site) (es : List Own) (a : Access) (said : Option Said) → IsSettled (kind.Display n) site es → said ≡ due_at (order.next (display site) (display_station site es).stand (Did a)) → said ≡ due_after (kind.Display n) site (es ++ Did a ∷ [])
+rides_after n site es a said h e =
+    e ∙ sym (ap (λ (p : Station Work End). due_at p.stand) (station_more site es (Did a ∷ []) ∙ ap (λ p. followed (display site) p (Did a)) (station_settled n site es h)))
+
 -- an access leaves no refusal owed
 pub did_owes : (k : DeviceKind) (site : Site) (es : List Own) (a : Access) → IsSettled k site es → owed_after k site (es ++ Did a ∷ []) ≡ None
 did_owes (kind.Display n) site es a h =

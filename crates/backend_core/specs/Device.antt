@@ -1,12 +1,14 @@
 -- What a device stands for, by its kind, and what its calls make of that.
-use Rattle.std.specs.Prelude.{◌≡◌, ℕ, Bool, List, [], ◌∷◌, ◌++◌, Result, Ok, Err}
+use Rattle.std.specs.Prelude.{◌≡◌, ℕ, Bool, List, [], ◌∷◌, ◌++◌, Option, Some, Result, Ok, Err}
+use Rattle.pv_words.specs.declared.access.Access.{Access}
 use Rattle.pv_words.specs.declared.device.HostEvent.{HostEvent}
 use Rattle.pv_words.specs.declared.device.HostRefusal.{HostRefusal}
+use Rattle.pv_words.specs.declared.device.Said.{Said}
 use Rattle.pv_words.specs.declared.grant.Hold.{Hold}
 use Rattle.pv_words.specs.declared.setup.DeviceKind.{DeviceKind}
 use Rattle.pv_words.specs.declared.setup.DeviceKind.TheVariants as kind
 use Rattle.pv_words.specs.Plan.{Want}
-use Rattle.device_core.specs.Order.{Own, Heard, Hosts, Refused, MayStep}
+use Rattle.device_core.specs.Order.{Own, Did, Heard, Hosts, Refused, MayStep}
 use Rattle.device_core.specs.Site.{Site}
 use Rattle.display_backend.specs.declared.display.Display.{Display as Screen}
 use Rattle.display_backend.specs.Display as display
@@ -14,7 +16,7 @@ use Rattle.display_backend.specs.Waiting.{is_for}
 use Rattle.display_backend.specs.Work as work
 use Rattle.backend_core.specs.declared.device.Device.{Device}
 use Rattle.backend_core.specs.declared.device.Device.TheVariants.{Display}
-use Rattle.backend_core.specs.Kinds.{Continues, IsSettled, display_station}
+use Rattle.backend_core.specs.Kinds.{Continues, IsSettled, display_station, due_after}
 
 -- its number
 abbrev pub dev_of : Device → ℕ
@@ -70,6 +72,11 @@ Adds old more new =
 abbrev pub AddsAt : Site → Device → List Own → Device → Type 0
 AddsAt site old more new =
     (kind : DeviceKind) (es : List Own) → StandsFor kind site old es → IsSettled kind site es → GoesOn kind site es more new
+
+-- With an access just the event is said that rides on it.
+abbrev pub RidesAt : Site → Device → Option Access → Option Said → Type 0
+RidesAt site old access said =
+    (kind : DeviceKind) (es : List Own) (a : Access) → StandsFor kind site old es → IsSettled kind site es → access ≡ Some a → said ≡ due_after kind site (es ++ Did a ∷ [])
 
 -- an event of the host, and its refusal, where it is refused
 abbrev pub hosted : HostEvent → Result (Unit {0}) HostRefusal → List Own

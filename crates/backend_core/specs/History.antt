@@ -16,7 +16,7 @@ use Rattle.device_core.specs.Order.{Own}
 use Rattle.device_core.specs.Site.{Site}
 use Rattle.backend_core.specs.Kinds as kinds
 use Rattle.backend_core.specs.Kinds.{parts_of, takes_event, made_after}
-use Rattle.backend_core.specs.Marked.{Item, Entered, Idle, entries, entry_of, own}
+use Rattle.backend_core.specs.Marked.{Item, Entered, Idle, entries, entry_of, nodes_in, own, told_in}
 
 -- whose device it is, of domains with so many frames and grant entries
 abbrev pub site_of : (frames grants : ℕ → ℕ) → DeviceSetup → Site
@@ -88,6 +88,21 @@ IsDirect dev None None i = Unit {0}
 abbrev pub IsPromptIn : (frames grants : ℕ → ℕ) → List Item → DeviceSetup → Type 0
 IsPromptIn frames grants m s =
     AtEach (λ before i. IsDirect s.dev (kinds.due_after s.kind (site_of frames grants s) (own s.dev.0 before)) (kinds.owed_after s.kind (site_of frames grants s) (own s.dev.0 before)) i) m
+
+-- the event that rides on the last access of the device of this number
+abbrev pub due_by : (frames grants : ℕ → ℕ) → List DeviceSetup → ℕ → List Item → Option Said
+due_by frames grants [] d m = None
+due_by frames grants (s ∷ ss) d m = if s.dev.0 == d then kinds.due_after s.kind (site_of frames grants s) (own d m) else due_by frames grants ss d m
+
+-- By this item a device begins to answer that memory was wanting.
+abbrev pub wants_in : (frames grants : ℕ → ℕ) → List Item → Item → DeviceSetup → Bool
+wants_in frames grants before i s =
+    list_any (λ o. kinds.wants_memory s.kind (site_of frames grants s) (own s.dev.0 before) o) (told_in s.dev.0 (nodes_in s.dev.0 before) i)
+
+-- at no place of the journal does a device do so
+abbrev pub IsAmple : (frames grants : ℕ → ℕ) → List DeviceSetup → List Item → Type 0
+IsAmple frames grants devices m =
+    (before rest : List Item) (i : Item) → m ≡ before ++ i ∷ rest → AllByRecursion (λ s. wants_in frames grants before i s ≡ false) devices
 
 -- no event of the device is still to be said, and no refusal to be told
 abbrev pub IsSettledIn : (frames grants : ℕ → ℕ) → List Item → DeviceSetup → Type 0

@@ -1,6 +1,6 @@
 -- What a device is, by its kind: which work is explained, where it leaves the device, and which machine runs by it. Here alone
 -- the kinds are told apart.
-use Rattle.std.specs.Prelude.{◌≡◌, ℕ, pos, Bool, false, List, [], ◌++◌, Option, Some, None}
+use Rattle.std.specs.Prelude.{◌≡◌, ℕ, pos, Bool, List, [], ◌++◌, Option, Some, None}
 use Rattle.pv_words.specs.declared.device.HostEvent.{HostEvent}
 use Rattle.pv_words.specs.declared.device.HostRefusal.{HostRefusal}
 use Rattle.pv_words.specs.declared.device.Said.{Said}
@@ -8,7 +8,7 @@ use Rattle.pv_words.specs.declared.setup.DeviceKind.{DeviceKind}
 use Rattle.pv_words.specs.declared.setup.DeviceKind.TheVariants.{Display}
 use Rattle.pv_words.specs.Along.{after}
 use Rattle.pv_words.specs.Held.{Made}
-use Rattle.pv_words.specs.Memory.{zeros, place_of}
+use Rattle.pv_words.specs.Memory.{zeros}
 use Rattle.device_core.specs.Order as order
 use Rattle.device_core.specs.Order.{Own, Did, Order, Either, Stand, Between, Station, at_stand, at_rest, due_at, followed, is_in_page, made_by}
 use Rattle.device_core.specs.Machine.{Happening, HappensTo, IsRun, Snapshot, Table, history}
@@ -56,18 +56,9 @@ pub record IsSettled (kind : DeviceKind) (site : Site) (es : List Own) : Type 0 
   pub said : due_after kind site es ≡ None
   pub answered : owed_after kind site es ≡ None
 
--- an access to a page, where memory may be wanting for the pages of the request in hand, begins the answer that it is
-abbrev pub wants_by : {W O : Type 0} → Order W O → Own → Bool
-wants_by (Either v p u q) (Did a) = is_in_page (place_of a)
-wants_by other e = false
-
-abbrev pub wants_at : {W O : Type 0} → order.Rules W O → Stand W O → Own → Bool
-wants_at r (Between w) e = wants_by (r.choice w) e
-wants_at r other e = false
-
 -- by this a device begins to answer that memory was wanting
 abbrev pub wants_memory : DeviceKind → Site → List Own → Own → Bool
-wants_memory (Display connectors) site es e = wants_at (display site) (display_station site es).stand e
+wants_memory (Display connectors) site es e = order.wants_at (display site) (display_station site es).stand e
 
 -- its accesses, and what each is for
 abbrev pub made_after : DeviceKind → Site → List Own → List Made

@@ -39,7 +39,7 @@ impl Device {
     ghost use Rattle.device_core.specs.Order.{Own, Heard, Sets, steps_of};
     ghost use Rattle.link_core.specs.Stays.{AccessIn};
     ghost use Rattle.device_core.specs.Site.{Site};
-    ghost use Rattle.backend_core.specs.Device.{Adds, AddsAt, MayMakeNext, StandsFor, dom_of, fits_to, held_of, hosted, parts_of, site_of};
+    ghost use Rattle.backend_core.specs.Device.{Adds, AddsAt, MayMakeNext, RidesAt, StandsFor, dom_of, fits_to, held_of, hosted, parts_of, site_of};
     ghost use Rattle.backend_core.specs.Kinds.{IsSettled, rests_after};
 
     /// Hears that the frontend set its state, while its nodes stand so. Whatever it stood for, it stands for that and this state.
@@ -75,6 +75,7 @@ impl Device {
     pub fn step<W: Words>(&mut self, words: &mut W) -> Step
         requires { MayMakeNext (W.may words.old) (site_of (W.frames_of words.old) (W.grants_of words.old) self.old) self.old }
         ensures steps { AddsAt (site_of (W.frames_of words.old) (W.grants_of words.old) self.old) self.old (steps_of result.access result.said) self.new }
+        ensures rides { RidesAt (site_of (W.frames_of words.old) (W.grants_of words.old) self.old) self.old result.access result.said }
         ensures made { Makes W.makes words.old result.access words.new }
         ensures stays { AccessIn (held_of self.old) result.access }
         ensures dom { dom_of self.new ≡ dom_of self.old }

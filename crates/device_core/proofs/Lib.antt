@@ -2,5 +2,6 @@ pub mod Drawing
 pub mod MachineRun
 pub mod Passing
 pub mod Runs
+pub mod Single
 pub mod Stations
 pub mod Steps

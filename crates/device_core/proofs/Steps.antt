@@ -43,19 +43,35 @@ module _ {W O : Type 0} (r : Rules W O) where
   went_whole w (Finished o) said new h = ap due_at h.1
   went_whole w (Make want note more) said new h = ap due_at h.1
 
-  steps_from : (old : Stand W O) (a : Access) (said : Option Said) (new mid : Stand W O) → May r old (Did a) → next r old (Did a) ≡ mid → Along (next r) (May r) mid (rest_of said) × (new ≡ after (next r) mid (rest_of said)) → due_at new ≡ None → Steps r old (Some a) said new
+  -- and just the event is said that rides on the access
+  due_ended : (w : W) (o : O) (x : Option Said) → x ≡ due_at (ended r w o x)
+  due_ended w o None = refl
+  due_ended w o (Some s) = refl
+
+  went_rides : (w : W) (q : Plan O) (said : Option Said) (new : Stand W O) → Went r w q said new → said ≡ due_at (going r w q)
+  went_rides w (Finished o) said new h = h.0 ∙ due_ended w o (r.said_at w o)
+  went_rides w (Make want note more) said new h = h.0
+
+  some_same : {A : Type 0} (x y : A) → Some x ≡ Some y → x ≡ y
+  some_same x y e = cc
+
+  -- on the access that was made
+  rides_on : (old : Stand W O) (a : Access) (said : Option Said) → said ≡ due_at (next r old (Did a)) → (b : Access) → Some a ≡ Some b → said ≡ due_at (next r old (Did b))
+  rides_on old a said e b same = e ∙ ap (λ (x : Access). due_at (next r old (Did x))) (some_same a b same)
+
+  steps_from : (old : Stand W O) (a : Access) (said : Option Said) (new mid : Stand W O) → May r old (Did a) → next r old (Did a) ≡ mid → Along (next r) (May r) mid (rest_of said) × (new ≡ after (next r) mid (rest_of said)) → said ≡ due_at mid → due_at new ≡ None → Steps r old (Some a) said new
   unfolding rest_of
-  steps_from old a None new mid m e h d = record { comes = (m, tt); left = h.1 ∙ sym e; whole = d }
-  steps_from old a (Some s) new mid m e h d =
+  steps_from old a None new mid m e h d w = record { comes = (m, tt); left = h.1 ∙ sym e; rides = rides_on old a None (d ∙ ap due_at (sym e)); whole = w }
+  steps_from old a (Some s) new mid m e h d w =
       let told : May r (next r old (Did a)) (Spoke s) = subst (λ (x : Stand W O). May r x (Spoke s)) (sym e) h.0.0 in
-      record { comes = (m, (told, tt)); left = h.1 ∙ ap (λ (x : Stand W O). next r x (Spoke s)) (sym e); whole = d }
+      record { comes = (m, (told, tt)); left = h.1 ∙ ap (λ (x : Stand W O). next r x (Spoke s)) (sym e); rides = rides_on old a (Some s) (d ∙ ap due_at (sym e)); whole = w }
 
   -- a step of the activity under way
   pub steps_during : (w : W) (p : Plan O) (access : Option Access) (said : Option Said) (new : Stand W O) → GoesOn r w p access said new → Steps r (During w p) access said new
   steps_during w p None said new g = absurd g
   steps_during w (Finished o) (Some a) said new g = absurd g.1
   steps_during w (Make want note more) (Some a) said new g =
-      steps_from (During w (Make want note more)) a said new (going r w g.0) g.1.0 (ap (going r w) (sym g.1.1)) (went_leads w g.0 said new g.2) (went_whole w g.0 said new g.2)
+      steps_from (During w (Make want note more)) a said new (going r w g.0) g.1.0 (ap (going r w) (sym g.1.1)) (went_leads w g.0 said new g.2) (went_rides w g.0 said new g.2) (went_whole w g.0 said new g.2)
 
   -- a step that begins the activity that it picks
   began : (w v : W) (c : Order W O) (p : Plan O) (a : Access) → c ≡ Act v p → (q : Plan O) → Goes p a q → MayBegin r w c (Did a) × (begun r w c (Did a) ≡ going r v q)
@@ -66,7 +82,7 @@ module _ {W O : Type 0} (r : Rules W O) where
   steps_picked : (w v : W) (p : Plan O) (a : Access) (said : Option Said) (new : Stand W O) → picked (r.choice w) (Did a) ≡ Act v p → GoesOn r v p (Some a) said new → Steps r (Between w) (Some a) said new
   steps_picked w v p a said new e g =
       let b = began w v (picked (r.choice w) (Did a)) p a e g.0 g.1 in
-      steps_from (Between w) a said new (going r v g.0) b.0 b.1 (went_leads v g.0 said new g.2) (went_whole v g.0 said new g.2)
+      steps_from (Between w) a said new (going r v g.0) b.0 b.1 (went_leads v g.0 said new g.2) (went_rides v g.0 said new g.2) (went_whole v g.0 said new g.2)
 
   pub steps_between : (w v : W) (p : Plan O) (access : Option Access) (said : Option Said) (new : Stand W O) → r.choice w ≡ Act v p → GoesOn r v p access said new → Steps r (Between w) access said new
   steps_between w v p None said new e g = absurd g
@@ -87,6 +103,7 @@ module _ {W O : Type 0} (r : Rules W O) where
       record {
         comes = (subst (λ (c : Order W O). MayBegin r w c (Spoke t)) (sym e) s, tt);
         left = n ∙ ap (λ (c : Order W O). begun r w c (Spoke t)) (sym e);
+        rides = λ a made. let wrong : ⊥ = cc in absurd wrong;
         whole = ap due_at n;
       }
 
@@ -102,6 +119,7 @@ module _ {W O : Type 0} (r : Rules W O) where
       record {
         comes = (subst (λ (c : Order W O). MayBegin r w (picked c Rested) Rested) (sym e) tt, tt);
         left = n ∙ ap (λ (c : Order W O). begun r w (picked c Rested) Rested) (sym e);
+        rides = λ a made. let wrong : ⊥ = cc in absurd wrong;
         whole = ap due_at n;
       }
 

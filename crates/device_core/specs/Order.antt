@@ -199,6 +199,15 @@ abbrev pub at_rest : {W O : Type 0} → Rules W O → Stand W O → Bool
 at_rest r (Between w) = rests_next (r.choice w)
 at_rest r other = false
 
+-- an access to a page, where memory may be wanting for the pages of the request in hand, begins the answer that it is
+abbrev pub wants_by : {W O : Type 0} → Order W O → Own → Bool
+wants_by (Either v p u q) (Did a) = is_in_page (place_of a)
+wants_by other e = false
+
+abbrev pub wants_at : {W O : Type 0} → Rules W O → Stand W O → Own → Bool
+wants_at r (Between w) e = wants_by (r.choice w) e
+wants_at r other e = false
+
 -- the event that is to be said next, where one rides on the access that was made last
 abbrev pub due_at : {W O : Type 0} → Stand W O → Option Said
 due_at (Telling s w o) = Some s
@@ -212,10 +221,12 @@ steps_of None (Some s) = Spoke s ∷ []
 steps_of (Some a) None = Did a ∷ []
 steps_of (Some a) (Some s) = Did a ∷ Spoke s ∷ []
 
--- One step leads from stand to stand, and makes what comes next; no event is due behind it.
+-- One step leads from stand to stand, and makes what comes next. With an access just the event is said that rides on it, and no
+-- event is due behind the step.
 pub record Steps {W O : Type 0} (r : Rules W O) (old : Stand W O) (access : Option Access) (said : Option Said) (new : Stand W O) : Type 0 where
   pub comes : Comes r old (steps_of access said)
   pub left : new ≡ after (next r) old (steps_of access said)
+  pub rides : (a : Access) → access ≡ Some a → said ≡ due_at (next r old (Did a))
   pub whole : due_at new ≡ None
 
 -- the access was made, and this is left: the activity goes on, or it is over and what is said at its end is said

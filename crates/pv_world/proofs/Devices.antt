@@ -7,8 +7,9 @@ use Rattle.pv_words.specs.declared.device.HostEvent.{HostEvent}
 use Rattle.pv_words.specs.declared.place.DevId.{DevId}
 use Rattle.pv_words.specs.declared.setup.DeviceSetup.{DeviceSetup}
 use Rattle.pv_world.specs.declared.world.Placed.{Placed}
-use Rattle.backend_core.specs.History.{AreApart, is_declared, takes_by}
-use Rattle.backend_core.specs.Kinds.{takes_event}
+use Rattle.backend_core.specs.History.{AreApart, due_by, is_declared, site_of, takes_by}
+use Rattle.backend_core.specs.Kinds.{due_after, takes_event}
+use Rattle.backend_core.specs.Marked.{Item, own}
 use Rattle.pv_world.specs.World.{AreDeclaredAs, IsAt, IsDeclaredAs, setups}
 
 some_same : {A : Type 0} (x y : A) → Some x ≡ Some y → x ≡ y
@@ -126,6 +127,19 @@ takes_at (q ∷ qs) zero p e a at =
 takes_at (q ∷ qs) (suc i) p e a at =
     ap (λ (b : Bool). cond b (takes_event q.setup.kind e) (takes_by (setups qs) p.setup.dev.0 e)) (turned_round p.setup.dev.0 q.setup.dev.0 (apart_from qs i p q.setup.dev.0 at a.0))
     ∙ takes_at qs i p e a.1 at
+
+-- and what it has still to say is its own
+pub due_is : (frames grants : ℕ → ℕ) (ps : List Placed) (i : ℕ) (p : Placed) (m : List Item) → AreApart (setups ps) → slice_get ps i ≡ Some p → due_by frames grants (setups ps) p.setup.dev.0 m ≡ due_after p.setup.kind (site_of frames grants p.setup) (own p.setup.dev.0 m)
+due_is frames grants [] zero p m a at = let wrong : ⊥ = cc in absurd wrong
+due_is frames grants [] (suc i) p m a at = let wrong : ⊥ = cc in absurd wrong
+due_is frames grants (q ∷ qs) zero p m a at =
+    let same : q ≡ p = some_same q p at in
+    let due = due_after p.setup.kind (site_of frames grants p.setup) (own p.setup.dev.0 m) in
+    subst (λ (x : Placed). due_by frames grants (setups (x ∷ qs)) p.setup.dev.0 m ≡ due) (sym same)
+    (ap (λ (b : Bool). cond b due (due_by frames grants (setups qs) p.setup.dev.0 m)) (eq-eqb p.setup.dev.0 p.setup.dev.0 refl))
+due_is frames grants (q ∷ qs) (suc i) p m a at =
+    ap (λ (b : Bool). cond b (due_after q.setup.kind (site_of frames grants q.setup) (own p.setup.dev.0 m)) (due_by frames grants (setups qs) p.setup.dev.0 m)) (turned_round p.setup.dev.0 q.setup.dev.0 (apart_from qs i p q.setup.dev.0 at a.0))
+    ∙ due_is frames grants qs i p m a.1 at
 
 -- a device that is declared stands somewhere
 pub declared_found : (ps : List Placed) (d : ℕ) → is_declared (setups ps) d ≡ true → (i : ℕ) × (p : Placed) × (slice_get ps i ≡ Some p) × (p.setup.dev.0 ≡ d)

@@ -4,14 +4,16 @@ use Rattle.std.proofs.lemmas.Bool.Decides.{nat_tests}
 use Rattle.std.specs.Option.{option_eq}
 use Rattle.pv_words.specs.declared.access.Access.{Access}
 use Rattle.pv_words.specs.declared.entry.Entry.{Entry}
+use Rattle.pv_words.specs.declared.entry.Entry.TheVariants as entry
 use Rattle.pv_words.specs.declared.journal.Stop.{Stop}
 use Rattle.pv_words.specs.declared.journal.Stop.TheVariants.{OutOfMemory}
 use Rattle.pv_words.specs.declared.place.DevId.{DevId}
 use Rattle.pv_words.specs.declared.device.Said.{Said}
 use Rattle.pv_world.specs.declared.world.Placed.{Placed}
+use Rattle.backend_core.specs.History.{due_by}
 use Rattle.backend_core.specs.Marked.{Item, Entered, Idle, entries, items_of, accesses_in, AreSteps, progress}
 use Rattle.pv_world.specs.Record.{Records}
-use Rattle.pv_world.specs.World.{Sight, Stands, StopsIn, Lacks, AtMost, Advanced, SteppedBy}
+use Rattle.pv_world.specs.World.{Sight, Stands, StopsIn, Lacks, AtMost, Advanced, Rides, SteppedBy, setups}
 use Rattle.backend_core.proofs.Items.{entries_append, busy_steps, idle_mark, one_access, no_access, most_one, front_steps, steps_append, counts_append}
 
 -- a number that was asked for
@@ -29,10 +31,10 @@ fewer_still (Some k) made f e n h =
 
 module _ {W : Type 0} (g : Sight W) (frames grants : ℕ → ℕ) where
   -- what was entered of a step, and what the world stands for after it
-  pub recorded : (memory : W) (devices : List Placed) (dev : DevId) (a : Option Access) (s : Option Said) (old new : List Entry) (m : List Item) (result : Result (Option Bool) Stop) → Stands g frames grants memory devices (m ++ items_of dev a s) → entries m ≡ old → Records (items_of dev a s) a s old new result → Advanced g frames grants memory devices dev new m result
-  recorded memory devices dev a s old new m (Ok did) st e r =
-      (a, s, r.1, st, entries_append m (items_of dev a s) ∙ (ap (λ (x : List Entry). x ++ entries (items_of dev a s)) e ∙ sym r.0))
-  recorded memory devices dev a s old new m (Err stop) st e r =
+  pub recorded : (memory : W) (devices : List Placed) (dev : DevId) (a : Option Access) (s : Option Said) (old new : List Entry) (m : List Item) (result : Result (Option Bool) Stop) → Stands g frames grants memory devices (m ++ items_of dev a s) → entries m ≡ old → Records (items_of dev a s) a s old new result → Rides frames grants (setups devices) dev m a s → Advanced g frames grants memory devices dev new m result
+  recorded memory devices dev a s old new m (Ok did) st e r d =
+      (a, s, r.1, st, entries_append m (items_of dev a s) ∙ (ap (λ (x : List Entry). x ++ entries (items_of dev a s)) e ∙ sym r.0), d)
+  recorded memory devices dev a s old new m (Err stop) st e r d =
       let few = most_one dev a s in
       let all = ap accesses_in r.split in
       record {
@@ -109,9 +111,12 @@ module _ {W : Type 0} (g : Sight W) (frames grants : ℕ → ℕ) where
   made_all u memory later devices then dev most made es new m all h f =
       let x = f (m ++ h.here) h.stands h.entered in
       let one = one_access dev x.0 x.1 x.2 in
+      let made : List Item = Entered (entry.Back dev one.0) ∷ [] in
+      let behind : (m ++ h.here) ++ made ≡ m ++ (h.here ++ made) = append_assoc m h.here made in
+      let rides : x.1 ≡ due_by frames grants (setups then) dev.0 (m ++ (h.here ++ made)) = x.5 one.0 one.1 ∙ ap (λ (y : List Item). due_by frames grants (setups then) dev.0 y) behind in
       let joined : (m ++ h.here) ++ items_of dev x.0 x.1 ≡ m ++ (h.here ++ items_of dev (Some one.0) x.1) = append_assoc m h.here (items_of dev x.0 x.1) ∙ ap (λ (y : Option Access). m ++ (h.here ++ items_of dev y x.1)) one.1 in (
         h.here ++ items_of dev (Some one.0) x.1,
-        inr (record { steps = h.here; last = one.0; said = x.1; are_steps = h.steps; ends = refl; all = all ∙ ap (λ n. Some (n + 1)) (sym h.counted) }),
+        inr (record { steps = h.here; last = one.0; said = x.1; are_steps = h.steps; ends = refl; rides = rides; all = all ∙ ap (λ n. Some (n + 1)) (sym h.counted) }),
         subst (λ (y : List Item). Stands g frames grants later then y) joined x.3,
         subst (λ (y : List Item). entries y ≡ new) joined x.4,
       )

@@ -23,7 +23,7 @@ use Rattle.pv_words.proofs.Listing.{listed_other, listed_own, port_may}
 use Rattle.device_core.specs.Order.{Own, Did, steps_of}
 use Rattle.device_core.specs.Site.{Site}
 use Rattle.backend_core.specs.Device as backend
-use Rattle.backend_core.specs.Device.{AddsAt, GoesOn, MayMakeNext, StandsFor}
+use Rattle.backend_core.specs.Device.{AddsAt, GoesOn, MayMakeNext, RidesAt, StandsFor}
 use Rattle.backend_core.specs.History.{Belongs, BelongsIn, IsDirect, IsExplainedIn, IsSettledIn, held_after, held_in, is_declared, site_of}
 use Rattle.backend_core.specs.Kinds.{Continues, due_after, owed_after, parts_of}
 use Rattle.backend_core.specs.Marked.{Item, Entered, Idle, entries, entry_of, items_of, nodes_in, own}
@@ -31,8 +31,8 @@ use Rattle.backend_core.proofs.EachKind.{did_owes, dom_of_one, next_may, parts_o
 use Rattle.backend_core.proofs.Histories.{IsDirectAt, IsTrueNext, aimed, in_range_from, memory_more, nodes_more, own_is}
 use Rattle.backend_core.proofs.Items.{nodes_step, own_other, own_step}
 use Rattle.pv_world.specs.declared.world.Placed.{Placed}
-use Rattle.pv_world.specs.World.{IsPlaced, Sight, Stands, setups}
-use Rattle.pv_world.proofs.Devices.{at_index, declared_at}
+use Rattle.pv_world.specs.World.{IsPlaced, Rides, Sight, Stands, setups}
+use Rattle.pv_world.proofs.Devices.{at_index, declared_at, due_is}
 use Rattle.pv_world.proofs.Goings.{Tells, goes_stands}
 use Rattle.pv_world.proofs.Standings.{Behaves, IsSilent, access_true, prompt_one, prompt_two, words_after}
 
@@ -235,3 +235,15 @@ module _ {W : Type 0} (g : Sight W) (frames grants : ℕ → ℕ) where
         (step_belongs (setups devices) s.dev a t (declared_at devices i p at))
         (subst (λ (es : List Own). IsListed (g.port new) s.dev.0 (held_after frames grants s es)) (sym now) (listed_step old new m p a t made his st.frames_are explained goes.comes placed))
         (λ q e l. listed_others old new a q.setup.dev.0 s.dev.0 (held_in frames grants m q.setup) made his e l) st
+
+    -- and what is said rides on the access
+    pub step_rides : (old : W) (devices : List Placed) (i : ℕ) (p : Placed) (m : List Item) (a : Option Access) (t : Option Said) → slice_get devices i ≡ Some p → RidesAt (backend.site_of (g.frames old) (g.grants old) p.device) p.device a t → Stands g frames grants old devices m → Rides frames grants (setups devices) p.setup.dev m a t
+    step_rides old devices i p m a t at rides st = λ x e.
+        let s = p.setup in
+        let made : List Item = items_of s.dev (Some x) None in
+        let placed = at_index (IsPlaced g frames grants old m) devices i p at st.placed in
+        let is = site_is old m p st.frames_are st.grants_are placed in
+        let here = subst (λ (site : Site). RidesAt site p.device a t) is rides in
+        let now : own s.dev.0 (m ++ made) ≡ own s.dev.0 m ++ Did x ∷ [] = own_is frames grants m made s ∙ ap (λ (es : List Own). own s.dev.0 m ++ es) (own_step s.dev (nodes_in s.dev.0 m) (Some x) None) in
+        here s.kind (own s.dev.0 m) x placed.stands placed.settled e
+        ∙ sym (due_is frames grants devices i p (m ++ made) st.apart at ∙ ap (λ (es : List Own). due_after s.kind (site_of frames grants s) es) now)

@@ -22,7 +22,7 @@ use Rattle.pv_world.specs.declared.world.World.{World}
 use Rattle.pv_world.specs.Record.{Shows}
 use Rattle.backend_core.specs.Marked.{Item, Entered, Idle, entries, host_items, nodes_in, items_of, own, accesses_in, AreSteps, progress}
 use Rattle.xenbus_states.specs.Nodes.{no_nodes}
-use Rattle.backend_core.specs.History.{IsHistory, IsPromptIn, IsSettledIn, AreApart, site_of, held_in}
+use Rattle.backend_core.specs.History.{IsHistory, IsPromptIn, IsSettledIn, AreApart, due_by, site_of, held_in}
 use Rattle.backend_core.specs.Kinds.{parts_of}
 
 -- what a machine shows of itself
@@ -93,12 +93,18 @@ pub record StopsIn {W : Type 0} (g : Sight W) (frames grants : ℕ → ℕ) (mem
   pub entered : entries (m ++ here) ≡ es
   pub cause : Lacks stop due es
 
+-- With an access just the event is said that rides on it.
+abbrev pub Rides : (frames grants : ℕ → ℕ) → List DeviceSetup → DevId → List Item → Option Access → Option Said → Type 0
+Rides frames grants devices dev m a s =
+    (x : Access) → a ≡ Some x → s ≡ due_by frames grants devices dev.0 (m ++ Entered (entry.Back dev x) ∷ [])
+
 -- One step of a device: it made an access or said something (true where it made an access), or was idle (None), or was
 -- stopped.
 abbrev pub Advanced : {W : Type 0} → Sight W → (frames grants : ℕ → ℕ) (memory : W) (devices : List Placed) (dev : DevId) (es : List Entry) (m : List Item) → Result (Option Bool) Stop → Type 0
 Advanced g frames grants memory devices dev es m (Ok did) =
     (a : Option Access) × (s : Option Said) × (did ≡ progress a s)
     × Stands g frames grants memory devices (m ++ items_of dev a s) × (entries (m ++ items_of dev a s) ≡ es)
+    × Rides frames grants (setups devices) dev m a s
 Advanced g frames grants memory devices dev es m (Err stop) = StopsIn g frames grants memory devices dev.0 (Some 1) stop m es
 
 -- a device's steps until it was idle, with fewer accesses than were asked for
@@ -108,23 +114,25 @@ pub record ComesToRest (d : ℕ) (most : Option ℕ) (here : List Item) : Type 0
   pub rests : here ≡ steps ++ Idle d ∷ []
   pub fewer : (n : ℕ) → most ≡ Some n → accesses_in steps < n
 
--- a device's steps up to the one with the last access that was asked for
-pub record MakesAll (dev : DevId) (most : Option ℕ) (here : List Item) : Type 0 where
+-- A device's steps up to the one with the last access that was asked for, with the event that rides on it. What rides on the
+-- last of some items is `due`.
+pub record MakesAll (due : List Item → Option Said) (dev : DevId) (most : Option ℕ) (here : List Item) : Type 0 where
   pub steps : List Item
   pub last : Access
   pub said : Option Said
   pub are_steps : AreSteps dev.0 steps
   pub ends : here ≡ steps ++ items_of dev (Some last) said
+  pub rides : said ≡ due (steps ++ Entered (entry.Back dev last) ∷ [])
   pub all : most ≡ Some (accesses_in steps + 1)
 
 -- a device was stepped: until it was idle, or, where a number of accesses was asked for, until it had made as many
-abbrev pub IsStepped : DevId → Option ℕ → List Item → Type 0
-IsStepped dev most here = ComesToRest dev.0 most here ⊎ MakesAll dev most here
+abbrev pub IsStepped : (due : List Item → Option Said) → DevId → Option ℕ → List Item → Type 0
+IsStepped due dev most here = ComesToRest dev.0 most here ⊎ MakesAll due dev most here
 
 -- the device was stepped so, or was stopped before
 abbrev pub SteppedBy : {W : Type 0} → Sight W → (frames grants : ℕ → ℕ) (memory : W) (devices : List Placed) (dev : DevId) (most : Option ℕ) (es : List Entry) (m : List Item) {A : Type 0} → Result A Stop → Type 0
 SteppedBy g frames grants memory devices dev most es m (Ok x) =
-    (here : List Item) × IsStepped dev most here × Stands g frames grants memory devices (m ++ here) × (entries (m ++ here) ≡ es)
+    (here : List Item) × IsStepped (λ x. due_by frames grants (setups devices) dev.0 (m ++ x)) dev most here × Stands g frames grants memory devices (m ++ here) × (entries (m ++ here) ≡ es)
 SteppedBy g frames grants memory devices dev most es m (Err stop) = StopsIn g frames grants memory devices dev.0 most stop m es
 
 -- a world's memory and its devices

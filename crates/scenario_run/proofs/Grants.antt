@@ -1,10 +1,12 @@
 -- From single grants to all grants of a statement.
-use Rattle.std.proofs.Common.{◌≡◌, ℕ, suc, ◌+◌, ◌<◌, ◌≤◌, ◌⊎◌, inl, inr, List, [], ◌∷◌, ◌++◌, Ok, refl, sym, subst, ◌∙◌, ap, append_assoc, arith}
+use Rattle.std.proofs.Common.{◌≡◌, ℕ, suc, ◌+◌, ◌<◌, ◌≤◌, ◌⊎◌, inl, inr, List, [], ◌∷◌, ◌++◌, Option, Ok, refl, sym, subst, ◌∙◌, ap, append_assoc, arith}
 use Rattle.std.proofs.lemmas.List.{append-nil}
 use Rattle.std.proofs.Math.Nat.{eq-or-lt_of_le}
+use Rattle.pv_words.specs.declared.device.Said.{Said}
 use Rattle.pv_words.specs.declared.entry.Entry.{Entry}
 use Rattle.pv_words.specs.declared.journal.Stop.{Stop}
 use Rattle.pv_words.specs.declared.journal.Stop.TheVariants.{JournalFull, OutOfMemory}
+use Rattle.pv_words.specs.declared.place.DevId.{DevId}
 use Rattle.pv_words.specs.declared.place.DomId.{DomId}
 use Rattle.pv_words.specs.declared.place.GrantRef.{GrantRef}
 use Rattle.pv_words.specs.Plan.{Plan}
@@ -14,7 +16,7 @@ use Rattle.pv_world.specs.declared.world.Placed.{Placed}
 use Rattle.backend_core.specs.Marked.{Item, Entered, entries}
 use Rattle.pv_world.specs.Owner.{IsDone, IsUnderWay, HasCauseAt, Owns, StopsOwning}
 use Rattle.pv_world.specs.World.{Sight, Stands, setups}
-use Rattle.scenario_run.specs.Follows.{EachDone, EachTo, IsPartOf, IsRow}
+use Rattle.scenario_run.specs.Follows.{EachDone, EachTo, IsPartOf, IsRow, rides_in}
 use Rattle.scenario_run.specs.Played.{HasCauseIn, IsPromptHistory, StopsAt}
 use Rattle.scenario_run.proofs.Wholes.{front_prompt, further_prompt, stands_prompt}
 
@@ -25,22 +27,22 @@ SoFar g frames grants memory devices dom gref plans n es m =
 
 module _ (frames grants : ℕ → ℕ) (dom : DomId) (gref : GrantRef) (plans : ℕ → Plan Owned) (count : ℕ) (s : Statement)
     (part_of : (h : List Item) → EachTo dom gref plans count h → IsPartOf s h)
-    (row_of : (h : List Item) → EachDone dom gref plans count h → IsRow s h)
+    (row_of : (rides : DevId → List Item → Option Said) (h : List Item) → EachDone dom gref plans count h → IsRow rides s h)
     (n : ℕ) (below : n < count) where
   part_next : (front more : List Item) → EachDone dom gref plans n front → IsUnderWay (plans n) more → IsPartOf s (front ++ more)
   part_next front more done u =
       part_of (front ++ more) (record { number = n; front = front; last = more; split = refl; done = done; under_way = u; within = inl below })
 
-  row_next : (here : List Item) → EachDone dom gref plans (suc n) here → (suc n ≡ count) ⊎ (suc n < count) → IsPartOf s here ⊎ IsRow s here
-  row_next here done (inl e) = inr (row_of here (subst (λ (c : ℕ). EachDone dom gref plans c here) e done))
-  row_next here done (inr l) =
+  row_next : (rides : DevId → List Item → Option Said) (here : List Item) → EachDone dom gref plans (suc n) here → (suc n ≡ count) ⊎ (suc n < count) → IsPartOf s here ⊎ IsRow rides s here
+  row_next rides here done (inl e) = inr (row_of rides here (subst (λ (c : ℕ). EachDone dom gref plans c here) e done))
+  row_next rides here done (inr l) =
       inl (part_of here (record { number = suc n; front = here; last = []; split = sym (append-nil here); done = done; under_way = record { left = plans (suc n); leads = refl }; within = inl l }))
 
-  next_of : (front more : List Item) → EachDone dom gref plans n front → IsUnderWay (plans n) more ⊎ IsDone dom (record { 0 = gref.0 + n }) (plans n) more → IsPartOf s (front ++ more) ⊎ IsRow s (front ++ more)
-  next_of front more done (inl u) = inl (part_next front more done u)
-  next_of front more done (inr d) =
+  next_of : (rides : DevId → List Item → Option Said) (front more : List Item) → EachDone dom gref plans n front → IsUnderWay (plans n) more ⊎ IsDone dom (record { 0 = gref.0 + n }) (plans n) more → IsPartOf s (front ++ more) ⊎ IsRow rides s (front ++ more)
+  next_of rides front more done (inl u) = inl (part_next front more done u)
+  next_of rides front more done (inr d) =
       let l : suc n ≤ count = omega (arith, below) in
-      row_next (front ++ more) (front, more, refl, done, d) (eq-or-lt_of_le l)
+      row_next rides (front ++ more) (front, more, refl, done, d) (eq-or-lt_of_le l)
 
   module _ {W : Type 0} (g : Sight W) where
     each_cause : (memory : W) (devices : List Placed) (stop : Stop) (m front part due : List Item) (es : List Entry) → EachDone dom gref plans n front → Stands g frames grants memory devices ((m ++ front) ++ (part ++ due)) → HasCauseAt frames grants (setups devices) dom (record { 0 = gref.0 + n }) (plans n) (m ++ front) part due es stop → HasCauseIn frames grants (setups devices) s m (front ++ part) es stop
@@ -51,7 +53,7 @@ module _ (frames grants : ℕ → ℕ) (dom : DomId) (gref : GrantRef) (plans : 
           length_is = h.length_is;
           due = h.further;
           goes_on = subst (λ (y : List Item). IsPromptHistory frames grants (setups devices) y) (append_assoc m front (part ++ one) ∙ ap (λ (y : List Item). m ++ y) joined) (further_prompt g frames grants memory devices (m ++ front) part due h.further st h.goes_on h.due_is);
-          next = subst (λ (y : List Item). IsPartOf s y ⊎ IsRow s y) joined (next_of front (part ++ one) done h.next);
+          next = subst (λ (y : List Item). IsPartOf s y ⊎ IsRow (rides_in frames grants (setups devices) m) s y) joined (next_of (rides_in frames grants (setups devices) m) front (part ++ one) done h.next);
         }
     each_cause memory devices OutOfMemory m front part due es done st h = h.0
 

@@ -3,6 +3,7 @@ use Rattle.std.proofs.Common.{◌≡◌, ℕ, zero, suc, ◌+◌, ◌<◌, ◌�
 use Rattle.std.proofs.lemmas.List.{append-nil, take-append-drop, take_more, drop_more}
 use Rattle.std.specs.List.{AllByRecursion}
 use Rattle.pv_words.specs.declared.device.NodeValue.{NodeValue}
+use Rattle.pv_words.specs.declared.device.Said.{Said}
 use Rattle.pv_words.specs.declared.device.State.{State}
 use Rattle.pv_words.specs.declared.entry.Entry.{Entry}
 use Rattle.pv_words.specs.declared.entry.Entry.TheVariants as entry
@@ -30,21 +31,21 @@ use Rattle.backend_core.proofs.Consequences.{histories_are_runs}
 use Rattle.backend_core.proofs.EachKind.{first_explained}
 use Rattle.backend_core.proofs.Histories.{all_of, in_range_from}
 use Rattle.backend_core.proofs.Items.{entries_append}
-use Rattle.scenario_run.specs.Follows.{Follows, FollowsTo, IsBegun, IsRow, IsPartOf, opening, closing}
-use Rattle.scenario_run.specs.Legal.{IsFullFor, IsLegalTo, IsTrueJournal, IsWholeIn}
+use Rattle.scenario_run.specs.Follows.{AreSettled, Follows, FollowsTo, IsBegun, IsRow, IsPartOf, opening, closing, rides_in}
+use Rattle.scenario_run.specs.Legal.{IsFullFor, IsLegalTo, IsTrueJournal}
 use Rattle.scenario_run.specs.Played.{CanPlay, HasCauseIn, IsFullIn, IsPromptHistory, Played, StopsAt}
 use Rattle.scenario_run.proofs.Devices.{same_parts_by, few_parts}
 use Rattle.scenario_run.proofs.Wholes.{at_most_front, front_prompt, next_prompt, stands_prompt, steps_front}
 
 -- a statement that enters one item
 module _ {W : Type 0} (g : Sight W) (frames grants : ℕ → ℕ) (s : Statement) (due : Entry)
-    (none_of : IsPartOf s []) (row : IsRow s (Entered due ∷ [])) where
+    (none_of : IsPartOf s []) (row : (rides : DevId → List Item → Option Said) → IsRow rides s (Entered due ∷ [])) where
   entered_cause : (devices : List DeviceSetup) (stop : Stop) (m : List Item) (es : List Entry) → IsPromptHistory frames grants devices (m ++ Entered due ∷ []) → Shows stop es → HasCauseIn frames grants devices s m [] es stop
-  entered_cause devices JournalFull m es h limit = record { length_is = limit; due = due; goes_on = h; next = inr row }
+  entered_cause devices JournalFull m es h limit = record { length_is = limit; due = due; goes_on = h; next = inr (row (rides_in frames grants devices m)) }
   entered_cause devices OutOfMemory m es h limit = limit
 
   pub entered : {A : Type 0} (memory : W) (devices : List Placed) (es : List Entry) (m : List Item) (r : Result A Stop) → Enters g frames grants memory devices (Entered due) es m r → Played g frames grants memory devices s es m r
-  entered memory devices es m (Ok x) h = (Entered due ∷ [], row, h.0, h.1)
+  entered memory devices es m (Ok x) h = (Entered due ∷ [], row (rides_in frames grants (setups devices) m), h.0, h.1)
   entered memory devices es m (Err stop) h =
       record {
         part = [];
@@ -89,20 +90,20 @@ module _ {W : Type 0} (g : Sight W) (frames grants : ℕ → ℕ) (s : Statement
 
 module _ {W : Type 0} (g : Sight W) (frames grants : ℕ → ℕ) where
   pub put_played : {A : Type 0} (memory : W) (devices : List Placed) (at : Place) (v : ℕ) (es : List Entry) (m : List Item) (r : Result A Stop) → Enters g frames grants memory devices (front_store at v) es m r → Played g frames grants memory devices (Put at v) es m r
-  put_played memory devices at v es m r h = entered g frames grants (Put at v) _ refl refl memory devices es m r h
+  put_played memory devices at v es m r h = entered g frames grants (Put at v) _ refl (λ rides. refl) memory devices es m r h
 
   pub swap_played : {A : Type 0} (memory : W) (devices : List Placed) (at : Place) (old new : ℕ) (es : List Entry) (m : List Item) (r : Result A Stop) → Exchanged g frames grants memory devices at old new es m r → Played g frames grants memory devices (Swap at old new) es m r
   swap_played memory devices at old new es m r h =
-      entered g frames grants (Swap at old new) _ refl (h.0, refl) memory devices es m r h.1
+      entered g frames grants (Swap at old new) _ refl (λ rides. (h.0, refl)) memory devices es m r h.1
 
   pub node_played : {A : Type 0} (memory : W) (devices : List Placed) (dev : DevId) (part key : ℕ) (v : NodeValue) (es : List Entry) (m : List Item) (r : Result A Stop) → Enters g frames grants memory devices (Entered (entry.Node dev part key v)) es m r → Played g frames grants memory devices (Node dev part key v) es m r
-  node_played memory devices dev part key v es m r h = entered g frames grants (Node dev part key v) _ refl refl memory devices es m r h
+  node_played memory devices dev part key v es m r h = entered g frames grants (Node dev part key v) _ refl (λ rides. refl) memory devices es m r h
 
   pub bus_played : {A : Type 0} (memory : W) (devices : List Placed) (dev : DevId) (state : State) (es : List Entry) (m : List Item) (r : Result A Stop) → Enters g frames grants memory devices (Entered (entry.Bus dev Front state)) es m r → Played g frames grants memory devices (Bus dev state) es m r
-  bus_played memory devices dev state es m r h = entered g frames grants (Bus dev state) _ refl refl memory devices es m r h
+  bus_played memory devices dev state es m r h = entered g frames grants (Bus dev state) _ refl (λ rides. refl) memory devices es m r h
 
   pub wake_played : {A : Type 0} (memory : W) (devices : List Placed) (dev : DevId) (es : List Entry) (m : List Item) (r : Result A Stop) → Enters g frames grants memory devices (Entered (entry.Wake dev)) es m r → Played g frames grants memory devices (Wake dev) es m r
-  wake_played memory devices dev es m r h = entered g frames grants (Wake dev) _ refl refl memory devices es m r h
+  wake_played memory devices dev es m r h = entered g frames grants (Wake dev) _ refl (λ rides. refl) memory devices es m r h
 
   pub back_played : {A : Type 0} (memory : W) (devices : List Placed) (dev : DevId) (count : ℕ) (es : List Entry) (m : List Item) (r : Result A Stop) → SteppedBy g frames grants memory devices dev (Some count) es m r → Played g frames grants memory devices (Back dev count) es m r
   back_played memory devices dev count es m (Ok x) h = h
@@ -113,19 +114,27 @@ module _ {W : Type 0} (g : Sight W) (frames grants : ℕ → ℕ) where
   serve_played memory devices dev es m (Err stop) h = stops g frames grants (Serve dev) dev None (λ h a b. a) memory devices stop m es h
 
 -- one statement more
-pub follows_push : (IsWhole : List Item → Type 0) (ss : List Statement) (x : Statement) (before m here : List Item) → Follows IsWhole ss before m → IsRow x here → IsWhole (before ++ (m ++ here)) → Follows IsWhole (ss ++ x ∷ []) before (m ++ here)
-follows_push IsWhole [] x before m here f row whole =
+pub follows_push : (frames grants : ℕ → ℕ) (devices : List DeviceSetup) (ss : List Statement) (x : Statement) (before m here : List Item) → Follows frames grants devices ss before m → IsRow (rides_in frames grants devices (before ++ m)) x here → AreSettled frames grants devices (before ++ (m ++ here)) → Follows frames grants devices (ss ++ x ∷ []) before (m ++ here)
+follows_push frames grants devices [] x before m here f row whole =
     let none : m ++ here ≡ here = ap (λ (y : List Item). y ++ here) f in
-    (here, [], none ∙ sym (append-nil here), row, subst (λ (y : List Item). IsWhole (before ++ y)) none whole, refl)
-follows_push IsWhole (s ∷ ss) x before m here f row whole =
+    let from : before ++ m ≡ before = ap (λ (y : List Item). before ++ y) f ∙ append-nil before in (
+      here,
+      [],
+      none ∙ sym (append-nil here),
+      subst (λ (y : List Item). IsRow (rides_in frames grants devices y) x here) from row,
+      subst (λ (y : List Item). AreSettled frames grants devices (before ++ y)) none whole,
+      refl,
+    )
+follows_push frames grants devices (s ∷ ss) x before m here f row whole =
     let all : m ++ here ≡ f.0 ++ (f.1 ++ here) = ap (λ (y : List Item). y ++ here) f.2 ∙ append_assoc f.0 f.1 here in
-    let behind : before ++ (m ++ here) ≡ (before ++ f.0) ++ (f.1 ++ here) = ap (λ (y : List Item). before ++ y) all ∙ sym (append_assoc before f.0 (f.1 ++ here)) in (
+    let behind : before ++ (m ++ here) ≡ (before ++ f.0) ++ (f.1 ++ here) = ap (λ (y : List Item). before ++ y) all ∙ sym (append_assoc before f.0 (f.1 ++ here)) in
+    let from : before ++ m ≡ (before ++ f.0) ++ f.1 = ap (λ (y : List Item). before ++ y) f.2 ∙ sym (append_assoc before f.0 f.1) in (
       f.0,
       f.1 ++ here,
       all,
       f.3,
       f.4,
-      follows_push IsWhole ss x (before ++ f.0) f.1 here f.5 row (subst (λ (y : List Item). IsWhole y) behind whole),
+      follows_push frames grants devices ss x (before ++ f.0) f.1 here f.5 (subst (λ (y : List Item). IsRow (rides_in frames grants devices y) x here) from row) (subst (λ (y : List Item). AreSettled frames grants devices y) behind whole),
     )
 
 none_part : (s : Statement) → IsPartOf s []
@@ -140,9 +149,9 @@ none_part (Wake dev) = refl
 none_part (Back dev count) = (tt, omega arith)
 none_part (Serve dev) = tt
 
-none_begun : (ss : List Statement) → IsBegun ss []
-none_begun [] = refl
-none_begun (s ∷ ss) = inl (none_part s)
+none_begun : (rides : DevId → List Item → Option Said) (ss : List Statement) → IsBegun rides ss []
+none_begun rides [] = refl
+none_begun rides (s ∷ ss) = inl (none_part s)
 
 -- whatever was played
 pub true_journal : (s : Scenario) (m : List Item) (es : List Entry) → entries m ≡ es → IsPromptHistory (frames_by s.sizes) (grants_by s.sizes) s.devices m → IsTrueJournal s m es
@@ -169,7 +178,7 @@ nothing_played s es e =
     record {
       marked = [];
       so_far = true_journal s [] es (sym e) (none_entered (frames_by s.sizes) (grants_by s.sizes) s.devices);
-      follows = record { done = []; left = s.statements; followed = []; part = []; statements = refl; items = refl; follows = refl; begun = none_begun s.statements };
+      follows = record { done = []; left = s.statements; followed = []; part = []; statements = refl; items = refl; follows = refl; begun = none_begun _ s.statements };
     }
 
 module _ (s : Scenario) (i : ℕ) (x : Statement) (inside : i < length s.statements) (item : x ≡ get_or s.statements i x) where
@@ -179,7 +188,7 @@ module _ (s : Scenario) (i : ℕ) (x : Statement) (inside : i < length s.stateme
   pub front_is : take (i + 1) s.statements ≡ take i s.statements ++ x ∷ []
   front_is = take_more s.statements i x inside ∙ ap (λ (y : Statement). take i s.statements ++ y ∷ []) (sym item)
 
-  further : (followed more : List Item) → Follows (IsWholeIn s) (take i s.statements) [] followed → IsPartOf x more ⊎ IsRow x more → FollowsTo (IsWholeIn s) s.statements (followed ++ more)
+  further : (followed more : List Item) → Follows (frames_by s.sizes) (grants_by s.sizes) s.devices (take i s.statements) [] followed → IsPartOf x more ⊎ IsRow (rides_in (frames_by s.sizes) (grants_by s.sizes) s.devices followed) x more → FollowsTo (frames_by s.sizes) (grants_by s.sizes) s.devices s.statements (followed ++ more)
   further followed more f begun =
       record {
         done = take i s.statements;
@@ -189,10 +198,10 @@ module _ (s : Scenario) (i : ℕ) (x : Statement) (inside : i < length s.stateme
         statements = sym (take-append-drop i s.statements);
         items = refl;
         follows = f;
-        begun = subst (λ (ss : List Statement). IsBegun ss more) (sym rest_is) begun;
+        begun = subst (λ (ss : List Statement). IsBegun (rides_in (frames_by s.sizes) (grants_by s.sizes) s.devices followed) ss more) (sym rest_is) begun;
       }
 
-  pub stops_legal : (stop : Stop) (followed : List Item) (es : List Entry) → Follows (IsWholeIn s) (take i s.statements) [] followed → StopsAt (frames_by s.sizes) (grants_by s.sizes) s.devices x stop followed es → IsLegalTo s es
+  pub stops_legal : (stop : Stop) (followed : List Item) (es : List Entry) → Follows (frames_by s.sizes) (grants_by s.sizes) s.devices (take i s.statements) [] followed → StopsAt (frames_by s.sizes) (grants_by s.sizes) s.devices x stop followed es → IsLegalTo s es
   stops_legal stop followed es f h =
       record {
         marked = followed ++ h.part;
@@ -200,7 +209,7 @@ module _ (s : Scenario) (i : ℕ) (x : Statement) (inside : i < length s.stateme
         follows = further followed h.part f (inl h.of);
       }
 
-  full_in : (followed part : List Item) (es : List Entry) → Follows (IsWholeIn s) (take i s.statements) [] followed → entries (followed ++ part) ≡ es → IsFullIn (frames_by s.sizes) (grants_by s.sizes) s.devices x followed part es → IsFullFor s es
+  full_in : (followed part : List Item) (es : List Entry) → Follows (frames_by s.sizes) (grants_by s.sizes) s.devices (take i s.statements) [] followed → entries (followed ++ part) ≡ es → IsFullIn (frames_by s.sizes) (grants_by s.sizes) s.devices x followed part es → IsFullFor s es
   full_in followed part es f e h =
       let more : List Item = part ++ Entered h.due ∷ [] in
       let whole : entries (followed ++ more) ≡ es ++ h.due ∷ [] = ap entries (sym (append_assoc followed part (Entered h.due ∷ []))) ∙ (entries_append (followed ++ part) (Entered h.due ∷ []) ∙ ap (λ (y : List Entry). y ++ h.due ∷ []) e) in
@@ -214,7 +223,7 @@ module _ (s : Scenario) (i : ℕ) (x : Statement) (inside : i < length s.stateme
         };
       }
 
-  pub stops_full : (stop : Stop) (followed : List Item) (es : List Entry) → stop ≡ JournalFull → Follows (IsWholeIn s) (take i s.statements) [] followed → StopsAt (frames_by s.sizes) (grants_by s.sizes) s.devices x stop followed es → IsFullFor s es
+  pub stops_full : (stop : Stop) (followed : List Item) (es : List Entry) → stop ≡ JournalFull → Follows (frames_by s.sizes) (grants_by s.sizes) s.devices (take i s.statements) [] followed → StopsAt (frames_by s.sizes) (grants_by s.sizes) s.devices x stop followed es → IsFullFor s es
   stops_full stop followed es full f h =
       full_in followed h.part es f h.entered (subst (λ (y : Stop). HasCauseIn (frames_by s.sizes) (grants_by s.sizes) s.devices x followed h.part es y) full h.cause)
 

@@ -1,11 +1,15 @@
 -- What entries a statement makes, and that a journal follows statements.
-use Rattle.std.specs.Prelude.{◌≡◌, ℕ, zero, suc, ◌+◌, ◌*◌, ◌/◌, ◌%◌, ◌^◌, ◌<◌, ◌≤◌, ◌⊎◌, List, [], ◌∷◌, ◌++◌, Some, None}
+use Rattle.std.specs.Prelude.{◌≡◌, ℕ, zero, suc, ◌+◌, ◌*◌, ◌/◌, ◌%◌, ◌^◌, ◌<◌, ◌≤◌, ◌⊎◌, List, [], ◌∷◌, ◌++◌, Option, Some, None}
+use Rattle.std.specs.List.{AllByRecursion}
+use Rattle.pv_words.specs.declared.device.Said.{Said}
 use Rattle.pv_words.specs.declared.entry.Entry.TheVariants as entry
 use Rattle.pv_words.specs.declared.entry.End.TheVariants.{Front}
+use Rattle.pv_words.specs.declared.place.DevId.{DevId}
 use Rattle.pv_words.specs.declared.place.DomId.{DomId}
 use Rattle.pv_words.specs.declared.place.GrantRef.{GrantRef}
 use Rattle.pv_words.specs.declared.place.Place.{Place}
 use Rattle.pv_words.specs.declared.place.Place.TheVariants.{Cell}
+use Rattle.pv_words.specs.declared.setup.DeviceSetup.{DeviceSetup}
 use Rattle.pv_words.specs.Plan.{Plan}
 use Rattle.grant_table.specs.declared.owner.Owned.{Owned}
 use Rattle.grant_table.specs.Owning.{permit_plan, end_plan}
@@ -14,6 +18,7 @@ use Rattle.scenario_text.specs.declared.statement.Opening.{Opening}
 use Rattle.scenario_text.specs.declared.statement.Closing.{Closing}
 use Rattle.scenario_text.specs.declared.statement.Statement.{Statement}
 use Rattle.scenario_text.specs.declared.statement.Statement.TheVariants.{Put, Fill, Swap, Open, End, Node, Bus, Wake, Back, Serve}
+use Rattle.backend_core.specs.History.{IsSettledIn, due_by}
 use Rattle.backend_core.specs.Marked.{Item, Entered, AreSteps, accesses_in}
 use Rattle.pv_world.specs.Owner.{IsDone, IsUnderWay}
 use Rattle.pv_world.specs.World.{AtMost, IsStepped, front_store, front_swap}
@@ -56,18 +61,19 @@ pub record EachTo (dom : DomId) (gref : GrantRef) (plans : ℕ → Plan Owned) (
 
 -- put: one store of the word's domain. fill: one to each word, in order. swap: one exchange of it. open, end: each grant is opened or ended. node: one node
 -- is set. bus: the frontend's state. wake: one wake. back: the device's steps up to the one with access number `count`,
--- or fewer and a mark where it was idle. serve: its steps, and a mark where it was idle
-abbrev pub IsRow : Statement → List Item → Type 0
-IsRow (Put at v) here = here ≡ front_store at v ∷ []
-IsRow (Fill f) here = here ≡ stores_of f f.count
-IsRow (Swap at old new) here = (seen : ℕ) × (here ≡ front_swap at old new seen ∷ [])
-IsRow (Open o) here = EachDone o.dom o.gref (opening o) o.count here
-IsRow (End e) here = EachDone e.dom e.gref (closing e) e.count here
-IsRow (Node dev part key v) here = here ≡ Entered (entry.Node dev part key v) ∷ []
-IsRow (Bus dev state) here = here ≡ Entered (entry.Bus dev Front state) ∷ []
-IsRow (Wake dev) here = here ≡ Entered (entry.Wake dev) ∷ []
-IsRow (Back dev count) here = IsStepped dev (Some count) here
-IsRow (Serve dev) here = IsStepped dev None here
+-- or fewer and a mark where it was idle. serve: its steps, and a mark where it was idle. What rides on a device's last access
+-- among some items is `rides`.
+abbrev pub IsRow : (rides : DevId → List Item → Option Said) → Statement → List Item → Type 0
+IsRow rides (Put at v) here = here ≡ front_store at v ∷ []
+IsRow rides (Fill f) here = here ≡ stores_of f f.count
+IsRow rides (Swap at old new) here = (seen : ℕ) × (here ≡ front_swap at old new seen ∷ [])
+IsRow rides (Open o) here = EachDone o.dom o.gref (opening o) o.count here
+IsRow rides (End e) here = EachDone e.dom e.gref (closing e) e.count here
+IsRow rides (Node dev part key v) here = here ≡ Entered (entry.Node dev part key v) ∷ []
+IsRow rides (Bus dev state) here = here ≡ Entered (entry.Bus dev Front state) ∷ []
+IsRow rides (Wake dev) here = here ≡ Entered (entry.Wake dev) ∷ []
+IsRow rides (Back dev count) here = IsStepped (rides dev) dev (Some count) here
+IsRow rides (Serve dev) here = IsStepped (rides dev) dev None here
 
 -- a part of these, from their beginning
 abbrev pub IsPartOf : Statement → List Item → Type 0
@@ -82,24 +88,33 @@ IsPartOf (Wake dev) here = here ≡ []
 IsPartOf (Back dev count) here = AreSteps dev.0 here × AtMost (Some count) (accesses_in here)
 IsPartOf (Serve dev) here = AreSteps dev.0 here
 
--- the entries of each statement, one after another, behind what came before; after each the journal is whole
-abbrev pub Follows : (IsWhole : List Item → Type 0) → List Statement → (before m : List Item) → Type 0
-Follows IsWhole [] before m = m ≡ []
-Follows IsWhole (s ∷ ss) before m =
-    (here : List Item) × (rest : List Item) × (m ≡ here ++ rest) × IsRow s here × IsWhole (before ++ here) × Follows IsWhole ss (before ++ here) rest
+-- the event that rides on the last access of a device, behind what came before
+abbrev pub rides_in : (frames grants : ℕ → ℕ) → List DeviceSetup → (before : List Item) → DevId → List Item → Option Said
+rides_in frames grants devices before dev here = due_by frames grants devices dev.0 (before ++ here)
+
+-- no device has an event still to say, or a refusal still to tell
+abbrev pub AreSettled : (frames grants : ℕ → ℕ) → List DeviceSetup → List Item → Type 0
+AreSettled frames grants devices m = AllByRecursion (IsSettledIn frames grants m) devices
+
+-- the entries of each statement, one after another, behind what came before; after each all devices are settled
+abbrev pub Follows : (frames grants : ℕ → ℕ) → List DeviceSetup → List Statement → (before m : List Item) → Type 0
+Follows frames grants devices [] before m = m ≡ []
+Follows frames grants devices (s ∷ ss) before m =
+    (here : List Item) × (rest : List Item) × (m ≡ here ++ rest) × IsRow (rides_in frames grants devices before) s here
+    × AreSettled frames grants devices (before ++ here) × Follows frames grants devices ss (before ++ here) rest
 
 -- the next statement was begun, if one is left
-abbrev pub IsBegun : List Statement → List Item → Type 0
-IsBegun [] part = part ≡ []
-IsBegun (s ∷ ss) part = IsPartOf s part ⊎ IsRow s part
+abbrev pub IsBegun : (rides : DevId → List Item → Option Said) → List Statement → List Item → Type 0
+IsBegun rides [] part = part ≡ []
+IsBegun rides (s ∷ ss) part = IsPartOf s part ⊎ IsRow rides s part
 
 -- the entries of the statements up to some one, of that one perhaps a part
-pub record FollowsTo (IsWhole : List Item → Type 0) (ss : List Statement) (m : List Item) : Type 0 where
+pub record FollowsTo (frames grants : ℕ → ℕ) (devices : List DeviceSetup) (ss : List Statement) (m : List Item) : Type 0 where
   pub done : List Statement
   pub left : List Statement
   pub followed : List Item
   pub part : List Item
   pub statements : ss ≡ done ++ left
   pub items : m ≡ followed ++ part
-  pub follows : Follows IsWhole done [] followed
-  pub begun : IsBegun left part
+  pub follows : Follows frames grants devices done [] followed
+  pub begun : IsBegun (rides_in frames grants devices followed) left part

@@ -5,7 +5,7 @@ use Rattle.pv_words.specs.declared.entry.Entry.{Entry}
 use Rattle.pv_words.specs.Sizes.{frames_by, grants_by}
 use Rattle.scenario_text.specs.Scenario.{Scenario}
 use Rattle.backend_core.specs.Marked.{Item, entries}
-use Rattle.backend_core.specs.History.{AnswersIn, IsHistory, IsMachineRunIn, IsPromptIn, IsSettledIn, KeepsIn}
+use Rattle.backend_core.specs.History.{AnswersIn, IsHistory, IsMachineRunIn, IsPromptIn, KeepsIn}
 use Rattle.scenario_run.specs.Follows.{Follows, FollowsTo}
 
 -- Whatever was played: the journal is lawful and explained; what each device says and hears is a run of the display
@@ -20,21 +20,17 @@ pub record IsTrueJournal (s : Scenario) (m : List Item) (es : List Entry) : Type
   -- no access comes after its page is gone
   pub kept : AllByRecursion (KeepsIn (frames_by s.sizes) (grants_by s.sizes) m) s.devices
 
--- no device has an event still to say, or a refusal still to tell
-abbrev pub IsWholeIn : Scenario → List Item → Type 0
-IsWholeIn s m = AllByRecursion (IsSettledIn (frames_by s.sizes) (grants_by s.sizes) m) s.devices
-
 -- the journal is the scenario's, to its end
 pub record IsLegal (s : Scenario) (es : List Entry) : Type 0 where
   pub marked : List Item
   pub so_far : IsTrueJournal s marked es
-  pub follows : Follows (IsWholeIn s) s.statements [] marked
+  pub follows : Follows (frames_by s.sizes) (grants_by s.sizes) s.devices s.statements [] marked
 
 -- the journal is the scenario's, up to some statement
 pub record IsLegalTo (s : Scenario) (es : List Entry) : Type 0 where
   pub marked : List Item
   pub so_far : IsTrueJournal s marked es
-  pub follows : FollowsTo (IsWholeIn s) s.statements marked
+  pub follows : FollowsTo (frames_by s.sizes) (grants_by s.sizes) s.devices s.statements marked
 
 -- the journal has as many entries as it may have, and a further one is due
 pub record IsFullFor (s : Scenario) (es : List Entry) : Type 0 where

@@ -13,7 +13,7 @@ use Rattle.pv_words.specs.Port.{IsUnkept, Port}
 use Rattle.scenario_text.specs.declared.statement.Statement.TheVariants.{Put, Fill, Swap, Open, End, Node, Bus, Wake, Back, Serve}
 use Rattle.backend_core.specs.History.{IsHistory, IsPromptIn, is_declared, parts_by}
 use Rattle.pv_world.specs.World.{Sight, Stands, setups}
-use Rattle.scenario_run.specs.Follows.{IsRow, IsPartOf}
+use Rattle.scenario_run.specs.Follows.{IsRow, IsPartOf, rides_in}
 
 -- a history in which devices say and refuse without delay
 abbrev pub IsPromptHistory : (frames grants : ℕ → ℕ) → List DeviceSetup → List Item → Type 0
@@ -24,7 +24,7 @@ pub record IsFullIn (frames grants : ℕ → ℕ) (devices : List DeviceSetup) (
   pub length_is : length es ≡ 8388608
   pub due : Entry
   pub goes_on : IsPromptHistory frames grants devices (m ++ (part ++ Entered due ∷ []))
-  pub next : IsPartOf s (part ++ Entered due ∷ []) ⊎ IsRow s (part ++ Entered due ∷ [])
+  pub next : IsPartOf s (part ++ Entered due ∷ []) ⊎ IsRow (rides_in frames grants devices m) s (part ++ Entered due ∷ [])
 
 abbrev pub HasCauseIn : (frames grants : ℕ → ℕ) (devices : List DeviceSetup) (s : Statement) (m part : List Item) (es : List Entry) → Stop → Type 0
 HasCauseIn frames grants devices s m part es JournalFull = IsFullIn frames grants devices s m part es
@@ -40,7 +40,7 @@ pub record StopsAt (frames grants : ℕ → ℕ) (devices : List DeviceSetup) (s
 
 abbrev pub Played : {W : Type 0} → Sight W → (frames grants : ℕ → ℕ) (memory : W) (devices : List Placed) (s : Statement) (es : List Entry) (m : List Item) {A : Type 0} → Result A Stop → Type 0
 Played g frames grants memory devices s es m (Ok x) =
-    (here : List Item) × IsRow s here × Stands g frames grants memory devices (m ++ here) × (entries (m ++ here) ≡ es)
+    (here : List Item) × IsRow (rides_in frames grants (setups devices) m) s here × Stands g frames grants memory devices (m ++ here) × (entries (m ++ here) ≡ es)
 Played g frames grants memory devices s es m (Err stop) = StopsAt frames grants (setups devices) s stop m es
 
 -- A statement may be played: its place, its words and its grants are in range, and it stores and exchanges no half of a

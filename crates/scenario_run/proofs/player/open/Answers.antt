@@ -10,7 +10,7 @@ pub returns-in_err-permit-clause-played : goal.returns-in_err-permit-clause-play
 returns-in_err-permit-clause-played g c = λ frames grants m st e.
     let p = err_from_is_err_and c.from_residual.result c.from_residual.ensures.1 in
     let o = c.args.opening.now in
-    rw (p.1, p.2) (each_stops frames grants o.dom o.gref (opening o) o.count (Open o) (λ h x. x) (λ h x. x) c.loop-k.k (omega (arith, c.loop-k-test.true)) (sight g.W.Machine.word g.W.Words.frames_of g.W.Words.grants_of g.W.Words.port g.W.Machine.whole g.W.Machine.knows_device g.W.Machine.knows_domain) (memory_of c.loop-k.world) (memory_of c.permit.new.self) (devices_of c.loop-k.world) (devices_of c.permit.new.self) c.loop-k.journal.entries c.permit.new.journal.entries m c.in_err-permit.field-0.0 (c.loop-k.invariant.steps frames grants m st e) (λ n s d. c.in_err-permit.ensures.owns frames grants n s d))
+    rw (p.1, p.2) (each_stops frames grants o.dom o.gref (opening o) o.count (Open o) (λ h x. x) (λ rides h x. x) c.loop-k.k (omega (arith, c.loop-k-test.true)) (sight g.W.Machine.word g.W.Words.frames_of g.W.Words.grants_of g.W.Words.port g.W.Machine.whole g.W.Machine.knows_device g.W.Machine.knows_domain) (memory_of c.loop-k.world) (memory_of c.permit.new.self) (devices_of c.loop-k.world) (devices_of c.permit.new.self) c.loop-k.journal.entries c.permit.new.journal.entries m c.in_err-permit.field-0.0 (c.loop-k.invariant.steps frames grants m st e) (λ n s d. c.in_err-permit.ensures.owns frames grants n s d))
 
 pub loop-k-preserved : goal.loop-k-preserved
 loop-k-preserved g c =

@@ -11,8 +11,7 @@ use Rattle.scenario_text.specs.declared.statement.Statement.TheVariants.{Put}
 use Rattle.scenario_text.specs.Playable.{IsPlayed}
 use Rattle.pv_world.specs.World.{setups, devices_of, memory_of}
 use Rattle.backend_core.specs.History.{IsSettledIn}
-use Rattle.scenario_run.specs.Follows.{Follows}
-use Rattle.scenario_run.specs.Legal.{IsWholeIn}
+use Rattle.scenario_run.specs.Follows.{AreSettled, Follows, IsRow, rides_in}
 use Rattle.scenario_run.specs.Played.{IsPromptHistory, StopsAt}
 use Rattle.scenario_run.proofs.Plays.{all_at, can_play, stops_legal, stops_full, stops_below, follows_push, front_is, true_journal}
 use Rattle.scenario_run.proofs.Wholes.{settled_all}
@@ -86,9 +85,13 @@ loop-statement-preserved g c =
     let inside : i < length s.statements = omega (arith, ap length c.statements-statements.ensures) in
     let played = c.in_ok-play_statement.ensures.played (frames_by s.sizes) (grants_by s.sizes) inv.0 inv.2 inv.3 in
     let world = c.play_statement.new.world in
-    let whole : IsWholeIn s (inv.0 ++ played.0) = subst (λ (ds : List DeviceSetup). AllByRecursion (IsSettledIn (frames_by s.sizes) (grants_by s.sizes) (inv.0 ++ played.0)) ds) (c.play_statement.ensures.devices ∙ inv.4) (settled_all _ (frames_by s.sizes) (grants_by s.sizes) (memory_of world) (devices_of world) (inv.0 ++ played.0) played.2) in (
+    let f = frames_by s.sizes in
+    let h = grants_by s.sizes in
+    let same = c.play_statement.ensures.devices ∙ inv.4 in
+    let row = subst (λ (ds : List DeviceSetup). IsRow (rides_in f h ds inv.0) x played.0) same played.1 in
+    let whole = subst (λ (ds : List DeviceSetup). AreSettled f h ds (inv.0 ++ played.0)) same (settled_all _ f h (memory_of world) (devices_of world) (inv.0 ++ played.0) played.2) in (
       inv.0 ++ played.0,
-      subst (λ (ss : List Statement). Follows (IsWholeIn s) ss [] (inv.0 ++ played.0)) (sym (front_is s i x inside (turn xs s.statements i c.statements-statements.ensures inside))) (follows_push (IsWholeIn s) (take i s.statements) x [] inv.0 played.0 inv.1 played.1 whole),
+      subst (λ (ss : List Statement). Follows f h s.devices ss [] (inv.0 ++ played.0)) (sym (front_is s i x inside (turn xs s.statements i c.statements-statements.ensures inside))) (follows_push f h s.devices (take i s.statements) x [] inv.0 played.0 inv.1 row whole),
       played.2,
       played.3,
       c.play_statement.ensures.devices ∙ inv.4,
@@ -103,5 +106,5 @@ returns-clause-ok g c =
     record {
       marked = inv.0;
       so_far = true_journal s inv.0 c.loop-statement.journal.entries inv.3 (subst (λ (ds : List DeviceSetup). IsPromptHistory (frames_by s.sizes) (grants_by s.sizes) ds inv.0) inv.4 (inv.2.so_far, inv.2.prompt));
-      follows = subst (λ (ss : List Statement). Follows (IsWholeIn s) ss [] inv.0) whole inv.1;
+      follows = subst (λ (ss : List Statement). Follows (frames_by s.sizes) (grants_by s.sizes) s.devices ss [] inv.0) whole inv.1;
     }

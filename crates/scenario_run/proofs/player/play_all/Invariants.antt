@@ -4,13 +4,12 @@ use Rattle.pv_words.specs.Sizes.{frames_by, grants_by}
 use Rattle.backend_core.specs.Marked.{Item, entries}
 use Rattle.pv_world.specs.World.{Stands, devices_of, memory_of, setups, sight}
 use Rattle.scenario_run.specs.Follows.{Follows}
-use Rattle.scenario_run.specs.Legal.{IsWholeIn}
 use Rattle.scenario_run.proofs.player.play_all.Given as goal
 
 -- the journal follows the statements so far, and the world stands for it
 abbrev pub invariant-loop-statement : goal.invariant-loop-statement
 invariant-loop-statement g l =
-    (followed : List Item) × Follows (IsWholeIn l.script) (take l.statement-index l.script.statements) [] followed
+    (followed : List Item) × Follows (frames_by l.script.sizes) (grants_by l.script.sizes) l.script.devices (take l.statement-index l.script.statements) [] followed
     × Stands (sight g.W.Machine.word g.W.Words.frames_of g.W.Words.grants_of g.W.Words.port g.W.Machine.whole g.W.Machine.knows_device g.W.Machine.knows_domain) (frames_by l.script.sizes) (grants_by l.script.sizes) (memory_of l.world) (devices_of l.world) followed
     × (entries followed ≡ l.journal.entries) × (setups (devices_of l.world) ≡ l.script.devices)
     × KeepsNone (g.W.Words.port (memory_of l.world))

@@ -1,14 +1,15 @@
-use Rattle.std.proofs.Common.{◌≡◌, ◌++◌, Some, refl, sym, ◌∙◌, ap, subst, slice_get, slice_set}
+use Rattle.std.proofs.Common.{◌≡◌, List, ◌++◌, Some, refl, sym, ◌∙◌, ap, subst, slice_get, slice_set}
 use Rattle.backend_core.specs.Marked.{items_of}
 use Rattle.pv_words.specs.declared.place.DevId.{DevId}
+use Rattle.pv_words.specs.declared.setup.DeviceSetup.{DeviceSetup}
 use Rattle.pv_words.specs.declared.place.Who.TheVariants.{Dev}
 use Rattle.std.proofs.lemmas.Result.{err_from_is_err_and}
 use Rattle.pv_world.specs.declared.world.Placed.{Placed}
-use Rattle.pv_world.specs.World.{IsPlaced, Stands, sight}
+use Rattle.pv_world.specs.World.{IsPlaced, Rides, Stands, setups, sight}
 use Rattle.pv_world.proofs.Devices.{at_index, is_at_set, read_is, setups_set}
 use Rattle.pv_world.proofs.Serving.{recorded, wanting}
 use Rattle.pv_world.proofs.Standings.{Behaves, Hands, turned_stands}
-use Rattle.pv_world.proofs.Stepping.{may_step, step_stands}
+use Rattle.pv_world.proofs.Stepping.{may_step, step_rides, step_stands}
 use Rattle.pv_world.proofs.Keeps.{keeps_on}
 use Rattle.pv_world.proofs.world.World.advance.Goals as goal
 
@@ -47,8 +48,10 @@ returns-clause-advanced g c = λ frames grants m st e.
     let dev = ap (λ (q : Placed). q.setup.dev) read ∙ x.2 in
     let turned = turned_stands sees frames grants (Dev c.args.dev) w.memory c.turn.new.self w.devices.items m hands st in
     let later = step_stands sees frames grants g.W.Words.makes behaves c.turn.new.self c.step-step.new.words w.devices.items c.args.i p r m c.step-step.result.access c.step-step.result.said at c.step-step.ensures.made (c.turn.ensures.turned.device ∙ ap (λ (d : DevId). Some d.0) (sym dev)) c.step-step.ensures.steps refl refl turned in
+    let rides = step_rides sees frames grants g.W.Words.makes behaves c.turn.new.self w.devices.items c.args.i p m c.step-step.result.access c.step-step.result.said at c.step-step.ensures.rides turned in
     recorded sees frames grants c.step-step.new.words (slice_set w.devices.items c.args.i r) c.args.dev c.step-step.result.access c.step-step.result.said c.make_room.new.journal.entries c.record.new.journal.entries m c.record.result
     (subst (λ (d : DevId). Stands sees frames grants c.step-step.new.words (slice_set w.devices.items c.args.i r) (m ++ items_of d c.step-step.result.access c.step-step.result.said)) dev later) (e ∙ sym c.make_room.ensures.same) c.record.ensures.records
+    (subst (λ (ds : List DeviceSetup). Rides frames grants ds c.args.dev m c.step-step.result.access c.step-step.result.said) (sym (setups_set w.devices.items c.args.i p r at refl)) (subst (λ (d : DevId). Rides frames grants (setups w.devices.items) d m c.step-step.result.access c.step-step.result.said) dev rides))
 
 pub returns-clause-at : goal.returns-clause-at
 returns-clause-at g c =

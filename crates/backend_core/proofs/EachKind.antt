@@ -1,5 +1,5 @@
 -- What is so of devices of every kind, from what is so of each kind's order of work.
-use Rattle.std.proofs.Common.{◌≡◌, ℕ, List, [], ◌∷◌, ◌++◌, Option, Some, None, refl, sym, subst, ◌∙◌, ap, append-nil}
+use Rattle.std.proofs.Common.{◌≡◌, ℕ, false, List, [], ◌∷◌, ◌++◌, Option, Some, None, refl, sym, subst, ◌∙◌, ap, append-nil}
 use Rattle.pv_words.specs.declared.access.Access.{Access}
 use Rattle.pv_words.specs.declared.device.HostEvent.{HostEvent}
 use Rattle.pv_words.specs.declared.device.HostRefusal.{HostRefusal}
@@ -9,7 +9,7 @@ use Rattle.pv_words.specs.declared.setup.DeviceKind.TheVariants as kind
 use Rattle.pv_words.specs.declared.setup.DeviceSetup.{DeviceSetup}
 use Rattle.pv_words.specs.Along.{after, Along, after-append, Along-append}
 use Rattle.pv_words.specs.Held.{Holds, Made, IsProper, holding, holds_of, KeepsToGrants}
-use Rattle.pv_words.specs.Memory.{zeros}
+use Rattle.pv_words.specs.Memory.{Memory, zeros}
 use Rattle.pv_words.specs.Plan.{Plan, Finished, Make, Note, Want, MayGo, wanted}
 use Rattle.device_core.specs.Machine.{Happening, HappensTo, IsRun}
 use Rattle.device_core.specs.Order as order
@@ -17,6 +17,7 @@ use Rattle.device_core.specs.Order.{Own, Did, Spoke, Heard, Hosts, Refused, Stan
 use Rattle.device_core.specs.Site.{Site}
 use Rattle.device_core.proofs.MachineRun.{IsGood, good_after, may_step, memory_left, named_after, proper_after, proper_follow, run_after, snapshot_at}
 use Rattle.device_core.proofs.Passing.{news_may_come}
+use Rattle.device_core.proofs.Single.{FindsBy, IsDoing, one_next}
 use Rattle.device_core.proofs.Stations.{AreHeard, AreOthers, due_heard, heard_made, made_append, others_follow, others_made, station_is, told_is_due}
 use Rattle.display_backend.specs.Display as screen
 use Rattle.display_backend.specs.Machine.{Event}
@@ -28,7 +29,7 @@ use Rattle.backend_core.specs.declared.device.Device.TheVariants.{Display}
 use Rattle.backend_core.specs.Device as backend
 use Rattle.backend_core.specs.Device.{GoesOn, IsDisplay, MayMakeNext, StandsFor}
 use Rattle.backend_core.specs.History.{held_after, site_of}
-use Rattle.backend_core.specs.Kinds.{AnswersAll, Continues, IsExplained, IsMachineRun, IsSettled, display_station, due_after, first_snapshot, machine, made_after, owed_after, parts_of, takes_event}
+use Rattle.backend_core.specs.Kinds.{AnswersAll, Continues, IsExplained, IsMachineRun, IsSettled, display_station, due_after, first_snapshot, machine, made_after, owed_after, parts_of, takes_event, wants_memory}
 use Rattle.backend_core.proofs.Answers.{answers_then}
 
 pub along_front : {S E : Type 0} (step : S → E → S) (may : S → E → Type 0) (s : S) (es fs : List E) → Along step may s (es ++ fs) → Along step may s es
@@ -295,3 +296,16 @@ first_holds frames grants s = ap (λ ms. after (λ h (x : Made). holding frames 
   where
     none_made : (k : DeviceKind) → made_after k (site_of frames grants s) [] ≡ []
     none_made (kind.Display n) = refl
+
+-- what came last could come then
+pub along_last : {S E : Type 0} (step : S → E → S) (may : S → E → Type 0) (s : S) (es : List E) (e : E) → Along step may s (es ++ e ∷ []) → may (after step s es) e
+along_last step may s [] e h = h.0
+along_last step may s (x ∷ es) e h = along_last step may (step s x) es e h.1
+
+-- what a device does next is one thing, where memory isn't wanting
+pub same_next : (m : Memory) (k : DeviceKind) (site : Site) (es : List Own) (a b : Own) → IsDoing a → IsDoing b → IsExplained k site (es ++ a ∷ []) → IsExplained k site (es ++ b ∷ []) → wants_memory k site es a ≡ false → wants_memory k site es b ≡ false → FindsBy m a → FindsBy m b → a ≡ b
+same_next m (kind.Display n) site es a b i j h k w x f g =
+    let p = display_station site es in
+    one_next (display site) m p.stand p.owes a b i j
+    (along_last (followed (display site)) (order.MayFollow (display site)) (at_stand (Between first_work)) es a h)
+    (along_last (followed (display site)) (order.MayFollow (display site)) (at_stand (Between first_work)) es b k) w x f g

@@ -2,4 +2,5 @@ pub mod Answers
 pub mod Consequences
 pub mod Histories
 pub mod Items
+pub mod OneNext
 pub mod EachKind

@@ -1,3 +1,4 @@
 pub mod Follows
+pub mod Laws
 pub mod Legal
 pub mod Played

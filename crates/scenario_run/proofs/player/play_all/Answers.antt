@@ -1,7 +1,6 @@
 use Rattle.std.proofs.Common.{◌≡◌, ℕ, ◌<◌, ◌++◌, List, [], length, take, get_or, sym, subst, ◌∙◌, ap, arith}
 use Rattle.std.proofs.lemmas.List.{get_or_default, take_all}
 use Rattle.std.proofs.lemmas.Result.{err_from_is_err_and}
-use Rattle.std.specs.List.{AllByRecursion}
 use Rattle.pv_words.specs.declared.journal.Stop.TheVariants.{JournalFull, OutOfMemory}
 use Rattle.pv_words.specs.declared.place.Place.TheVariants.{Cell}
 use Rattle.pv_words.specs.declared.setup.DeviceSetup.{DeviceSetup}
@@ -10,7 +9,6 @@ use Rattle.scenario_text.specs.declared.statement.Statement.{Statement}
 use Rattle.scenario_text.specs.declared.statement.Statement.TheVariants.{Put}
 use Rattle.scenario_text.specs.Playable.{IsPlayed}
 use Rattle.pv_world.specs.World.{setups, devices_of, memory_of}
-use Rattle.backend_core.specs.History.{IsSettledIn}
 use Rattle.scenario_run.specs.Follows.{AreSettled, Follows, IsRow, rides_in}
 use Rattle.scenario_run.specs.Played.{IsPromptHistory, StopsAt}
 use Rattle.scenario_run.proofs.Plays.{all_at, can_play, stops_legal, stops_full, stops_below, follows_push, front_is, true_journal}

@@ -1,11 +1,11 @@
 -- What is so of every history.
 use Rattle.pv_words.specs.Port.{PortMay}
 use Rattle.pv_words.proofs.Listing.{port_may}
-use Rattle.backend_core.specs.History.{AnswersIn, IsExplainedIn, IsMachineRunIn, KeepsIn, held_after}
-use Rattle.backend_core.specs.Laws.{FrontsAreHistories, HistoriesAreRuns, ListingSuffices}
+use Rattle.backend_core.specs.History.{AnswersIn, IsExplainedIn, IsMachineRunIn, KeepsIn, TellsIn, held_after, site_of}
+use Rattle.backend_core.specs.Laws.{FrontsAreHistories, HistoriesAreRuns, ListingSuffices, ReadingsTellAll}
 use Rattle.backend_core.specs.Marked.{own}
 use Rattle.backend_core.proofs.Histories.{all_weaker, history_front, prompt_front}
-use Rattle.backend_core.proofs.EachKind.{answers, keeps, next_may, runs}
+use Rattle.backend_core.proofs.EachKind.{answers, keeps, next_may, runs, tells}
 
 pub histories_are_runs : HistoriesAreRuns
 histories_are_runs frames grants devices m h = (
@@ -13,6 +13,10 @@ histories_are_runs frames grants devices m h = (
   all_weaker (IsExplainedIn frames grants m) (AnswersIn frames grants m) (λ s x. answers frames grants s.dom.0 s.kind (own s.dev.0 m) x) devices h.explained,
   all_weaker (IsExplainedIn frames grants m) (KeepsIn frames grants m) (λ s x. keeps frames grants s.dom.0 s.kind (own s.dev.0 m) x) devices h.explained,
 )
+
+pub readings_tell_all : ReadingsTellAll
+readings_tell_all frames grants devices m h =
+    all_weaker (IsExplainedIn frames grants m) (TellsIn frames grants m) (λ s x. tells s.kind (site_of frames grants s) (own s.dev.0 m) x) devices h.explained
 
 pub fronts_are_histories : FrontsAreHistories
 fronts_are_histories frames grants devices m n h = (history_front frames grants devices m n h, prompt_front frames grants devices m n)

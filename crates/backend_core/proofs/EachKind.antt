@@ -17,19 +17,22 @@ use Rattle.device_core.specs.Order.{Own, Did, Spoke, Heard, Hosts, Refused, Stan
 use Rattle.device_core.specs.Site.{Site}
 use Rattle.device_core.proofs.MachineRun.{IsGood, good_after, may_step, memory_left, named_after, proper_after, proper_follow, run_after, snapshot_at}
 use Rattle.device_core.proofs.Passing.{news_may_come}
+use Rattle.device_core.specs.Told.{spoken}
 use Rattle.device_core.proofs.Single.{FindsBy, IsDoing, one_next}
 use Rattle.device_core.proofs.Stations.{AreHeard, AreOthers, due_heard, heard_made, made_append, others_follow, others_made, station_is, told_is_due}
+use Rattle.device_core.proofs.Telling.{told_all}
 use Rattle.display_backend.specs.Display as screen
 use Rattle.display_backend.specs.Machine.{Event}
 use Rattle.display_backend.specs.Waiting.{is_for}
-use Rattle.display_backend.specs.Work.{Work, End, choice, display, first_naming, first_work, reading}
+use Rattle.display_backend.specs.Work.{Work, End, choice, display, first_naming, first_work, reading, told_of}
 use Rattle.display_backend.proofs.Sound.{sound, first_good, first_named}
+use Rattle.display_backend.proofs.Telling.{tells_all}
 use Rattle.backend_core.specs.declared.device.Device.{Device}
 use Rattle.backend_core.specs.declared.device.Device.TheVariants.{Display}
 use Rattle.backend_core.specs.Device as backend
 use Rattle.backend_core.specs.Device.{GoesOn, IsDisplay, MayMakeNext, StandsFor}
 use Rattle.backend_core.specs.History.{held_after, site_of}
-use Rattle.backend_core.specs.Kinds.{AnswersAll, Continues, IsExplained, IsMachineRun, IsSettled, display_station, due_after, first_snapshot, machine, made_after, owed_after, parts_of, takes_event, wants_memory}
+use Rattle.backend_core.specs.Kinds.{AnswersAll, Continues, IsExplained, IsMachineRun, IsSettled, display_station, due_after, first_snapshot, machine, made_after, owed_after, parts_of, takes_event, told_after, wants_memory}
 use Rattle.backend_core.proofs.Answers.{answers_then}
 
 pub along_front : {S E : Type 0} (step : S → E → S) (may : S → E → Type 0) (s : S) (es fs : List E) → Along step may s (es ++ fs) → Along step may s es
@@ -309,3 +312,7 @@ same_next m (kind.Display n) site es a b i j h k w x f g =
     one_next (display site) m p.stand p.owes a b i j
     (along_last (followed (display site)) (order.MayFollow (display site)) (at_stand (Between first_work)) es a h)
     (along_last (followed (display site)) (order.MayFollow (display site)) (at_stand (Between first_work)) es b k) w x f g
+
+-- what the machine's history tells is what the device did
+pub tells : (k : DeviceKind) (site : Site) (es : List Own) → IsExplained k site es → told_after k site es ≡ spoken es
+tells (kind.Display n) site es h = told_all (display site) (reading site) told_of (tells_all site) (at_stand (Between first_work)) es first_naming zeros h

@@ -14,6 +14,7 @@ use Rattle.pv_words.specs.Memory.{IsLawful}
 use Rattle.pv_words.specs.Held.{Holds, KeepsToGrants, holding, holds_of}
 use Rattle.device_core.specs.Order.{Own}
 use Rattle.device_core.specs.Site.{Site}
+use Rattle.device_core.specs.Told.{spoken}
 use Rattle.backend_core.specs.Kinds as kinds
 use Rattle.backend_core.specs.Kinds.{parts_of, takes_event, made_after}
 use Rattle.backend_core.specs.Marked.{Item, Entered, Idle, entries, entry_of, nodes_in, own, told_in}
@@ -130,3 +131,7 @@ AnswersIn frames grants m s = kinds.AnswersAll s.kind (site_of frames grants s) 
 abbrev pub KeepsIn : (frames grants : ℕ → ℕ) → List Item → DeviceSetup → Type 0
 KeepsIn frames grants m s =
     KeepsToGrants frames grants s.dom.0 (holds_of []) (made_after s.kind (site_of frames grants s) (own s.dev.0 m))
+
+-- Its machine's history tells just what the device said and heard in the journal, and each refusal, in order.
+abbrev pub TellsIn : (frames grants : ℕ → ℕ) → List Item → DeviceSetup → Type 0
+TellsIn frames grants m s = kinds.told_after s.kind (site_of frames grants s) (own s.dev.0 m) ≡ spoken (own s.dev.0 m)

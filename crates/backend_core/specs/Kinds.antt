@@ -10,10 +10,11 @@ use Rattle.pv_words.specs.Along.{after}
 use Rattle.pv_words.specs.Held.{Made}
 use Rattle.pv_words.specs.Memory.{zeros}
 use Rattle.device_core.specs.Order as order
-use Rattle.device_core.specs.Order.{Own, Did, Order, Either, Stand, Between, Station, at_stand, at_rest, due_at, followed, is_in_page, made_by}
+use Rattle.device_core.specs.Order.{Own, Spoke, Heard, Order, Either, Stand, Between, Station, at_stand, at_rest, due_at, followed, is_in_page, made_by}
 use Rattle.device_core.specs.Machine.{Happening, HappensTo, IsRun, Snapshot, Table, history}
 use Rattle.device_core.specs.Site.{Site}
-use Rattle.display_backend.specs.Work.{Work, End, display, reading, first_naming, first_work}
+use Rattle.device_core.specs.Told.{told_by}
+use Rattle.display_backend.specs.Work.{Work, End, display, reading, first_naming, first_work, told_of}
 use Rattle.display_backend.specs.Machine.{Event, Hand, Rows, Moves, first_rows, makes, owes, verdict}
 use Rattle.display_backend.specs.Waiting.{is_for}
 use Rattle.backend_core.specs.Answered.{IsAnsweredIn}
@@ -75,6 +76,10 @@ first_snapshot = record { rows = first_rows; names = []; owes = None }
 -- what happens to a display's machine: what it says and hears, and each write of a word of a live name, whoever writes
 abbrev pub display_events : Site → List Own → List (Happening Event)
 display_events site es = history (display site) (reading site) (at_stand (Between first_work)) first_naming zeros es
+
+-- what the history of a device's machine tells of what the device said, heard and refused
+abbrev pub told_after : DeviceKind → Site → List Own → List Own
+told_after (Display connectors) site es = told_by told_of (display_events site es)
 
 -- what a device says and hears, with the words that are drawn, is a run of its machine
 abbrev pub IsMachineRun : DeviceKind → Site → List Own → Type 0

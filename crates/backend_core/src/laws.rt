@@ -1,11 +1,17 @@
 //! What is so of every journal of devices.
 
-ghost use Rattle.backend_core.specs.Laws.{FrontsAreHistories, HistoriesAreRuns, ListingSuffices};
+ghost use Rattle.backend_core.specs.Laws.{FrontsAreHistories, HistoriesAreRuns, ListingSuffices, ReadingsTellAll};
 
 /// Whatever was played, what a device said and heard is a run of its machine, its accepted requests are answered, and each of
 /// its accesses lies in a page that it mapped and holds.
 pub fn histories_are_runs()
     ensures { HistoriesAreRuns }
+{}
+
+/// What the history of a device's machine tells is what was entered of the device: all that it said and heard and each refusal,
+/// in order, and nothing else.
+pub fn readings_tell_all()
+    ensures { ReadingsTellAll }
 {}
 
 /// Every front of a history is one.

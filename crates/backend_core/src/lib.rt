@@ -5,7 +5,7 @@ mod device;
 mod laws;
 
 pub use device::Device;
-pub use laws::{fronts_are_histories, histories_are_runs, listing_suffices};
+pub use laws::{fronts_are_histories, histories_are_runs, listing_suffices, readings_tell_all};
 
 #[cfg(test)]
 mod tests;

@@ -5,3 +5,4 @@ pub mod Runs
 pub mod Single
 pub mod Stations
 pub mod Steps
+pub mod Telling

@@ -2,3 +2,4 @@ pub mod Machine
 pub mod Names
 pub mod Order
 pub mod Site
+pub mod Told

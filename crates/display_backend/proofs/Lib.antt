@@ -37,6 +37,7 @@ pub mod Stays
 pub mod StockPages
 pub mod Stocks
 pub mod Stores
+pub mod Telling
 pub mod Walking
 pub mod Wholes
 pub mod Works

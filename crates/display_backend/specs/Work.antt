@@ -35,7 +35,7 @@ use Rattle.link_core.specs.Activities.{Page, Joined, Connected, Joins, Refuses, 
 use Rattle.link_core.specs.Activities as link
 use Rattle.device_core.specs.Machine.{Reading, Happening, Row, Gone}
 use Rattle.device_core.specs.Names.{Name, cells_of}
-use Rattle.device_core.specs.Order.{News, Sets, Hosts, Order, Act, Either, Rest, Rules, Stand, work_at}
+use Rattle.device_core.specs.Order.{News, Sets, Hosts, Order, Act, Either, Rest, Rules, Stand, work_at, Own, Spoke, Heard}
 use Rattle.display_backend.specs.declared.display.Progress.{Progress}
 use Rattle.display_backend.specs.declared.display.Progress.TheVariants as progress
 use Rattle.display_backend.specs.declared.display.Round.{Round}
@@ -488,6 +488,12 @@ begins_with w m None = begins_by w m (action_of w.connection)
 abbrev pub begins_of : Work → Naming → Bool → List (Happening Event)
 begins_of w m true = []
 begins_of w m false = begins_with w m w.kept
+
+-- whether something that happens to the rows is said or heard, and what
+abbrev pub told_of : Event → Option Own
+told_of (Says s taken) = Some (Spoke s)
+told_of (Hears news) = Some (Heard news)
+told_of Begins = None
 
 -- the display's work read as a machine of rows and names
 abbrev pub reading : Site → Reading Work End Naming Rows Event

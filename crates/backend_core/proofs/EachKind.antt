@@ -101,15 +101,12 @@ did_owes (kind.Display n) site es a h =
     ap (λ (p : Station Work End). p.owes) (station_more site es (Did a ∷ []) ∙ ap (λ p. followed (display site) p (Did a)) (station_settled n site es h))
 
 module _ (frames grants : ℕ → ℕ) (s : DeviceSetup) where
-  abbrev site : Site
-  site = site_of frames grants s
-
   abbrev hold : Holds → Made → Holds
   hold h x = holding frames h x.note x.access
 
   -- what is held after more
-  pub held_more : (es more : List Own) (x : List Made) → made_after s.kind site (es ++ more) ≡ made_after s.kind site es ++ x → held_after frames grants s (es ++ more) ≡ after hold (held_after frames grants s es) x
-  held_more es more x e = ap (λ ms. after hold (holds_of []) ms) e ∙ after-append hold (holds_of []) (made_after s.kind site es) x
+  pub held_more : (es more : List Own) (x : List Made) → made_after s.kind (site_of frames grants s) (es ++ more) ≡ made_after s.kind (site_of frames grants s) es ++ x → held_after frames grants s (es ++ more) ≡ after hold (held_after frames grants s es) x
+  held_more es more x e = ap (λ ms. after hold (holds_of []) ms) e ∙ after-append hold (holds_of []) (made_after s.kind (site_of frames grants s) es) x
 
 -- the accesses of others leave what is held
 pub others_held : (frames grants : ℕ → ℕ) (s : DeviceSetup) (es more : List Own) → AreOthers more → held_after frames grants s (es ++ more) ≡ held_after frames grants s es

@@ -244,6 +244,7 @@ impl<W: Machine> World<W> {
         ensures devices { setups (devices_of self.new) ≡ setups (devices_of self.old) }
         ensures keeps { KeepsSame (W.port (memory_of self.old)) (W.port (memory_of self.new)) }
     {
+        // Room for the entry of the store, before the word is stored.
         admit(journal, 1)?;
         let dom = domain(place);
         self.memory.turn(Who::Dom(dom));

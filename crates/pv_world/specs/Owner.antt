@@ -17,9 +17,10 @@ use Rattle.grant_table.specs.OwnerLeft.{permit_left, end_left}
 use Rattle.pv_world.specs.declared.owner.Owning.{Owning}
 use Rattle.pv_world.specs.declared.owner.Owning.TheVariants as owning
 use Rattle.pv_world.specs.declared.world.Placed.{Placed}
+use Rattle.pv_world.specs.declared.world.World.{World}
 use Rattle.backend_core.specs.Marked.{Item, Entered, entries}
 use Rattle.backend_core.specs.History.{IsHistory}
-use Rattle.pv_world.specs.World.{Sight, Stands, front_access, setups}
+use Rattle.pv_world.specs.World.{FromEach, Sight, Stands, devices_of, front_access, memory_of, setups}
 
 -- what is left of a permit or an end
 abbrev pub left_of : Owning → Plan Owned
@@ -107,3 +108,10 @@ EntersTurn dom gref a o old new (Ok more) =
     (new ≡ old ++ (entries (access_items a) ++ entries (told_items dom (news_of gref o)))) × (more ≡ is_none o)
 EntersTurn dom gref a o old new (Err stop) =
     (t : Told) × (news_of gref o ≡ Some t) × (new ≡ old ++ entries (access_items a)) × (stop ≡ JournalFull) × (length new ≡ 8388608)
+
+-- the same of a world and its journal, from each of its histories
+abbrev pub OwnsFrom : {W : Type 0} → Sight W → World W → List Entry → DomId → GrantRef → Plan Owned → World W → List Entry → {A : Type 0} → Result A Stop → Type 0
+OwnsFrom g old es dom gref plan new fs r = FromEach g old es (λ frames grants m. Owns g frames grants (memory_of new) (devices_of new) dom gref plan fs m r)
+
+abbrev pub OwnsOnFrom : {W : Type 0} → Sight W → World W → List Entry → DomId → GrantRef → (plan left : Plan Owned) → World W → List Entry → Result Bool Stop → Type 0
+OwnsOnFrom g old es dom gref plan left new fs r = FromEach g old es (λ frames grants m. OwnsOn g frames grants (memory_of new) (devices_of new) dom gref plan left fs m r)

@@ -213,3 +213,29 @@ HasParts s = (1 ≤ parts_of s.kind) × (parts_of s.kind ≤ 4)
 -- the device of this number stands there
 abbrev pub IsAt : List Placed → ℕ → DevId → Type 0
 IsAt devices i dev = (p : Placed) × (slice_get devices i ≡ Some p) × (p.setup.dev ≡ dev)
+
+-- some history of this world's has these entries
+abbrev pub StandingAt : {W : Type 0} → Sight W → World W → List Entry → Type 0
+StandingAt g w es = Standing g (memory_of w) (devices_of w) es
+
+-- so it is from each history of the old world's that has these entries
+abbrev pub FromEach : {W : Type 0} → Sight W → World W → List Entry → ((frames grants : ℕ → ℕ) → List Item → Type 0) → Type 0
+FromEach g old es leads =
+    (frames grants : ℕ → ℕ) (m : List Item) → Stands g frames grants (memory_of old) (devices_of old) m → entries m ≡ es → leads frames grants m
+
+-- What a call made of a world and its journal, from each of its histories: one entry was entered, a word was exchanged, an event
+-- was told by the host, one step was made, or a device was stepped.
+abbrev pub EntersFrom : {W : Type 0} → Sight W → World W → List Entry → Item → World W → List Entry → {A : Type 0} → Result A Stop → Type 0
+EntersFrom g old es due new fs r = FromEach g old es (λ frames grants m. Enters g frames grants (memory_of new) (devices_of new) due fs m r)
+
+abbrev pub ExchangesFrom : {W : Type 0} → Sight W → World W → List Entry → Place → (from to : ℕ) → World W → List Entry → {A : Type 0} → Result A Stop → Type 0
+ExchangesFrom g old es at from to new fs r = FromEach g old es (λ frames grants m. Exchanged g frames grants (memory_of new) (devices_of new) at from to fs m r)
+
+abbrev pub HostsFrom : {W : Type 0} → Sight W → World W → List Entry → DevId → HostEvent → World W → List Entry → {A : Type 0} → Result A Stop → Type 0
+HostsFrom g old es dev e new fs r = FromEach g old es (λ frames grants m. Hosted g frames grants (memory_of new) (devices_of new) dev e fs m r)
+
+abbrev pub AdvancesFrom : {W : Type 0} → Sight W → World W → List Entry → DevId → World W → List Entry → Result (Option Bool) Stop → Type 0
+AdvancesFrom g old es dev new fs r = FromEach g old es (λ frames grants m. Advanced g frames grants (memory_of new) (devices_of new) dev fs m r)
+
+abbrev pub StepsFrom : {W : Type 0} → Sight W → World W → List Entry → DevId → Option ℕ → World W → List Entry → {A : Type 0} → Result A Stop → Type 0
+StepsFrom g old es dev most new fs r = FromEach g old es (λ frames grants m. SteppedBy g frames grants (memory_of new) (devices_of new) dev most fs m r)

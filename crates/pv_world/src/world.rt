@@ -208,16 +208,15 @@ impl<W: Machine + Drop> World<W> {
 }
 
 impl<W: Machine> World<W> {
-    ghost use Rattle.std.specs.Prelude.{ℕ, List, Option};
+    ghost use Rattle.std.specs.Prelude.{ℕ};
     ghost use Rattle.pv_words.specs.Plan.{IsUnfinished};
     ghost use Rattle.pv_words.specs.Place.{InRange};
     ghost use Rattle.grant_table.specs.Owning.{end_plan, permit_plan};
-    ghost use Rattle.backend_core.specs.Marked.{Item, entries};
     ghost use Rattle.backend_core.specs.History.{is_declared, parts_by, takes_by};
     ghost use Rattle.pv_words.specs.Keeping.{MayGoOn};
     ghost use Rattle.pv_words.specs.Port.{IsUnkept, KeepsSame};
-    ghost use Rattle.pv_world.specs.Owner.{Owns, OwnsOn, left_of};
-    ghost use Rattle.pv_world.specs.World.{Advanced, Enters, Exchanged, Hosted, IsAt, Standing, Stands, SteppedBy, devices_of, front_store, memory_of, setups, sight};
+    ghost use Rattle.pv_world.specs.Owner.{OwnsFrom, OwnsOnFrom, left_of};
+    ghost use Rattle.pv_world.specs.World.{AdvancesFrom, EntersFrom, ExchangesFrom, HostsFrom, IsAt, StandingAt, StepsFrom, devices_of, front_store, memory_of, setups, sight};
 
     // Where a device stands among the devices.
     fn position(&self, dev: DevId) -> usize
@@ -234,12 +233,10 @@ impl<W: Machine> World<W> {
     /// A domain stores a word, but none of a grant entry that the memory keeps. Where the entry finds no room, nothing
     /// changes.
     pub fn put(&mut self, place: Place, v: u32, journal: &mut Journal) -> Result<(), Stop>
-        requires standing { Standing (sight W.word W.frames_of W.grants_of W.port W.whole W.knows_device W.knows_domain) (memory_of self.old) (devices_of self.old) journal.old.entries }
+        requires standing { StandingAt (sight W.word W.frames_of W.grants_of W.port W.whole W.knows_device W.knows_domain) self.old journal.old.entries }
         requires range { InRange (W.frames_of (memory_of self.old)) (W.grants_of (memory_of self.old)) place }
         requires unkept { IsUnkept (W.port (memory_of self.old)) place }
-        ensures stored { (frames grants : ℕ → ℕ) (m : List Item) →
-            Stands (sight W.word W.frames_of W.grants_of W.port W.whole W.knows_device W.knows_domain) frames grants (memory_of self.old) (devices_of self.old) m → entries m ≡ journal.old.entries →
-            Enters (sight W.word W.frames_of W.grants_of W.port W.whole W.knows_device W.knows_domain) frames grants (memory_of self.new) (devices_of self.new) (front_store place v) journal.new.entries m result }
+        ensures stored { EntersFrom (sight W.word W.frames_of W.grants_of W.port W.whole W.knows_device W.knows_domain) self.old journal.old.entries (front_store place v) self.new journal.new.entries result }
         ensures err { OnErr result (self.new ≡ self.old) }
         ensures devices { setups (devices_of self.new) ≡ setups (devices_of self.old) }
         ensures keeps { KeepsSame (W.port (memory_of self.old)) (W.port (memory_of self.new)) }
@@ -262,12 +259,10 @@ impl<W: Machine> World<W> {
         new: u32,
         journal: &mut Journal,
     ) -> Result<(), Stop>
-        requires standing { Standing (sight W.word W.frames_of W.grants_of W.port W.whole W.knows_device W.knows_domain) (memory_of self.old) (devices_of self.old) journal.old.entries }
+        requires standing { StandingAt (sight W.word W.frames_of W.grants_of W.port W.whole W.knows_device W.knows_domain) self.old journal.old.entries }
         requires range { InRange (W.frames_of (memory_of self.old)) (W.grants_of (memory_of self.old)) place }
         requires unkept { IsUnkept (W.port (memory_of self.old)) place }
-        ensures exchanged { (frames grants : ℕ → ℕ) (m : List Item) →
-            Stands (sight W.word W.frames_of W.grants_of W.port W.whole W.knows_device W.knows_domain) frames grants (memory_of self.old) (devices_of self.old) m → entries m ≡ journal.old.entries →
-            Exchanged (sight W.word W.frames_of W.grants_of W.port W.whole W.knows_device W.knows_domain) frames grants (memory_of self.new) (devices_of self.new) place old new journal.new.entries m result }
+        ensures exchanged { ExchangesFrom (sight W.word W.frames_of W.grants_of W.port W.whole W.knows_device W.knows_domain) self.old journal.old.entries place old new self.new journal.new.entries result }
         ensures err { OnErr result (self.new ≡ self.old) }
         ensures devices { setups (devices_of self.new) ≡ setups (devices_of self.old) }
         ensures keeps { KeepsSame (W.port (memory_of self.old)) (W.port (memory_of self.new)) }
@@ -288,13 +283,11 @@ impl<W: Machine> World<W> {
         gref: GrantRef,
         journal: &mut Journal,
     ) -> Result<bool, Stop>
-        requires standing { Standing (sight W.word W.frames_of W.grants_of W.port W.whole W.knows_device W.knows_domain) (memory_of self.old) (devices_of self.old) journal.old.entries }
+        requires standing { StandingAt (sight W.word W.frames_of W.grants_of W.port W.whole W.knows_device W.knows_domain) self.old journal.old.entries }
         requires live { IsUnfinished (left_of owning.old) }
         requires goes { MayGoOn (W.port (memory_of self.old)) dom.0 gref.0 (left_of owning.old) }
         requires range { gref.0 < W.grants_of (memory_of self.old) dom.0 }
-        ensures owns { (frames grants : ℕ → ℕ) (m : List Item) →
-            Stands (sight W.word W.frames_of W.grants_of W.port W.whole W.knows_device W.knows_domain) frames grants (memory_of self.old) (devices_of self.old) m → entries m ≡ journal.old.entries →
-            OwnsOn (sight W.word W.frames_of W.grants_of W.port W.whole W.knows_device W.knows_domain) frames grants (memory_of self.new) (devices_of self.new) dom gref (left_of owning.old) (left_of owning.new) journal.new.entries m result }
+        ensures owns { OwnsOnFrom (sight W.word W.frames_of W.grants_of W.port W.whole W.knows_device W.knows_domain) self.old journal.old.entries dom gref (left_of owning.old) (left_of owning.new) self.new journal.new.entries result }
         ensures live { result ≡ Ok true → IsUnfinished (left_of owning.new) × MayGoOn (W.port (memory_of self.new)) dom.0 gref.0 (left_of owning.new) }
         ensures range { W.grants_of (memory_of self.new) dom.0 ≡ W.grants_of (memory_of self.old) dom.0 }
         ensures same { devices_of self.new ≡ devices_of self.old }
@@ -315,13 +308,11 @@ impl<W: Machine> World<W> {
         gref: GrantRef,
         journal: &mut Journal,
     ) -> Result<(), Stop>
-        requires standing { Standing (sight W.word W.frames_of W.grants_of W.port W.whole W.knows_device W.knows_domain) (memory_of self.old) (devices_of self.old) journal.old.entries }
+        requires standing { StandingAt (sight W.word W.frames_of W.grants_of W.port W.whole W.knows_device W.knows_domain) self.old journal.old.entries }
         requires live { IsUnfinished (left_of owning) }
         requires goes { MayGoOn (W.port (memory_of self.old)) dom.0 gref.0 (left_of owning) }
         requires range { gref.0 < W.grants_of (memory_of self.old) dom.0 }
-        ensures owns { (frames grants : ℕ → ℕ) (m : List Item) →
-            Stands (sight W.word W.frames_of W.grants_of W.port W.whole W.knows_device W.knows_domain) frames grants (memory_of self.old) (devices_of self.old) m → entries m ≡ journal.old.entries →
-            Owns (sight W.word W.frames_of W.grants_of W.port W.whole W.knows_device W.knows_domain) frames grants (memory_of self.new) (devices_of self.new) dom gref (left_of owning) journal.new.entries m result }
+        ensures owns { OwnsFrom (sight W.word W.frames_of W.grants_of W.port W.whole W.knows_device W.knows_domain) self.old journal.old.entries dom gref (left_of owning) self.new journal.new.entries result }
         ensures grants { W.grants_of (memory_of self.new) dom.0 ≡ W.grants_of (memory_of self.old) dom.0 }
         ensures same { devices_of self.new ≡ devices_of self.old }
         ensures keeps { KeepsSame (W.port (memory_of self.old)) (W.port (memory_of self.new)) }
@@ -341,11 +332,9 @@ impl<W: Machine> World<W> {
         mode: Mode,
         journal: &mut Journal,
     ) -> Result<(), Stop>
-        requires standing { Standing (sight W.word W.frames_of W.grants_of W.port W.whole W.knows_device W.knows_domain) (memory_of self.old) (devices_of self.old) journal.old.entries }
+        requires standing { StandingAt (sight W.word W.frames_of W.grants_of W.port W.whole W.knows_device W.knows_domain) self.old journal.old.entries }
         requires range { gref.0 < W.grants_of (memory_of self.old) dom.0 }
-        ensures owns { (frames grants : ℕ → ℕ) (m : List Item) →
-            Stands (sight W.word W.frames_of W.grants_of W.port W.whole W.knows_device W.knows_domain) frames grants (memory_of self.old) (devices_of self.old) m → entries m ≡ journal.old.entries →
-            Owns (sight W.word W.frames_of W.grants_of W.port W.whole W.knows_device W.knows_domain) frames grants (memory_of self.new) (devices_of self.new) dom gref (permit_plan dom.0 gref.0 frame.0 mode) journal.new.entries m result }
+        ensures owns { OwnsFrom (sight W.word W.frames_of W.grants_of W.port W.whole W.knows_device W.knows_domain) self.old journal.old.entries dom gref (permit_plan dom.0 gref.0 frame.0 mode) self.new journal.new.entries result }
         ensures grants { W.grants_of (memory_of self.new) dom.0 ≡ W.grants_of (memory_of self.old) dom.0 }
         ensures devices { setups (devices_of self.new) ≡ setups (devices_of self.old) }
         ensures keeps { KeepsSame (W.port (memory_of self.old)) (W.port (memory_of self.new)) }
@@ -361,11 +350,9 @@ impl<W: Machine> World<W> {
         gref: GrantRef,
         journal: &mut Journal,
     ) -> Result<(), Stop>
-        requires standing { Standing (sight W.word W.frames_of W.grants_of W.port W.whole W.knows_device W.knows_domain) (memory_of self.old) (devices_of self.old) journal.old.entries }
+        requires standing { StandingAt (sight W.word W.frames_of W.grants_of W.port W.whole W.knows_device W.knows_domain) self.old journal.old.entries }
         requires range { gref.0 < W.grants_of (memory_of self.old) dom.0 }
-        ensures owns { (frames grants : ℕ → ℕ) (m : List Item) →
-            Stands (sight W.word W.frames_of W.grants_of W.port W.whole W.knows_device W.knows_domain) frames grants (memory_of self.old) (devices_of self.old) m → entries m ≡ journal.old.entries →
-            Owns (sight W.word W.frames_of W.grants_of W.port W.whole W.knows_device W.knows_domain) frames grants (memory_of self.new) (devices_of self.new) dom gref (end_plan dom.0 gref.0) journal.new.entries m result }
+        ensures owns { OwnsFrom (sight W.word W.frames_of W.grants_of W.port W.whole W.knows_device W.knows_domain) self.old journal.old.entries dom gref (end_plan dom.0 gref.0) self.new journal.new.entries result }
         ensures grants { W.grants_of (memory_of self.new) dom.0 ≡ W.grants_of (memory_of self.old) dom.0 }
         ensures devices { setups (devices_of self.new) ≡ setups (devices_of self.old) }
         ensures keeps { KeepsSame (W.port (memory_of self.old)) (W.port (memory_of self.new)) }
@@ -387,9 +374,7 @@ impl<W: Machine> World<W> {
         requires part { part < parts_by (setups (devices_of self.old)) dev.0 }
         requires parts { part < 4 }
         requires key { key < 4 }
-        ensures set { (frames grants : ℕ → ℕ) (m : List Item) →
-            Stands (sight W.word W.frames_of W.grants_of W.port W.whole W.knows_device W.knows_domain) frames grants (memory_of self.old) (devices_of self.old) m → entries m ≡ journal.old.entries →
-            Enters (sight W.word W.frames_of W.grants_of W.port W.whole W.knows_device W.knows_domain) frames grants (memory_of self.new) (devices_of self.new) (Entered (entry.Node dev part key v)) journal.new.entries m result }
+        ensures set { EntersFrom (sight W.word W.frames_of W.grants_of W.port W.whole W.knows_device W.knows_domain) self.old journal.old.entries (Entered (entry.Node dev part key v)) self.new journal.new.entries result }
         ensures devices { setups (devices_of self.new) ≡ setups (devices_of self.old) }
         ensures err { OnErr result (self.new ≡ self.old) }
         ensures memory { memory_of self.new ≡ memory_of self.old }
@@ -404,9 +389,7 @@ impl<W: Machine> World<W> {
     /// A frontend sets its state, and its device hears it, with the nodes as they are set by then.
     pub fn bus(&mut self, dev: DevId, s: State, journal: &mut Journal) -> Result<(), Stop>
         requires declared { is_declared (setups (devices_of self.old)) dev.0 ≡ true }
-        ensures heard { (frames grants : ℕ → ℕ) (m : List Item) →
-            Stands (sight W.word W.frames_of W.grants_of W.port W.whole W.knows_device W.knows_domain) frames grants (memory_of self.old) (devices_of self.old) m → entries m ≡ journal.old.entries →
-            Enters (sight W.word W.frames_of W.grants_of W.port W.whole W.knows_device W.knows_domain) frames grants (memory_of self.new) (devices_of self.new) (Entered (entry.Bus dev end.Front s)) journal.new.entries m result }
+        ensures heard { EntersFrom (sight W.word W.frames_of W.grants_of W.port W.whole W.knows_device W.knows_domain) self.old journal.old.entries (Entered (entry.Bus dev end.Front s)) self.new journal.new.entries result }
         ensures devices { setups (devices_of self.new) ≡ setups (devices_of self.old) }
         ensures err { OnErr result (self.new ≡ self.old) }
         ensures memory { memory_of self.new ≡ memory_of self.old }
@@ -422,12 +405,10 @@ impl<W: Machine> World<W> {
     /// A host tells a device an event of its kind and of a part that it has, and the device takes it or refuses it. After a
     /// Stop the entries so far stand; where the event's own entry found no room, the device wasn't told.
     pub fn host(&mut self, dev: DevId, e: HostEvent, journal: &mut Journal) -> Result<(), Stop>
-        requires standing { Standing (sight W.word W.frames_of W.grants_of W.port W.whole W.knows_device W.knows_domain) (memory_of self.old) (devices_of self.old) journal.old.entries }
+        requires standing { StandingAt (sight W.word W.frames_of W.grants_of W.port W.whole W.knows_device W.knows_domain) self.old journal.old.entries }
         requires declared { is_declared (setups (devices_of self.old)) dev.0 ≡ true }
         requires fits { takes_by (setups (devices_of self.old)) dev.0 e ≡ true }
-        ensures hosted { (frames grants : ℕ → ℕ) (m : List Item) →
-            Stands (sight W.word W.frames_of W.grants_of W.port W.whole W.knows_device W.knows_domain) frames grants (memory_of self.old) (devices_of self.old) m → entries m ≡ journal.old.entries →
-            Hosted (sight W.word W.frames_of W.grants_of W.port W.whole W.knows_device W.knows_domain) frames grants (memory_of self.new) (devices_of self.new) dev e journal.new.entries m result }
+        ensures hosted { HostsFrom (sight W.word W.frames_of W.grants_of W.port W.whole W.knows_device W.knows_domain) self.old journal.old.entries dev e self.new journal.new.entries result }
         ensures devices { setups (devices_of self.new) ≡ setups (devices_of self.old) }
         ensures memory { memory_of self.new ≡ memory_of self.old }
     {
@@ -440,9 +421,7 @@ impl<W: Machine> World<W> {
     /// A frontend raises its device's pending word.
     pub fn wake(&mut self, dev: DevId, journal: &mut Journal) -> Result<(), Stop>
         requires declared { is_declared (setups (devices_of self.old)) dev.0 ≡ true }
-        ensures woken { (frames grants : ℕ → ℕ) (m : List Item) →
-            Stands (sight W.word W.frames_of W.grants_of W.port W.whole W.knows_device W.knows_domain) frames grants (memory_of self.old) (devices_of self.old) m → entries m ≡ journal.old.entries →
-            Enters (sight W.word W.frames_of W.grants_of W.port W.whole W.knows_device W.knows_domain) frames grants (memory_of self.new) (devices_of self.new) (Entered (entry.Wake dev)) journal.new.entries m result }
+        ensures woken { EntersFrom (sight W.word W.frames_of W.grants_of W.port W.whole W.knows_device W.knows_domain) self.old journal.old.entries (Entered (entry.Wake dev)) self.new journal.new.entries result }
         ensures same { self.new ≡ self.old }
     {
         admit(journal, 1)?;
@@ -452,11 +431,9 @@ impl<W: Machine> World<W> {
 
     // Makes one step of a device and enters it. Tells whether it made an access, or was idle.
     fn advance(&mut self, i: usize, dev: DevId, journal: &mut Journal) -> Result<Option<bool>, Stop>
-        requires standing { Standing (sight W.word W.frames_of W.grants_of W.port W.whole W.knows_device W.knows_domain) (memory_of self.old) (devices_of self.old) journal.old.entries }
+        requires standing { StandingAt (sight W.word W.frames_of W.grants_of W.port W.whole W.knows_device W.knows_domain) self.old journal.old.entries }
         requires at { IsAt (devices_of self.old) i dev }
-        ensures advanced { (frames grants : ℕ → ℕ) (m : List Item) →
-            Stands (sight W.word W.frames_of W.grants_of W.port W.whole W.knows_device W.knows_domain) frames grants (memory_of self.old) (devices_of self.old) m → entries m ≡ journal.old.entries →
-            Advanced (sight W.word W.frames_of W.grants_of W.port W.whole W.knows_device W.knows_domain) frames grants (memory_of self.new) (devices_of self.new) dev journal.new.entries m result }
+        ensures advanced { AdvancesFrom (sight W.word W.frames_of W.grants_of W.port W.whole W.knows_device W.knows_domain) self.old journal.old.entries dev self.new journal.new.entries result }
         ensures at { IsAt (devices_of self.new) i dev }
         ensures devices { setups (devices_of self.new) ≡ setups (devices_of self.old) }
         ensures keeps { KeepsSame (W.port (memory_of self.old)) (W.port (memory_of self.new)) }
@@ -471,12 +448,10 @@ impl<W: Machine> World<W> {
     /// Steps a device until it is idle, or, where a number is given, until it has made so many accesses. After a Stop the
     /// entries so far stand.
     pub fn back(&mut self, dev: DevId, most: Option<u32>, journal: &mut Journal) -> Result<(), Stop>
-        requires standing { Standing (sight W.word W.frames_of W.grants_of W.port W.whole W.knows_device W.knows_domain) (memory_of self.old) (devices_of self.old) journal.old.entries }
+        requires standing { StandingAt (sight W.word W.frames_of W.grants_of W.port W.whole W.knows_device W.knows_domain) self.old journal.old.entries }
         requires declared { is_declared (setups (devices_of self.old)) dev.0 ≡ true }
         requires least { (n : ℕ) → most ≡ Some n → 1 ≤ n }
-        ensures stepped { (frames grants : ℕ → ℕ) (m : List Item) →
-            Stands (sight W.word W.frames_of W.grants_of W.port W.whole W.knows_device W.knows_domain) frames grants (memory_of self.old) (devices_of self.old) m → entries m ≡ journal.old.entries →
-            SteppedBy (sight W.word W.frames_of W.grants_of W.port W.whole W.knows_device W.knows_domain) frames grants (memory_of self.new) (devices_of self.new) dev most journal.new.entries m result }
+        ensures stepped { StepsFrom (sight W.word W.frames_of W.grants_of W.port W.whole W.knows_device W.knows_domain) self.old journal.old.entries dev most self.new journal.new.entries result }
         ensures devices { setups (devices_of self.new) ≡ setups (devices_of self.old) }
         ensures keeps { KeepsSame (W.port (memory_of self.old)) (W.port (memory_of self.new)) }
     {

@@ -7,12 +7,13 @@ use Rattle.pv_words.specs.declared.journal.Stop.TheVariants.{JournalFull, OutOfM
 use Rattle.pv_words.specs.declared.setup.DeviceSetup.{DeviceSetup}
 use Rattle.scenario_text.specs.declared.statement.Statement.{Statement}
 use Rattle.pv_world.specs.declared.world.Placed.{Placed}
+use Rattle.pv_world.specs.declared.world.World.{World}
 use Rattle.backend_core.specs.Marked.{Item, Entered, entries}
 use Rattle.pv_words.specs.Place.{InRange}
 use Rattle.pv_words.specs.Port.{IsUnkept, Port}
 use Rattle.scenario_text.specs.declared.statement.Statement.TheVariants.{Put, Fill, Swap, Open, End, Node, Bus, Wake, Back, Serve}
 use Rattle.backend_core.specs.History.{IsHistory, IsPromptIn, is_declared, parts_by}
-use Rattle.pv_world.specs.World.{Sight, Stands, setups}
+use Rattle.pv_world.specs.World.{FromEach, Sight, Stands, devices_of, memory_of, setups}
 use Rattle.scenario_run.specs.Follows.{IsRow, IsPartOf, rides_in}
 
 -- a history in which devices say and refuse without delay
@@ -60,3 +61,11 @@ CanPlay frames grants port devices (Bus dev state) = is_declared devices dev.0 �
 CanPlay frames grants port devices (Wake dev) = is_declared devices dev.0 ≡ true
 CanPlay frames grants port devices (Back dev count) = (is_declared devices dev.0 ≡ true) × (1 ≤ count)
 CanPlay frames grants port devices (Serve dev) = is_declared devices dev.0 ≡ true
+
+-- a statement may be played in this world
+abbrev pub CanPlayIn : {W : Type 0} → Sight W → World W → Statement → Type 0
+CanPlayIn g w s = CanPlay (g.frames (memory_of w)) (g.grants (memory_of w)) (g.port (memory_of w)) (setups (devices_of w)) s
+
+-- what it made of a world and its journal, from each of its histories
+abbrev pub PlaysFrom : {W : Type 0} → Sight W → World W → List Entry → Statement → World W → List Entry → {A : Type 0} → Result A Stop → Type 0
+PlaysFrom g old es s new fs r = FromEach g old es (λ frames grants m. Played g frames grants (memory_of new) (devices_of new) s fs m r)

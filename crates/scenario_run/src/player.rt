@@ -1,16 +1,14 @@
 //! Plays the statements of a scenario, one after another.
 
-ghost use Rattle.std.specs.Prelude.{◌≡◌, ◌<◌, ℕ, [], length, List, OnOk, OnErr, Err, true};
+ghost use Rattle.std.specs.Prelude.{◌≡◌, ◌<◌, [], length, OnOk, OnErr, Err};
 ghost use Rattle.pv_words.specs.declared.journal.Stop.TheVariants as stop;
-ghost use Rattle.pv_words.specs.Place.{InRange};
 ghost use Rattle.pv_words.specs.Port.{KeepsNone, KeepsSame};
 ghost use Rattle.pv_words.specs.Sizes.{frames_by, grants_by};
 ghost use Rattle.scenario_text.specs.Playable.{IsPlayable};
 ghost use Rattle.scenario_text.specs.declared.statement.Statement.TheVariants as statement;
-ghost use Rattle.backend_core.specs.Marked.{Item, entries};
-ghost use Rattle.pv_world.specs.World.{Standing, Stands, devices_of, memory_of, setups, sight};
+ghost use Rattle.pv_world.specs.World.{StandingAt, Stands, devices_of, memory_of, setups, sight};
 ghost use Rattle.scenario_run.specs.Legal.{IsLegal, IsLegalTo, IsFullFor};
-ghost use Rattle.scenario_run.specs.Played.{Played, CanPlay};
+ghost use Rattle.scenario_run.specs.Played.{CanPlayIn, PlaysFrom};
 
 use pv_words::{Frame, GrantRef, Journal, ListWords, Machine, Place, Stop};
 use pv_world::World;
@@ -26,11 +24,9 @@ fn fill<W: Machine>(
     filling: &Filling,
     journal: &mut Journal,
 ) -> Result<(), Stop>
-    requires standing { Standing (sight W.word W.frames_of W.grants_of W.port W.whole W.knows_device W.knows_domain) (memory_of world.old) (devices_of world.old) journal.old.entries }
-    requires playable { CanPlay (W.frames_of (memory_of world.old)) (W.grants_of (memory_of world.old)) (W.port (memory_of world.old)) (setups (devices_of world.old)) (statement.Fill filling.now) }
-    ensures played { (frames grants : ℕ → ℕ) (m : List Item) →
-        Stands (sight W.word W.frames_of W.grants_of W.port W.whole W.knows_device W.knows_domain) frames grants (memory_of world.old) (devices_of world.old) m → entries m ≡ journal.old.entries →
-        Played (sight W.word W.frames_of W.grants_of W.port W.whole W.knows_device W.knows_domain) frames grants (memory_of world.new) (devices_of world.new) (statement.Fill filling.now) journal.new.entries m result }
+    requires standing { StandingAt (sight W.word W.frames_of W.grants_of W.port W.whole W.knows_device W.knows_domain) world.old journal.old.entries }
+    requires playable { CanPlayIn (sight W.word W.frames_of W.grants_of W.port W.whole W.knows_device W.knows_domain) world.old (statement.Fill filling.now) }
+    ensures played { PlaysFrom (sight W.word W.frames_of W.grants_of W.port W.whole W.knows_device W.knows_domain) world.old journal.old.entries (statement.Fill filling.now) world.new journal.new.entries result }
     ensures devices { setups (devices_of world.new) ≡ setups (devices_of world.old) }
     ensures keeps { KeepsSame (W.port (memory_of world.old)) (W.port (memory_of world.new)) }
 {
@@ -50,11 +46,9 @@ fn open<W: Machine>(
     opening: &Opening,
     journal: &mut Journal,
 ) -> Result<(), Stop>
-    requires standing { Standing (sight W.word W.frames_of W.grants_of W.port W.whole W.knows_device W.knows_domain) (memory_of world.old) (devices_of world.old) journal.old.entries }
-    requires playable { CanPlay (W.frames_of (memory_of world.old)) (W.grants_of (memory_of world.old)) (W.port (memory_of world.old)) (setups (devices_of world.old)) (statement.Open opening.now) }
-    ensures played { (frames grants : ℕ → ℕ) (m : List Item) →
-        Stands (sight W.word W.frames_of W.grants_of W.port W.whole W.knows_device W.knows_domain) frames grants (memory_of world.old) (devices_of world.old) m → entries m ≡ journal.old.entries →
-        Played (sight W.word W.frames_of W.grants_of W.port W.whole W.knows_device W.knows_domain) frames grants (memory_of world.new) (devices_of world.new) (statement.Open opening.now) journal.new.entries m result }
+    requires standing { StandingAt (sight W.word W.frames_of W.grants_of W.port W.whole W.knows_device W.knows_domain) world.old journal.old.entries }
+    requires playable { CanPlayIn (sight W.word W.frames_of W.grants_of W.port W.whole W.knows_device W.knows_domain) world.old (statement.Open opening.now) }
+    ensures played { PlaysFrom (sight W.word W.frames_of W.grants_of W.port W.whole W.knows_device W.knows_domain) world.old journal.old.entries (statement.Open opening.now) world.new journal.new.entries result }
     ensures devices { setups (devices_of world.new) ≡ setups (devices_of world.old) }
     ensures keeps { KeepsSame (W.port (memory_of world.old)) (W.port (memory_of world.new)) }
 {
@@ -72,11 +66,9 @@ fn end<W: Machine>(
     closing: &Closing,
     journal: &mut Journal,
 ) -> Result<(), Stop>
-    requires standing { Standing (sight W.word W.frames_of W.grants_of W.port W.whole W.knows_device W.knows_domain) (memory_of world.old) (devices_of world.old) journal.old.entries }
-    requires playable { CanPlay (W.frames_of (memory_of world.old)) (W.grants_of (memory_of world.old)) (W.port (memory_of world.old)) (setups (devices_of world.old)) (statement.End closing.now) }
-    ensures played { (frames grants : ℕ → ℕ) (m : List Item) →
-        Stands (sight W.word W.frames_of W.grants_of W.port W.whole W.knows_device W.knows_domain) frames grants (memory_of world.old) (devices_of world.old) m → entries m ≡ journal.old.entries →
-        Played (sight W.word W.frames_of W.grants_of W.port W.whole W.knows_device W.knows_domain) frames grants (memory_of world.new) (devices_of world.new) (statement.End closing.now) journal.new.entries m result }
+    requires standing { StandingAt (sight W.word W.frames_of W.grants_of W.port W.whole W.knows_device W.knows_domain) world.old journal.old.entries }
+    requires playable { CanPlayIn (sight W.word W.frames_of W.grants_of W.port W.whole W.knows_device W.knows_domain) world.old (statement.End closing.now) }
+    ensures played { PlaysFrom (sight W.word W.frames_of W.grants_of W.port W.whole W.knows_device W.knows_domain) world.old journal.old.entries (statement.End closing.now) world.new journal.new.entries result }
     ensures devices { setups (devices_of world.new) ≡ setups (devices_of world.old) }
     ensures keeps { KeepsSame (W.port (memory_of world.old)) (W.port (memory_of world.new)) }
 {
@@ -92,11 +84,9 @@ fn play_statement<W: Machine>(
     statement: &Statement,
     journal: &mut Journal,
 ) -> Result<(), Stop>
-    requires standing { Standing (sight W.word W.frames_of W.grants_of W.port W.whole W.knows_device W.knows_domain) (memory_of world.old) (devices_of world.old) journal.old.entries }
-    requires playable { CanPlay (W.frames_of (memory_of world.old)) (W.grants_of (memory_of world.old)) (W.port (memory_of world.old)) (setups (devices_of world.old)) statement.now }
-    ensures played { (frames grants : ℕ → ℕ) (m : List Item) →
-        Stands (sight W.word W.frames_of W.grants_of W.port W.whole W.knows_device W.knows_domain) frames grants (memory_of world.old) (devices_of world.old) m → entries m ≡ journal.old.entries →
-        Played (sight W.word W.frames_of W.grants_of W.port W.whole W.knows_device W.knows_domain) frames grants (memory_of world.new) (devices_of world.new) statement.now journal.new.entries m result }
+    requires standing { StandingAt (sight W.word W.frames_of W.grants_of W.port W.whole W.knows_device W.knows_domain) world.old journal.old.entries }
+    requires playable { CanPlayIn (sight W.word W.frames_of W.grants_of W.port W.whole W.knows_device W.knows_domain) world.old statement.now }
+    ensures played { PlaysFrom (sight W.word W.frames_of W.grants_of W.port W.whole W.knows_device W.knows_domain) world.old journal.old.entries statement.now world.new journal.new.entries result }
     ensures devices { setups (devices_of world.new) ≡ setups (devices_of world.old) }
     ensures keeps { KeepsSame (W.port (memory_of world.old)) (W.port (memory_of world.new)) }
 {

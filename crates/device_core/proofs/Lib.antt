@@ -1,3 +1,4 @@
+pub mod ByPlain
 pub mod Drawing
 pub mod MachineRun
 pub mod Passing
@@ -6,3 +7,4 @@ pub mod Single
 pub mod Stations
 pub mod Steps
 pub mod Telling
+mod Touching

@@ -1,5 +1,5 @@
 -- Names: the buffers that live in a domain's pages, and how their words change, whoever writes them.
-use Rattle.std.specs.Prelude.{◌≡◌, ℕ, zero, suc, ◌+◌, ◌<◌, ◌==◌, List, [], ◌∷◌, ◌++◌, length, map, slice_set, Option, Some, None, if◌then◌else◌}
+use Rattle.std.specs.Prelude.{◌≡◌, ℕ, zero, suc, ◌+◌, ◌<◌, ◌==◌, Bool, true, false, List, [], ◌∷◌, ◌++◌, length, map, slice_get, slice_set, Option, Some, None, if◌then◌else◌}
 use Rattle.pv_words.specs.declared.access.Access.{Access}
 use Rattle.pv_words.specs.declared.access.Access.TheVariants as access
 use Rattle.pv_words.specs.declared.grant.Hold.{Hold}
@@ -28,14 +28,27 @@ unfoldable pub cells_of : List Hold → List Place
 cells_of [] = []
 cells_of (h ∷ hs) = cells_from h 0 1024 ++ cells_of hs
 
+-- What a reading knows of the words: nothing, so that its names are numbers alone, or the memory.
+pub data Sight : Type 0 where
+  Numbers : Sight
+  Words : Memory → Sight
+
+abbrev pub is_worded : Sight → Bool
+is_worded Numbers = false
+is_worded (Words memory) = true
+
 abbrev pub words_at : Memory → List Place → List ℕ
 words_at memory cells = map memory cells
 
-abbrev pub drawn : Memory → Name → Drawn
-drawn memory n = record { number = n.number; words = words_at memory n.cells }
+abbrev pub words_in : Sight → List Place → List ℕ
+words_in Numbers cells = []
+words_in (Words memory) cells = words_at memory cells
 
-abbrev pub all_drawn : Memory → List Name → List Drawn
-all_drawn memory names = map (drawn memory) names
+abbrev pub drawn : Sight → Name → Drawn
+drawn sight n = record { number = n.number; words = words_in sight n.cells }
+
+abbrev pub all_drawn : Sight → List Name → List Drawn
+all_drawn sight names = map (drawn sight) names
 
 -- a word that is written, and where
 pub record Writing : Type 0 where
@@ -49,7 +62,7 @@ writing_of (access.Store at v) = Some (record { place = at; word = v })
 writing_of (access.Cas at old new seen) = if seen == old then Some (record { place = at; word = new }) else None
 writing_of (access.Clear at mask seen) = Some (record { place = at; word = without seen mask })
 
--- a word of a name is written: the name's number, which of its words, and the word
+-- a word of a name: the name's number, which of its words, and the word
 pub record Stroke : Type 0 where
   pub number : ℕ
   pub index : ℕ
@@ -79,6 +92,14 @@ pub record Redraws (s : Stroke) (old new : List Drawn) : Type 0 where
   pub inside : s.index < length words
   pub old_is : old ≡ before ++ record { number = s.number; words = words } ∷ behind
   pub new_is : new ≡ before ++ record { number = s.number; words = slice_set words s.index s.word } ∷ behind
+
+-- the name is live, and that word of it is this one, where the words are known
+pub record HasWord (worded : Bool) (s : Stroke) (names : List Drawn) : Type 0 where
+  pub before : List Drawn
+  pub words : List ℕ
+  pub behind : List Drawn
+  pub live : names ≡ before ++ record { number = s.number; words = words } ∷ behind
+  pub word : worded ≡ true → slice_get words s.index ≡ Some s.word
 
 -- one name is live no longer
 pub record Loses (number : ℕ) (old new : List Drawn) : Type 0 where

@@ -1,7 +1,7 @@
 -- That a reading tells just what the device said and heard, in order.
 use Rattle.std.specs.Prelude.{◌≡◌, List, [], ◌∷◌, ◌++◌, Option, Some, None}
 use Rattle.pv_words.specs.declared.device.Said.{Said}
-use Rattle.device_core.specs.Machine.{Reading, Happening, Row, Refuses}
+use Rattle.device_core.specs.Machine.{Reading, Happening, Row, Meanwhile, Refuses}
 use Rattle.device_core.specs.Order.{News, Own, Spoke, Heard, Refused}
 
 -- what a device says and hears, among all that it does, and the refusals of what it hears
@@ -21,11 +21,12 @@ one_or_none (Some e) = e ∷ []
 abbrev pub told_by : {E : Type 0} → (E → Option Own) → List (Happening E) → List Own
 told_by tells [] = []
 told_by tells (Row e words ∷ hs) = one_or_none (tells e) ++ told_by tells hs
+told_by tells (Meanwhile e ∷ hs) = one_or_none (tells e) ++ told_by tells hs
 told_by tells (Refuses why ∷ hs) = Refused why ∷ told_by tells hs
 told_by tells (h ∷ hs) = told_by tells hs
 
 -- what is said and heard happens to the rows as such, and an activity's beginning is neither
-pub record TellsAll {W O N R E : Type 0} (d : Reading W O N R E) (tells : E → Option Own) : Type 0 where
-  pub said : (w : W) (o : O) (t : Said) → tells (d.event w o t) ≡ Some (Spoke t)
+pub record TellsAll {S W O N R E : Type 0} (d : Reading S W O N R E) (tells : E → Option Own) : Type 0 where
+  pub said : (w : W) (o : O) (s : S) (t : Said) → tells (d.event w o s t) ≡ Some (Spoke t)
   pub heard : (news : News) → tells (d.heard news) ≡ Some (Heard news)
   pub began : (w : W) (n : N) → told_by tells (d.began w n) ≡ []

@@ -13,7 +13,7 @@ use Rattle.pv_words.specs.declared.grant.Mode.{Mode}
 use Rattle.pv_words.specs.declared.grant.Mode.TheVariants.{Read, Write}
 use Rattle.pv_words.specs.Held.{Begun, Holds, Has, Covers, CoversToWrite, Marks, MarksPage, Stays, IsFor, IsProper, Names, holding, holds_of, in_use, same_hold, same_mode, begins, passed, kept, exchanged, framed, cleared, unheld, unmissed}
 use Rattle.pv_words.specs.Place.{InRange, domain_of}
-use Rattle.pv_words.specs.Plan.{Want, Load, Store, Swap, Clear, Note, Plain, Begins, Frames, Undoes, Ends, aim_of, wanted}
+use Rattle.pv_words.specs.Plan.{Want, Load, Store, Swap, Clear, Note, Undoes, Ends, aim_of, wanted}
 use Rattle.pv_words.specs.Port.{Port, PortMay, Leaves, Turned, Listing, Lists, IsFree, IsListed, KeepsNone, Cleared, Owns, IsUnkept, OwnsAny, OwnsKept, OwnsBy, MayFor, no_listing, listing, listed_after, settled, without_all, rest_of, marks, marks_page, is_of, number_of, count, begun_list, mappings}
 
 -- one of a list, by itself
@@ -347,23 +347,19 @@ settled_lists m h cs g mask none l = by (count (is_of g mask) cs == mappings g m
     by false e = l
 
 cleared_lists : (m h : Holds) (cs : List Cleared) (g mask : ℕ) (note : Note) → h.begun ≡ None → Names h g mask note → Lists (List_of m cs) h → Lists (settled g mask (List_of m (Bits g mask ∷ cs))) (cleared h g mask note)
-cleared_lists m h cs g mask Plain none is l = absurd is
-cleared_lists m h cs g mask (Begins n) none is l = absurd is
-cleared_lists m h cs g mask (Frames n) none is l = absurd is
 cleared_lists m h cs g mask Undoes none is l =
     settled_lists m (record { held = h.held; begun = h.begun; missed = unmissed g mask h.missed }) (Bits g mask ∷ cs) g mask none (undone_lists m h cs g mask is l)
 cleared_lists m h cs g mask (Ends k) none is l =
     let left : Holds = record { held = unheld k h.held; begun = h.begun; missed = h.missed } in
     subst (λ t. Lists (settled g mask (List_of m (Bits g mask ∷ cs))) (cond t left h)) (sym (pair k.gref.0 g (in_use k.mode) mask is.0.0 is.0.1))
     (settled_lists m left (Bits g mask ∷ cs) g mask none (ended_lists m h cs g mask k is.0 is.1 l))
+cleared_lists m h cs g mask other none is l = absurd is
 
 -- what a clear is for, also where a mapping was just begun
 names_kept : (h : Holds) (g mask : ℕ) (note : Note) → Names h g mask note → Names (kept h) g mask note
-names_kept h g mask Plain is = is
-names_kept h g mask (Begins n) is = is
-names_kept h g mask (Frames n) is = is
 names_kept h g mask Undoes is = passed_has (Marks g mask) h.begun h.missed is
 names_kept h g mask (Ends k) is = is
+names_kept h g mask other is = absurd is
 
 -- no mapping, no listing
 pub lists_none : Lists no_listing (holds_of [])

@@ -9,7 +9,7 @@ use Rattle.pv_words.specs.declared.grant.Mode.{Mode}
 use Rattle.pv_words.specs.declared.grant.Mode.TheVariants.{Read, Write}
 use Rattle.pv_words.specs.Along.{Along}
 use Rattle.pv_words.specs.Place.{InRange}
-use Rattle.pv_words.specs.Plan.{Want, Load, Store, Swap, Clear, Note, Plain, Begins, Frames, Undoes, Ends, aim_of, wanted}
+use Rattle.pv_words.specs.Plan.{Want, Load, Store, Swap, Clear, Note, Undoes, Ends, aim_of, wanted}
 
 -- the in-use bits of a mapping: 8 reading, 16 writing
 abbrev pub in_use : Mode → ℕ
@@ -87,12 +87,10 @@ unmissed gref mask (b ∷ bs) = if (b.gref == gref) && (in_use b.mode == mask) t
 -- After a clear of in-use bits: it ends the mapping that it is for. The bits alone don't tell which one, where a domain
 -- erased them and the same entry was mapped again.
 abbrev pub cleared : Holds → ℕ → ℕ → Note → Holds
-cleared h gref mask Plain = h
-cleared h gref mask (Begins g) = h
-cleared h gref mask (Frames g) = h
 cleared h gref mask Undoes = record { held = h.held; begun = h.begun; missed = unmissed gref mask h.missed }
 cleared h gref mask (Ends k) =
     if (k.gref.0 == gref) && (in_use k.mode == mask) then record { held = unheld k h.held; begun = h.begun; missed = h.missed } else h
+cleared h gref mask other = h
 
 -- what a device holds after one more access of its own, of which it is known what it is for
 abbrev pub holding : (frames : ℕ → ℕ) → Holds → Note → Access → Holds
@@ -147,11 +145,9 @@ Stays dom h (Clear (Grant d g FrameNo) mask) = ⊥
 
 -- what a clear of in-use bits is for names one of the device's mappings, with this reference and these bits
 abbrev pub Names : Holds → ℕ → ℕ → Note → Type 0
-Names h gref mask Plain = ⊥
-Names h gref mask (Begins g) = ⊥
-Names h gref mask (Frames g) = ⊥
 Names h gref mask Undoes = Has (Marks gref mask) h.missed
 Names h gref mask (Ends k) = MarksPage gref mask k × Has (λ x. x ≡ k) h.held
+Names h gref mask other = ⊥
 
 abbrev pub IsFor : Holds → Want → Note → Type 0
 IsFor h (Clear (Grant d g Flags) mask) note = Names h g.0 mask note

@@ -1,4 +1,5 @@
 pub mod Along
+pub mod Found
 pub mod Held
 pub mod Keeping
 pub mod Layout

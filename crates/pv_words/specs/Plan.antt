@@ -50,6 +50,10 @@ pub data Note : Type 0 where
   Undoes : Note
   -- the clear that ends this hold
   Ends : Hold → Note
+  -- the load of this word, from 0 on, of the pages of the name that the device knows by this key
+  Takes : ℕ → ℕ → Note
+  -- the store of it
+  Puts : ℕ → ℕ → Note
 
 -- an activity: over, with a result, or an access, what it is for, and what follows each word that it may find
 pub data Plan (A : Type 0) : Type 0 where
@@ -77,6 +81,12 @@ Turns old (Some a) (Some x) new = Goes old a (Finished x)
 abbrev pub Makes : {P : Type 0} → (P → Access → P → Type 0) → P → Option Access → P → Type 0
 Makes makes old None new = new ≡ old
 Makes makes old (Some a) new = makes old a new
+
+-- the access touches no word of a name
+abbrev pub IsUntouched : Note → Type 0
+IsUntouched (Takes key index) = ⊥
+IsUntouched (Puts key index) = ⊥
+IsUntouched other = Unit {0}
 
 -- a plan whose result is handed on
 abbrev pub mapped : {A B : Type 0} → (A → B) → Plan A → Plan B

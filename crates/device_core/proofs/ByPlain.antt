@@ -18,24 +18,24 @@ none_touched (Takes key index) a u = absurd u
 none_touched (Puts key index) a u = absurd u
 
 module _ {S W O N R E : Type 0} (r : Rules W O) (d : Reading S W O N R E) (May : S → Want → Note → Type 0) (plain : machine.Plain r d May) where
-  abbrev Tells : W → Carried S → Type 0
+  abbrev pub Tells : W → Carried S → Type 0
   Tells w k = plain.Tells w k.own × (k.touched ≡ [])
 
-  abbrev EndsWell : W → Carried S → O → Type 0
+  abbrev pub EndsWell : W → Carried S → O → Type 0
   EndsWell w k o = plain.EndsWell w k.own o × (k.touched ≡ [])
 
-  fits_carried : (w : W) (k : Carried S) (p : Plan O) → k.touched ≡ [] → FitsFrom (λ j want note. May j want note × IsUntouched note) d.carry (λ j o. plain.Tells (r.settled w o) j × plain.EndsWell w j o) k.own p → FitsFrom (λ j want note. May j.own want note × IsUntouched note) (carrying d.carry) (λ j o. Tells (r.settled w o) j × EndsWell w j o) k p
+  pub fits_carried : (w : W) (k : Carried S) (p : Plan O) → k.touched ≡ [] → FitsFrom (λ j want note. May j want note × IsUntouched note) d.carry (λ j o. plain.Tells (r.settled w o) j × plain.EndsWell w j o) k.own p → FitsFrom (λ j want note. May j.own want note × IsUntouched note) (carrying d.carry) (λ j o. Tells (r.settled w o) j × EndsWell w j o) k p
   fits_carried w k (Finished o) e h = ((h.0, e), (h.1, e))
   fits_carried w k (Make want note more) e h =
       (h.0, λ v. fits_carried w (carrying d.carry k note (found want v)) (more v) (ap (λ xs. xs ++ touch_of note (found want v)) e ∙ none_touched note (found want v) h.0.1) (h.1 v))
 
-  untouched : (w : W) (v : View S N) → v.carried.touched ≡ [] → shown_as r d w v.naming v.sight [] ≡ shown r d w v
+  pub untouched : (w : W) (v : View S N) → v.carried.touched ≡ [] → shown_as r d w v.naming v.sight [] ≡ shown r d w v
   untouched w v e = ap (λ ts. shown_as r d w v.naming v.sight (touched_in r d w v.naming ts)) (sym e)
 
-  stays : (w x : W) (n : N) (ts : List Touch) → ts ≡ [] → Stays r d w x n [] → Stays r d w x n ts
+  pub stays : (w x : W) (n : N) (ts : List Touch) → ts ≡ [] → Stays r d w x n [] → Stays r d w x n ts
   stays w x n ts e s = subst (λ us. Stays r d w x n us) (sym e) s
 
-  touching : (w : W) (n : N) (want : Want) (note : Note) → IsUntouched note → IsTouching d w n want note
+  pub touching : (w : W) (n : N) (want : Want) (note : Note) → IsUntouched note → IsTouching d w n want note
   touching w n want Plain u = tt
   touching w n want (Begins g) u = tt
   touching w n want (Frames g) u = tt
@@ -44,7 +44,7 @@ module _ {S W O N R E : Type 0} (r : Rules W O) (d : Reading S W O N R E) (May :
   touching w n want (Takes key index) u = absurd u
   touching w n want (Puts key index) u = absurd u
 
-  pub sound_of : Sound r d May
+  unfoldable pub sound_of : Sound r d May
   sound_of =
       record {
         Sane = plain.Sane;

@@ -1,5 +1,7 @@
 pub mod ByPlain
 pub mod Drawing
+pub mod Extending
+pub mod Learning
 pub mod MachineRun
 pub mod Passing
 pub mod Runs

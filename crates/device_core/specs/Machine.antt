@@ -100,6 +100,22 @@ pub record Reading (S W O N R E : Type 0) : Type 1 where
   pub heard : News → E
   pub began : W → N → List (Happening E)
 
+-- the same reading, of more that the accesses told
+abbrev pub extended : {S T W O N R E : Type 0} → Reading S W O N R E → (T → S) → (T → Note → Access → T) → Reading T W O N R E
+extended d tell carry =
+    record {
+      table = d.table;
+      rows = d.rows;
+      names = d.names;
+      number = d.number;
+      carry = carry;
+      event = λ w o k t. d.event w o (tell k) t;
+      made = d.made;
+      named = d.named;
+      heard = d.heard;
+      began = d.began;
+    }
+
 -- What a reading keeps beside where the device stands: the numbers of the names, what the accesses made, and what it knows of
 -- the words.
 pub record View (S N : Type 0) : Type 0 where

@@ -23,6 +23,7 @@ pub mod SoundClose
 pub mod SoundConnect
 pub mod SoundDecides
 pub mod SoundFits
+pub mod SoundFound
 pub mod SoundNames
 pub mod SoundParts
 pub mod SoundPlans

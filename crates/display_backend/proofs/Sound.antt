@@ -1,42 +1,100 @@
 -- The display's order of work is sound: its accesses lie on the pages that it holds, and its ends are moves of the machine.
-use Rattle.std.proofs.Common.{inl, ℕ, [], refl, arith}
-use Rattle.pv_words.specs.Held.{IsProper, holding, holds_of}
-use Rattle.device_core.specs.Machine.{Sound}
-use Rattle.display_backend.specs.Work.{display, reading, first_work, first_naming}
+use Rattle.std.proofs.Common.{◌≡◌, inl, ℕ, List, [], None, refl, arith}
+use Rattle.pv_words.specs.declared.place.Place.{Place}
+use Rattle.pv_words.specs.Found.{Found}
+use Rattle.pv_words.specs.Held.{Holds, IsProper, holding, holds_of}
+use Rattle.pv_words.specs.Plan.{Plan, Want, Note, FitsFrom, IsUntouched}
+use Rattle.pv_words.proofs.Fits.{fits_so}
+use Rattle.device_core.specs.Learned.{Learned, learning, learned_of}
+use Rattle.device_core.specs.Machine.{Reading, Moves, Passes, Plain, Sound, Stays, extended}
+use Rattle.device_core.specs.Site.{Site}
+use Rattle.device_core.specs.Touched.{Carried}
+use Rattle.device_core.proofs.ByPlain.{sound_of}
+use Rattle.device_core.proofs.Learning.{fits_learned}
+use Rattle.display_backend.specs.Machine.{Event, Says, Hears, Rows}
+use Rattle.display_backend.specs.Work.{Work, End, Naming, display, made_at, named_after, reading, settled, taken_at, told, first_work, first_naming}
 use Rattle.display_backend.proofs.SoundBegins.{begins}
+use Rattle.display_backend.proofs.SoundFound.{EndsFoundSo, FitsFound, begins_found}
+use Rattle.display_backend.proofs.SoundPlans.{Fit}
 use Rattle.display_backend.proofs.SoundSettles.{no_buffers, settles, rests}
 use Rattle.display_backend.proofs.SoundTells.{tells, quiet}
-use Rattle.display_backend.proofs.SoundWork.{the_site, TellsHeld, IsNamed, IsSane, EndsWell, hears_sane, hears_well, hears_told, hears_said, hears_move, hears_owed}
+use Rattle.display_backend.proofs.SoundWork.{the_site, TellsHeld, KeptFound, IsNamed, IsSane, EndsFound, EndsSo, EndsWell, hears_found, hears_kept, hears_sane, hears_well, hears_told, hears_said, hears_settled, hears_move, hears_owed}
+
+-- the display's reading, of all that its accesses told
+abbrev pub learned : (ℕ → ℕ) → Site → Reading Learned Work End Naming Rows Event
+learned frames site = extended (reading site) (λ (l : Learned). l.found) (learning frames)
 
 module _ (frames grants : ℕ → ℕ) (dom parts : ℕ) where
-  pub sound : Sound (display (the_site frames grants dom parts)) (reading (the_site frames grants dom parts)) (IsProper frames grants dom) (holding frames)
-  sound =
+  abbrev pub site : Site
+  site = the_site frames grants dom parts
+
+  -- an access lies where the display holds
+  abbrev pub Lies : Learned → Want → Note → Type 0
+  Lies l want note = IsProper frames grants dom l.holds want note
+
+  abbrev Tells : Work → Learned → Type 0
+  Tells w l = TellsHeld w l.holds × KeptFound w l.found
+
+  abbrev Ends : Work → Learned → End → Type 0
+  Ends w l o = EndsWell frames grants dom parts w o × EndsFound site w l.found o
+
+  -- an activity holds and finds what it should
+  fits : (v : Work) (l : Learned) (p : Plan End) → Fit frames grants dom (EndsSo frames grants dom parts v) l.holds p → FitsFound frames grants dom parts v l.found p → FitsFrom (λ (k : Learned) want note. Lies k want note × IsUntouched note) (learning frames) (λ (k : Learned) o. Tells (settled site v o) k × Ends v k o) l p
+  fits v l p a b =
+      fits_so (λ (k : Learned) want note. Lies k want note × IsUntouched note) (learning frames) (λ (k : Learned) o. EndsSo frames grants dom parts v k.holds o × EndsFoundSo frames grants dom parts v k.found o) (λ (k : Learned) o. Tells (settled site v o) k × Ends v k o)
+      (λ k o h. ((h.0.0, h.1.0), (h.0.1, h.1.1))) l p (fits_learned frames (IsProper frames grants dom) (EndsSo frames grants dom parts v) (EndsFoundSo frames grants dom parts v) l p a b)
+
+  -- of this reading, what is so of the other
+  stays : (w v : Work) (m : Naming) → IsNamed v m × Stays (display site) (reading site) w v m [] → IsNamed v m × Stays (display site) (learned frames site) w v m []
+  stays w v m h = (h.0, record { rows = h.1.rows; names = h.1.names; numbers = h.1.numbers })
+
+  moves : (w : Work) (m : Naming) (e : Event) (cells : List Place) (v : Work) (n : Naming) → IsNamed v n × Moves (reading site) w m [] e cells v n → IsNamed v n × Moves (learned frames site) w m [] e cells v n
+  moves w m e cells v n h = (h.0, record { move = h.1.move; names = h.1.names })
+
+  passes : (w : Work) (m : Naming) (e : Event) (v : Work) → IsNamed v m × Passes (reading site) w m e v → IsNamed v m × Passes (learned frames site) w m e v
+  passes w m e v h = (h.0, record { move = h.1.move; names = h.1.names; numbers = h.1.numbers })
+
+  plain : Plain (display site) (learned frames site) Lies
+  plain =
       record {
         Sane = IsSane frames grants dom parts;
         Named = IsNamed;
-        EndsWell = EndsWell frames grants dom parts;
-        Tells = TellsHeld;
-        begins = λ w v p s o. let b = begins frames grants dom parts w v p s o in (b.0, b.1);
-        begins_run = λ w v p m memory s named o. (begins frames grants dom parts w v p s o).2 m memory named;
-        settles = settles frames grants dom parts;
-        rests = rests frames grants dom parts;
-        tells = λ w o t m s q named e. tells frames grants dom parts w o t m s q named e;
-        quiet = λ w o m s q named e. quiet frames grants dom parts w o m q named e;
-        hears = λ w news s. let move = hears_move (the_site frames grants dom parts) w news in (hears_sane frames grants dom parts w news s, move.0, move.1);
-        hears_end = λ w o news q. (hears_well frames grants dom parts w news o q, hears_said w news o, hears_told frames grants dom parts w news o);
-        owes_heard = λ w m news. hears_owed (the_site frames grants dom parts) w m news;
-        owes_nothing = λ x w o s. refl;
+        EndsWell = Ends;
+        Tells = Tells;
+        begins = λ w v p s o. let b = begins frames grants dom parts w v p s o in
+            (b.0, λ l t. fits v l p (b.1 l.holds t.0) (begins_found frames grants dom parts w v p s l.found t.1 o));
+        begins_run = λ w v p m sight s named o. (begins frames grants dom parts w v p s o).2 m sight named;
+        settles = λ w o l s q. settles frames grants dom parts w o s q.0;
+        rests = λ w v s e. let b = rests frames grants dom parts w v s e in (b.0, (λ l t. (b.1.0 l.holds t.0, b.1.1 l.found t.1)), λ m named. stays w v m (b.2 m named));
+        tells = λ w o l t m s q named e. moves w m (Says t (taken_at o) l.found) (made_at w o) (settled site w o) (named_after w o m) (tells frames grants dom parts w o l.found t m s q.0 q.1 named e);
+        quiet = λ w o l m s q named e. stays w (settled site w o) m (quiet frames grants dom parts w o m q.0 named e);
+        hears = λ w news s. let move = hears_move site w news in
+            (hears_sane frames grants dom parts w news s, (λ l t. (move.0 l.holds t.0, hears_kept w news l.found t.1)), λ m named. passes w m (Hears news) (told w news) (move.1 m named));
+        hears_end = λ w o news l q. (
+          (hears_well frames grants dom parts w news o q.0, hears_found site w news l.found o q.1),
+          hears_said w news o,
+          λ t. (hears_told frames grants dom parts w news o l.holds t.0, hears_settled site w news o l.found t.1),
+        );
+        owes_heard = λ w m news. hears_owed site w m news;
+        owes_nothing = λ x w o l s. refl;
       }
 
-  -- the work of a display that is declared is sane, and it holds nothing
-  pub first_good : sound.Sane first_work × sound.Tells first_work (holds_of [])
-  unfolding sound
+  pub sound : Sound (display site) (learned frames site) Lies
+  sound = sound_of (display site) (learned frames site) Lies plain
+
+  -- what a display that is declared has learned: it holds nothing, and found no word
+  abbrev pub first_carried : Carried Learned
+  first_carried = record { own = learned_of []; touched = [] }
+
+  -- the work of a display that is declared is sane
+  pub first_good : sound.Sane first_work × sound.Tells first_work first_carried
+  unfolding sound plain sound_of
   first_good = (
     record { own = tt; stored = tt; few = omega arith; buffers = no_buffers; opened = inl (refl, refl); kept = λ why e. let wrong : ⊥ = cc in absurd wrong },
-    (refl, (λ k. refl)),
+    (((refl, (λ k. refl)), λ prod rsp e. let wrong : ⊥ = cc in absurd wrong), refl),
   )
 
   -- it has no names
   pub first_named : sound.Named first_work first_naming
-  unfolding sound
+  unfolding sound plain sound_of
   first_named = refl

@@ -10,7 +10,7 @@ use Rattle.display_buffers.proofs.Names.{sound_with, sound_without}
 use Rattle.display_backend.specs.Stock.{Stock, Held, pages_of, pages_under}
 use Rattle.display_backend.proofs.Order.{creating_keeps, destroying_keeps}
 use Rattle.page_directory.specs.Same.{AreSame}
-use Rattle.device_core.specs.Names.{Name, all_drawn, cells_of, drawn, with_name, words_at}
+use Rattle.device_core.specs.Names.{Name, Sight, all_drawn, cells_of, drawn, with_name, words_in}
 use Rattle.display_backend.specs.declared.display.Progress.{Progress}
 use Rattle.display_backend.specs.declared.display.Progress.TheVariants as progress
 use Rattle.display_backend.specs.Machine.{Hand, replied_to, verdict, is_accepted, is_creation}
@@ -66,17 +66,17 @@ module _ (stock : Stock) where
     answer_rows asked.Other accepted = refl
 
     -- a CREATE that is accepted makes a name of the words of its pages
-    pub answer_names : (asks : Asked) (accepted : Bool) (memory : Memory) → AreDistinct (cookies stock.buffers) → IsDone stock asks accepted → all_drawn memory (live_names (stock_after stock asks accepted).buffers (ids_after stock.buffers m asks accepted)) ≡ with_name (all_drawn memory (live_names stock.buffers m.ids)) (cond (is_creation asks && accepted) (Some m.replies) None) (words_at memory (cond (is_creation asks && accepted) (cells_of stock.mapped) []))
-    answer_names (asked.Create c) true memory distinct d =
+    pub answer_names : (asks : Asked) (accepted : Bool) (sight : Sight) → AreDistinct (cookies stock.buffers) → IsDone stock asks accepted → all_drawn sight (live_names (stock_after stock asks accepted).buffers (ids_after stock.buffers m asks accepted)) ≡ with_name (all_drawn sight (live_names stock.buffers m.ids)) (cond (is_creation asks && accepted) (Some m.replies) None) (words_in sight (cond (is_creation asks && accepted) (cells_of stock.mapped) []))
+    answer_names (asked.Create c) true sight distinct d =
         let b : Held = record { buffer = made_of c; pages = stock.mapped } in
         let n : Name = record { number = m.replies; cells = cells_of stock.mapped } in
-        ap (all_drawn memory) (names_with stock.buffers m.ids b m.replies named d.1) ∙ map-append (drawn memory) (live_names stock.buffers m.ids) (n ∷ [])
-    answer_names (asked.Create c) false memory distinct d = refl
-    answer_names (asked.Destroy cookie) true memory distinct d =
-        ap (all_drawn memory) (names_without cookie stock.buffers m.ids named distinct d.0)
-    answer_names (asked.Destroy cookie) false memory distinct d = refl
-    answer_names (asked.Config c) accepted memory distinct d = refl
-    answer_names asked.Other accepted memory distinct d = refl
+        ap (all_drawn sight) (names_with stock.buffers m.ids b m.replies named d.1) ∙ map-append (drawn sight) (live_names stock.buffers m.ids) (n ∷ [])
+    answer_names (asked.Create c) false sight distinct d = refl
+    answer_names (asked.Destroy cookie) true sight distinct d =
+        ap (all_drawn sight) (names_without cookie stock.buffers m.ids named distinct d.0)
+    answer_names (asked.Destroy cookie) false sight distinct d = refl
+    answer_names (asked.Config c) accepted sight distinct d = refl
+    answer_names asked.Other accepted sight distinct d = refl
 
   pub done_as : (asks other : Asked) (b c : Bool) → asks ≡ other → b ≡ c → IsDone stock other c → IsDone stock asks b
   done_as asks other b c e f d = subst (λ (x : Asked). IsDone stock x b) (sym e) (subst (λ t. IsDone stock other t) (sym f) d)

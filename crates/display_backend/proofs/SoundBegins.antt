@@ -21,7 +21,7 @@ use Rattle.display_backend.specs.declared.display.Round.TheVariants as round
 use Rattle.display_backend.specs.declared.waiting.Waiting.{Waiting}
 use Rattle.display_backend.specs.Machine.{Hand}
 use Rattle.display_backend.specs.Work.{Work, End, Saw, Took, Slept, Left, Renewed, Served, ring_page, sleep_all, looks_at, in_round, takes_from, with_left, with_waiting, with_hand, with_state, with_action, with_kept, with_closing, choice, settled, entered, begins_hand, begins_state, begins_by, begins_with, begins_of}
-use Rattle.display_backend.proofs.SoundActions.{closed_apart, closes_asked, renews_again}
+use Rattle.display_backend.proofs.SoundActions.{closed_apart, renews_again}
 use Rattle.display_backend.proofs.SoundFits.{BeginsSo, chosen, held_so, ring_own, page_held, ring_held, same_work}
 use Rattle.display_backend.proofs.SoundDecides.{begins_goes}
 use Rattle.display_backend.proofs.SoundClose.{begins_leaving, begins_connect, told_bare}
@@ -82,7 +82,7 @@ module _ (frames grants : ℕ → ℕ) (dom parts : ℕ) (w v : Work) (p : Plan 
   begins_action : (a : Action) → w.closing ≡ false → w.kept ≡ None → action_of w.connection ≡ a → Offers (with_action (the_site frames grants dom parts) w a) v p → BeginsSo frames grants dom parts w v p (λ m. begins_by w m a)
   unfolding settled
   begins_action action.Connect still none a o = begins_connect frames grants dom parts w v p s still none a o
-  begins_action (action.Close x) still none a o = begins_leaving frames grants dom parts w v p s (reason.Asked x) (closes_asked w.connection.back w.connection x a) still o
+  begins_action (action.Close x) still none a o = begins_leaving frames grants dom parts w v p s (reason.Asked x) still o
   begins_action action.Renew still none a o =
       let again = renews_again w.connection.back w.connection a in
       let bare = bare_unless frames grants dom parts w s (λ serving. let wrong : ⊥ = closed_apart w.connection.back again.0 serving.0 in wrong) in
@@ -90,7 +90,7 @@ module _ (frames grants : ℕ → ℕ) (dom parts : ℕ) (w v : Work) (p : Plan 
   begins_action action.Stay still none a o = begins_in w.connection.back refl still o
 
   begins_kept : (x : Option Reason) → w.closing ≡ false → w.kept ≡ x → Offers (with_kept (the_site frames grants dom parts) w x) v p → BeginsSo frames grants dom parts w v p (λ m. begins_with w m x)
-  begins_kept (Some why) still has o = begins_leaving frames grants dom parts w v p s why (s.kept why has).0 still o
+  begins_kept (Some why) still has o = begins_leaving frames grants dom parts w v p s why still o
   begins_kept None still has o = begins_action (action_of w.connection) still has refl o
 
   begins_closing : (x : Bool) → w.closing ≡ x → Offers (with_closing (the_site frames grants dom parts) w x) v p → BeginsSo frames grants dom parts w v p (λ m. begins_of w m x)

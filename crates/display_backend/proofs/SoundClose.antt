@@ -2,7 +2,6 @@
 use Rattle.std.proofs.Common.{◌≡◌, inl, ℕ, false, List, [], ◌++◌, None, refl, sym, ◌∙◌, ap, subst, arith}
 use Rattle.pv_words.specs.declared.device.Reason.{Reason}
 use Rattle.pv_words.specs.Held.{Holds, holds_of}
-use Rattle.pv_words.specs.Memory.{Memory}
 use Rattle.pv_words.specs.Plan.{Plan, Finished}
 use Rattle.display_buffers.specs.declared.live.Live.{Live}
 use Rattle.display_backend.specs.Stock.{no_stock, pages_of, all_bared, stripped}
@@ -13,7 +12,7 @@ use Rattle.xenbus_states.specs.declared.back.Action.TheVariants as action
 use Rattle.xenbus_states.specs.Connection.{action_of}
 use Rattle.link_core.specs.Activities.{unmaps}
 use Rattle.link_core.specs.Laws.{AreOf}
-use Rattle.device_core.specs.Names.{Name, all_drawn}
+use Rattle.device_core.specs.Names.{Name, Sight, all_drawn}
 use Rattle.device_core.specs.Order.{Offers}
 use Rattle.display_backend.specs.Machine.{all_refs}
 use Rattle.display_backend.specs.Work.{Work, Naming, End, Shut, all_pages, beginning, leaving, close, connect_all, with_action, reading, settled, rows_of, live_names, names_of, begins_close, begins_by}
@@ -24,11 +23,11 @@ use Rattle.display_backend.proofs.SoundNames.{all_run, none_bared}
 use Rattle.display_backend.proofs.SoundPlans.{Fit, own_are, fits_drop}
 use Rattle.display_backend.proofs.SoundRows.{AreLike, like_length, like_sound, numbered_all_bared}
 use Rattle.display_backend.proofs.SoundSame.{none_same, are_append}
-use Rattle.display_backend.proofs.SoundWork.{held_pages, the_site, TellsHeld, IsNamed, IsSane, IsBare, IsDue, EndsSo, bare_unless}
+use Rattle.display_backend.proofs.SoundWork.{held_pages, the_site, TellsHeld, IsNamed, IsSane, IsBare, EndsSo, bare_unless}
 
 module _ (frames grants : ℕ → ℕ) (dom parts : ℕ) (w v : Work) (p : Plan End) (s : IsSane frames grants dom parts w) where
   -- a Close
-  module _ (why : Reason) (due : IsDue (the_site frames grants dom parts) w why) (still : w.closing ≡ false) where
+  module _ (why : Reason) (still : w.closing ≡ false) where
     bare_then : pages_of (stripped w.stock) ≡ []
     bare_then = none_left w.stock
 
@@ -52,16 +51,16 @@ module _ (frames grants : ℕ → ℕ) (dom parts : ℕ) (w v : Work) (p : Plan 
         let are = are_append (grants dom) dom (pages_of w.stock) (all_pages w.parts) s.stored (own_are frames grants dom (all_pages w.parts) s.own) in
         held_so frames grants dom parts (leaving w) (unmaps (held_pages w) (Finished (Shut why))) k t.0
         (fits_drop frames grants dom (EndsSo frames grants dom parts (leaving w)) (Finished (Shut why)) [] (held_pages w) k.held are (λ g. omega (arith, t.1 g, times_append g (held_pages w) []))
-        (λ left gone. ((refl, (λ g. omega (arith, gone g, shut_pages (leaving w) g bare_then))), (due, still, bare_then))))
+        (λ left gone. ((refl, (λ g. omega (arith, gone g, shut_pages (leaving w) g bare_then))), (still, bare_then))))
 
-    leaving_run : (m : Naming) (memory : Memory) → IsNamed w m → IsNamed (leaving w) m × RunsTo frames grants dom parts (shown_of frames grants dom parts w m memory) (begins_close w m) (shown_of frames grants dom parts (leaving w) m memory)
-    leaving_run m memory named =
+    leaving_run : (m : Naming) (sight : Sight) → IsNamed w m → IsNamed (leaving w) m × RunsTo frames grants dom parts sight (shown_of frames grants dom parts w m sight) (begins_close w m) (shown_of frames grants dom parts (leaving w) m sight)
+    leaving_run m sight named =
         let table = (reading (the_site frames grants dom parts)).table in
-        let first = shown_of frames grants dom parts w m memory in
-        let run = all_run table (rows_of w m) memory (names_of w m) in (
+        let first = shown_of frames grants dom parts w m sight in
+        let run = all_run table (rows_of w m) sight (names_of w m) in (
           named ∙ sym (like_length (all_bared w.stock.buffers) w.stock.buffers leaving_like),
-          subst (λ (rows : List (Live ℕ)). RunsTo frames grants dom parts first (begins_close w m) (record { rows = record (rows_of w m) { buffers = rows }; names = all_drawn memory (live_names (all_bared w.stock.buffers) m.ids); owes = None })) (sym (numbered_all_bared w.stock.buffers m.ids))
-              (subst (λ (names : List Name). RunsTo frames grants dom parts first (begins_close w m) (record { rows = rows_of w m; names = all_drawn memory names; owes = None })) (sym (none_bared w.stock.buffers m.ids)) run),
+          subst (λ (rows : List (Live ℕ)). RunsTo frames grants dom parts sight first (begins_close w m) (record { rows = record (rows_of w m) { buffers = rows }; names = all_drawn sight (live_names (all_bared w.stock.buffers) m.ids); touched = []; owes = None })) (sym (numbered_all_bared w.stock.buffers m.ids))
+              (subst (λ (names : List Name). RunsTo frames grants dom parts sight first (begins_close w m) (record { rows = rows_of w m; names = all_drawn sight names; touched = []; owes = None })) (sym (none_bared w.stock.buffers m.ids)) run),
         )
 
     pub begins_leaving : Offers (close w why) v p → BeginsSo frames grants dom parts w v p (λ m. begins_close w m)
@@ -87,4 +86,4 @@ module _ (frames grants : ℕ → ℕ) (dom parts : ℕ) (w v : Work) (p : Plan 
       let plan = connect_all (the_site frames grants dom parts) (all_refs w.seen 0 parts) in
       let fits = λ (k : Holds) (t : TellsHeld w k). subst (λ (x : Holds). Fit frames grants dom (EndsSo frames grants dom parts (beginning w)) x plan) (sym (bare_pages bare k t)) (fits_all frames grants dom parts (beginning w) refl still bare.1 (all_refs w.seen 0 parts) refl) in
       chosen frames grants dom parts w v (beginning w) p plan (λ m. begins_by w m action.Connect)
-      (sane, fits, (λ m memory named. (named, (shown_of frames grants dom parts (beginning w) m memory, record { free = refl; move = (still, a, refl); names = refl; owes = refl }, refl)))) o
+      (sane, fits, (λ m sight named. (named, (shown_of frames grants dom parts (beginning w) m sight, record { free = refl; move = (still, a, refl); names = refl; touched = refl; owes = refl }, refl)))) o

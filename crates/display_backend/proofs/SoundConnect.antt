@@ -13,11 +13,11 @@ use Rattle.link_core.specs.Activities as link
 use Rattle.link_core.specs.Activities.{Joined, connect_plan, unmaps}
 use Rattle.link_core.specs.Laws.{IsRing, IsRefused}
 use Rattle.link_core.proofs.PlanFits.{fits_connect, fits_joined}
-use Rattle.display_backend.specs.Machine.{Refs, Problem, IsAskedFor, all_refs}
+use Rattle.display_backend.specs.Machine.{Refs, Problem, all_refs}
 use Rattle.display_backend.specs.Work.{Work, End, Denied, all_pages, after_part, connect_parts, connect_all, settled, shut}
-use Rattle.display_backend.proofs.SoundPlans.{Fit, AllOwn, own_append, own_joined, own_are, refused_so, fits_drop}
+use Rattle.display_backend.proofs.SoundPlans.{Fit, AllOwn, own_append, own_joined, own_are, refused_own, fits_drop}
 use Rattle.display_backend.proofs.SoundParts.{pages_last}
-use Rattle.display_backend.proofs.SoundRefs.{AllAsked, all_asked}
+use Rattle.display_backend.proofs.SoundRefs.{all_asked}
 use Rattle.display_backend.proofs.SoundWork.{held_pages, the_site, EndsSo}
 
 -- a closed connection holds no page
@@ -29,7 +29,7 @@ module _ (frames grants : ℕ → ℕ) (dom parts : ℕ) (w : Work) (connecting 
   FitsSo k p = Fit frames grants dom (EndsSo frames grants dom parts w) k p
 
   -- the other parts follow one that is joined; a refused one ends it all
-  module _ (r : Refs) (rs : List Refs) (met : List Joined) (asked : AllAsked (the_site frames grants dom parts) w.read (r ∷ rs)) (own : AllOwn frames grants dom (all_pages met)) where
+  module _ (r : Refs) (rs : List Refs) (met : List Joined) (own : AllOwn frames grants dom (all_pages met)) where
     joins_one : (rest : (more : List Joined) → AllOwn frames grants dom (all_pages more) → length more + length rs ≤ parts → FitsSo (holds_of (all_pages more)) (connect_parts (the_site frames grants dom parts) rs more)) → length met + suc (length rs) ≤ parts → (j : Joined) → IsRing (frames dom) (grants dom) dom (Some r.ring) j.ring → IsHold (frames dom) (grants dom) dom r.event Write j.event → FitsSo (holds_of (all_pages met ++ link.pages_of j)) (connect_parts (the_site frames grants dom parts) rs (met ++ j ∷ []))
     joins_one rest few j ring event =
         let all = subst (λ x. AllOwn frames grants dom x) (sym (pages_last met j)) (own_append frames grants dom (all_pages met) (link.pages_of j) own (own_joined frames grants dom r.ring r.event j.ring j.event ring event)) in
@@ -38,24 +38,23 @@ module _ (frames grants : ℕ → ℕ) (dom parts : ℕ) (w : Work) (connecting 
     refuses_one : (hs : List Hold) (why : GrantRefusal) → IsRefused (frames dom) (grants dom) dom (Some r.ring) r.event hs why → FitsSo (holds_of (all_pages met ++ hs)) (unmaps (all_pages met ++ hs) (Finished (Denied why)))
     unfolding settled
     refuses_one hs why e =
-        let known = refused_so frames grants dom (IsAskedFor (the_site frames grants dom parts) w.read) r.ring r.event hs why asked.0.0 asked.0.1 e in
-        let own_all = own_append frames grants dom (all_pages met) hs own known.0 in
+        let own_all = own_append frames grants dom (all_pages met) hs own (refused_own frames grants dom r.ring r.event hs why e) in
         fits_drop frames grants dom (EndsSo frames grants dom parts w) (Finished (Denied why)) [] (all_pages met ++ hs) (all_pages met ++ hs) (own_are frames grants dom (all_pages met ++ hs) own_all)
         (λ k. omega (arith, times_append k (all_pages met ++ hs) []))
-        (λ left gone. ((refl, (λ k. omega (arith, gone k, shut_pages w k bare))), ((connecting, known.1), not_closing, bare)))
+        (λ left gone. ((refl, (λ k. omega (arith, gone k, shut_pages w k bare))), (not_closing, bare)))
 
   module _ (refs : List Refs) (found : all_refs w.read 0 parts ≡ Ok refs) where
-    fits_parts : (rs : List Refs) (met : List Joined) → AllAsked (the_site frames grants dom parts) w.read rs → AllOwn frames grants dom (all_pages met) → length met + length rs ≤ parts → FitsSo (holds_of (all_pages met)) (connect_parts (the_site frames grants dom parts) rs met)
+    fits_parts : (rs : List Refs) (met : List Joined) → AllOwn frames grants dom (all_pages met) → length met + length rs ≤ parts → FitsSo (holds_of (all_pages met)) (connect_parts (the_site frames grants dom parts) rs met)
     unfolding settled
-    fits_parts [] met asked own few = ((refl, (λ k. refl)), (connecting, own, omega arith, (refs, found), bare))
-    fits_parts (r ∷ rs) met asked own few =
+    fits_parts [] met own few = ((refl, (λ k. refl)), (connecting, own, omega arith, (refs, found), bare))
+    fits_parts (r ∷ rs) met own few =
         fits_joined (IsProper frames grants dom) (holding frames) (after_part met (connect_parts (the_site frames grants dom parts) rs)) (EndsSo frames grants dom parts w) (holds_of (all_pages met)) (connect_plan (frames dom) (grants dom) dom (Some r.ring) r.event)
         (fits_connect frames grants dom r.event (Some r.ring) (all_pages met) (λ k x. FitsSo k (after_part met (connect_parts (the_site frames grants dom parts) rs) x))
-        (joins_one r rs met asked own (λ more o f. fits_parts rs more asked.1 o f) few) (refuses_one r rs met asked own))
+        (joins_one r rs met own (λ more o f. fits_parts rs more o f) few) (refuses_one r rs met own))
 
   pub fits_all : (x : Result (List Refs) Problem) → all_refs w.read 0 parts ≡ x → FitsSo (holds_of []) (connect_all (the_site frames grants dom parts) x)
   unfolding settled
-  fits_all (Err problem) e = ((refl, (λ k. sym (shut_pages w k bare))), ((connecting, e), not_closing, bare))
+  fits_all (Err problem) e = ((refl, (λ k. sym (shut_pages w k bare))), (not_closing, bare))
   fits_all (Ok refs) e =
       let known = all_asked (the_site frames grants dom parts) w.read 0 parts refs (omega arith) e in
-      fits_parts refs e refs [] known.0 tt (omega (arith, known.1))
+      fits_parts refs e refs [] tt (omega (arith, known.1))

@@ -2,7 +2,6 @@
 use Rattle.std.proofs.Common.{◌≡◌, inl, inr, ℕ, Bool, true, false, List, [], ◌++◌, Option, Some, None, refl, sym, ◌∙◌, ap, subst, arith}
 use Rattle.pv_words.specs.declared.grant.Mode.TheVariants.{Read}
 use Rattle.pv_words.specs.Held.{Holds}
-use Rattle.pv_words.specs.Memory.{Memory}
 use Rattle.pv_words.specs.Plan.{Plan, Finished, mapped}
 use Rattle.displ_wire.specs.declared.Asked.{Asked}
 use Rattle.displ_wire.specs.declared.Asked.TheVariants as asked
@@ -16,7 +15,7 @@ use Rattle.page_directory.specs.Walking.{walk_plan}
 use Rattle.page_directory.specs.Walking as walking
 use Rattle.link_core.specs.Activities.{Joined, unmaps}
 use Rattle.device_core.specs.Machine.{Snapshot}
-use Rattle.device_core.specs.Names.{all_drawn}
+use Rattle.device_core.specs.Names.{Sight, all_drawn}
 use Rattle.device_core.specs.Order.{Offers}
 use Rattle.display_backend.specs.declared.display.Progress.{Progress}
 use Rattle.display_backend.specs.declared.display.Progress.TheVariants as progress
@@ -76,14 +75,14 @@ module _ (frames grants : ℕ → ℕ) (dom parts : ℕ) (w v : Work) (p : Plan 
         held_so frames grants dom parts (freeing w cookie) (unmaps under (Finished Freed)) k t.0
         (fits_drop frames grants dom (EndsSo frames grants dom parts (freeing w cookie)) (Finished Freed) (held_pages (freeing w cookie)) under k.held are before (λ left gone. ((refl, gone), freed_well)))
 
-    freed_run : (m : Naming) (memory : Memory) → IsNamed w m → IsNamed (freeing w cookie) m × RunsTo frames grants dom parts (shown_of frames grants dom parts w m memory) (begins_decided w m (asked.Destroy cookie) true) (shown_of frames grants dom parts (freeing w cookie) m memory)
-    freed_run m memory named =
+    freed_run : (m : Naming) (sight : Sight) → IsNamed w m → IsNamed (freeing w cookie) m × RunsTo frames grants dom parts sight (shown_of frames grants dom parts w m sight) (begins_decided w m (asked.Destroy cookie) true) (shown_of frames grants dom parts (freeing w cookie) m sight)
+    freed_run m sight named =
         let table = (reading (the_site frames grants dom parts)).table in
         let old = live_names w.stock.buffers m.ids in
         let new = live_names (bared cookie w.stock.buffers) m.ids in
-        let run = goes_run table (rows_of w m) memory (names_under cookie w.stock.buffers m.ids) old new (name_goes cookie w.stock.buffers m.ids) in (
+        let run = goes_run table (rows_of w m) sight (names_under cookie w.stock.buffers m.ids) old new (name_goes cookie w.stock.buffers m.ids) in (
           named ∙ sym (like_length (bared cookie w.stock.buffers) w.stock.buffers freed_like),
-          subst (λ (rows : List (Live ℕ)). RunsTo frames grants dom parts (record { rows = rows_of w m; names = all_drawn memory old; owes = None }) (begins_decided w m (asked.Destroy cookie) true) (record { rows = record (rows_of w m) { buffers = rows }; names = all_drawn memory new; owes = None })) (sym (numbered_bared cookie w.stock.buffers m.ids)) run,
+          subst (λ (rows : List (Live ℕ)). RunsTo frames grants dom parts sight (record { rows = rows_of w m; names = all_drawn sight old; touched = []; owes = None }) (begins_decided w m (asked.Destroy cookie) true) (record { rows = record (rows_of w m) { buffers = rows }; names = all_drawn sight new; touched = []; owes = None })) (sym (numbered_bared cookie w.stock.buffers m.ids)) run,
         )
 
     pub begins_release : (x : Option Joined) → Offers (frees w cookie x) v p → BeginsSo frames grants dom parts w v p (λ m. begins_decided w m (asked.Destroy cookie) true)
@@ -109,7 +108,7 @@ module _ (frames grants : ℕ → ℕ) (dom parts : ℕ) (w v : Work) (p : Plan 
         let is : IsAnswer (starved w) h = answers_at w.stock h progress.NoMemory (λ e. let wrong : ⊥ = cc in wrong) ((c, creating), none) in (
           starved_sane,
           answer_fits frames grants dom parts (starved w) h j starved_sane serving has at is,
-          λ m memory named. (named, ap (λ d. let k : Snapshot Rows = record { rows = record (rows_of w m) { denied = d }; names = all_drawn memory (names_of w m); owes = None } in k) (ap is_denied decided)),
+          λ m sight named. (named, ap (λ d. let k : Snapshot Rows = record { rows = record (rows_of w m) { denied = d }; names = all_drawn sight (names_of w m); touched = []; owes = None } in k) (ap is_denied decided)),
         )
 
     abbrev walks : IsWalking w

@@ -2,13 +2,13 @@
 use Rattle.std.proofs.Common.{◌≡◌, inl, inr, ℕ, List, [], ◌∷◌, Option, Some, None, refl, sym, ◌∙◌, ap, subst, slice_get}
 use Rattle.pv_words.specs.declared.grant.Hold.{Hold}
 use Rattle.pv_words.specs.Held.{Holds, IsProper, holding, holds_of}
-use Rattle.pv_words.specs.Memory.{Memory}
+use Rattle.device_core.specs.Names.{Sight, is_worded}
 use Rattle.pv_words.specs.Plan.{Plan}
 use Rattle.display_buffers.specs.Buffers.{AreDistinct, cookies}
 use Rattle.display_backend.specs.Stock.{pages_of}
 use Rattle.page_directory.specs.Same.{AreSame, times}
 use Rattle.link_core.specs.Activities.{Joined, answer_plan}
-use Rattle.device_core.specs.Machine.{Happening, HappensTo, IsRun, Snapshot, shown}
+use Rattle.device_core.specs.Machine.{Happening, HappensTo, IsRun, Snapshot, shown_as}
 use Rattle.device_core.specs.Order.{Act, Offers}
 use Rattle.link_core.proofs.PlanFits.{fits_mapped}
 use Rattle.display_backend.specs.declared.display.Progress.{Progress}
@@ -35,18 +35,18 @@ no_part (i ∷ js) k j e at = cc
 
 module _ (frames grants : ℕ → ℕ) (dom parts : ℕ) where
   -- what a work shows of the machine, and what happens to the machine from one to another
-  abbrev pub shown_of : Work → Naming → Memory → Snapshot Rows
-  shown_of w m memory = shown (display (the_site frames grants dom parts)) (reading (the_site frames grants dom parts)) w m memory
+  abbrev pub shown_of : Work → Naming → Sight → Snapshot Rows
+  shown_of w m sight = shown_as (display (the_site frames grants dom parts)) (reading (the_site frames grants dom parts)) w m sight []
 
-  abbrev pub RunsTo : Snapshot Rows → List (Happening Event) → Snapshot Rows → Type 0
-  RunsTo old es new = IsRun (HappensTo (reading (the_site frames grants dom parts)).table) old es new
+  abbrev pub RunsTo : Sight → Snapshot Rows → List (Happening Event) → Snapshot Rows → Type 0
+  RunsTo sight old es new = IsRun (HappensTo (is_worded sight) (reading (the_site frames grants dom parts)).table) old es new
 
   -- an activity that is chosen begins as it should
   abbrev pub BeginsSo : Work → Work → Plan End → (Naming → List (Happening Event)) → Type 0
   BeginsSo w v p es =
       IsSane frames grants dom parts v
       × ((h : Holds) → TellsHeld w h → Fit frames grants dom (EndsSo frames grants dom parts v) h p)
-      × ((m : Naming) (memory : Memory) → IsNamed w m → IsNamed v m × RunsTo (shown_of w m memory) (es m) (shown_of v m memory))
+      × ((m : Naming) (sight : Sight) → IsNamed w m → IsNamed v m × RunsTo sight (shown_of w m sight) (es m) (shown_of v m sight))
 
   pub chosen : (w v x : Work) (p q : Plan End) (es : Naming → List (Happening Event)) → BeginsSo w x q es → Offers (Act x q) v p → BeginsSo w v p es
   chosen w v x p q es b o =
@@ -79,7 +79,7 @@ module _ (frames grants : ℕ → ℕ) (dom parts : ℕ) where
   module _ (w v : Work) (p : Plan End) (s : IsSane frames grants dom parts w) where
     -- what begins nothing of the machine's
     pub same_work : (q : Plan End) → ((h : Holds) → TellsHeld w h → Fit frames grants dom (EndsSo frames grants dom parts w) h q) → BeginsSo w w q (λ m. [])
-    same_work q fits = (s, fits, (λ m memory named. (named, refl)))
+    same_work q fits = (s, fits, (λ m sight named. (named, refl)))
 
     pub begins_answer : (h : Hand) (x : Option Joined) → IsServing w → w.hand ≡ Some h → IsAnswer w h → part_of w h ≡ x → Offers (answers w h x) v p → BeginsSo w v p (λ m. [])
     begins_answer h None serving has is at o = absurd o

@@ -5,7 +5,7 @@ use Rattle.pv_words.specs.declared.grant.Hold.{Hold}
 use Rattle.pv_words.specs.declared.grant.Mode.TheVariants.{Write}
 use Rattle.pv_words.specs.Held.{Has, Holds, Covers, CoversToWrite, IsProper, holding, holds_of, unheld}
 use Rattle.pv_words.specs.Plan.{Plan, Load, Store, Plain, FitsFrom}
-use Rattle.grant_table.specs.Laws.{IsHold, IsCause}
+use Rattle.grant_table.specs.Laws.{IsHold}
 use Rattle.link_core.specs.Activities.{hold_list, page_at, word_of, unmaps}
 use Rattle.link_core.specs.Laws.{AreOf, IsRing, IsRefused}
 use Rattle.grant_table.proofs.Holdings.{unmaps_exactly}
@@ -77,7 +77,7 @@ module _ (frames grants : ℕ → ℕ) (dom : ℕ) where
   own_joined ring event None e r is = absurd r
   own_joined ring event (Some h) e r is = (own_is ring h r, (own_is event e is, tt))
 
-  -- The pages of one that was refused, and why: the refused reference is one of the two.
-  pub refused_so : (IsAsked : ℕ → Type 0) (ring event : ℕ) (hs : List Hold) (why : GrantRefusal) → IsAsked ring → IsAsked event → IsRefused (frames dom) (grants dom) dom (Some ring) event hs why → AllOwn hs × ((gref : ℕ) × IsAsked gref × IsCause (frames dom) (grants dom) gref Write why)
-  refused_so IsAsked ring event hs why a b (inl h) = (subst AllOwn (sym h.0) tt, (ring, a, h.1))
-  refused_so IsAsked ring event hs why a b (inr h) = (subst AllOwn (sym h.1) (own_is ring h.0 h.2, tt), (event, b, h.3))
+  -- the pages of one that was refused
+  pub refused_own : (ring event : ℕ) (hs : List Hold) (why : GrantRefusal) → IsRefused (frames dom) (grants dom) dom (Some ring) event hs why → AllOwn hs
+  refused_own ring event hs why (inl h) = subst AllOwn (sym h.0) tt
+  refused_own ring event hs why (inr h) = subst AllOwn (sym h.1) (own_is ring h.0 h.2, tt)

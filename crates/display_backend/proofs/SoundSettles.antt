@@ -7,6 +7,7 @@ use Rattle.pv_words.specs.declared.device.Reason.TheVariants as reason
 use Rattle.pv_words.specs.declared.device.State.{State}
 use Rattle.pv_words.specs.declared.device.State.TheVariants as state
 use Rattle.pv_words.specs.declared.grant.Hold.{Hold}
+use Rattle.pv_words.specs.Found.{Found}
 use Rattle.pv_words.specs.Held.{Holds}
 use Rattle.displ_wire.specs.declared.Asked.{Asked}
 use Rattle.displ_wire.specs.declared.Asked.TheVariants as asked
@@ -32,13 +33,13 @@ use Rattle.display_backend.specs.declared.display.Round.{Round}
 use Rattle.display_backend.specs.declared.display.Round.TheVariants as round
 use Rattle.device_core.specs.Site.{Site}
 use Rattle.display_backend.specs.Machine.{Hand, is_accepted, verdict}
-use Rattle.display_backend.specs.Work.{Work, Naming, End, Saw, Took, Listed, Freed, Answered, Slept, Met, Denied, Lacked, Shut, Left, Renewed, Served, all_pages, looks_at, in_round, takes_from, with_left, with_waiting, answers, maps, frees, decides, goes_on, part_of, status_of, with_hand, with_state, with_action, with_kept, with_closing, choice, reading, settled, shut, entered, after_look, after_sleep, after_answer, after_walk, stock_after}
+use Rattle.display_backend.specs.Work.{Work, Naming, End, Saw, Took, Listed, Freed, Answered, Slept, Met, Denied, Lacked, Shut, Left, Renewed, Served, all_pages, looks_at, in_round, takes_from, with_left, with_waiting, answers, maps, frees, decides, goes_on, part_of, status_of, with_hand, with_state, with_action, with_kept, with_closing, choice, display, reading, settled, shut, entered, after_look, after_sleep, after_answer, after_walk, stock_after}
 use Rattle.display_backend.proofs.SoundActions.{closed_apart}
 use Rattle.display_backend.proofs.SoundAnswer.{answer_same, answer_sound, answer_none, answered_done}
 use Rattle.display_backend.proofs.SoundParts.{counted_pages, counted_length}
 use Rattle.display_backend.proofs.SoundPlans.{AllOwn}
 use Rattle.display_backend.proofs.SoundSame.{are_append, are_right, are_same}
-use Rattle.display_backend.proofs.SoundWork.{the_site, TellsHeld, IsNamed, IsServing, IsSane, IsBare, IsDue, IsWalking, IsFreeing, IsDone, HasListed, HasComeIn, EndsWell, bare_unless}
+use Rattle.display_backend.proofs.SoundWork.{the_site, TellsHeld, KeptFound, IsNamed, IsServing, IsSane, IsBare, IsKept, IsWalking, IsFreeing, IsDone, HasListed, HasComeIn, EndsWell, bare_unless}
 
 -- an overrun is true
 found_in : (b c : Bool) (ready prod rsp x y : ℕ) → (c ≡ false → 32 < ready) → cond b looked.Nothing (cond c (looked.Ready ready) (looked.Overrun prod rsp)) ≡ looked.Overrun x y → (x ≡ prod) × ((y ≡ rsp) × (32 < ready))
@@ -58,6 +59,12 @@ overrun_found rsp prod x y e =
     let h = found_in (ready == 0) (nat_le ready 32) ready prod rsp x y (beyond ready) (sym e) in
     subst (λ z. 32 < since z x) (sym h.1.0) (subst (λ z. 32 < since rsp z) (sym h.0) h.1.1)
 
+-- it tells the index that was found
+pub found_index : (rsp prod x y : ℕ) → looked.Overrun x y ≡ looked_of rsp prod → x ≡ prod
+found_index rsp prod x y e =
+    let ready : ℕ = since rsp prod in
+    (found_in (ready == 0) (nat_le ready 32) ready prod rsp x y (beyond ready) (sym e)).0
+
 pub no_buffers : AreSound {P = List Hold} []
 no_buffers = record { at_most = omega arith; distinct = tt; in_range = tt }
 
@@ -76,7 +83,7 @@ module _ (frames grants : ℕ → ℕ) (dom parts : ℕ) where
         buffers = s.buffers;
         opened = s.opened;
         kept = λ why h. let same : reason.Overrun x y ≡ why = cc in
-            subst (λ r. IsDue (the_site frames grants dom parts) w r × (w.closing ≡ false)) same ((serving.0, overrun_found rsp prod x y e), serving.1);
+            subst (λ r. IsKept w r × (w.closing ≡ false)) same ((serving.0, overrun_found rsp prod x y e), serving.1);
       }
 
   shut_sane : (w : Work) → IsSane frames grants dom parts w → pages_of w.stock ≡ [] → IsSane frames grants dom parts (shut w)
@@ -161,7 +168,7 @@ module _ (frames grants : ℕ → ℕ) (dom parts : ℕ) where
       }
 
   -- one that is closing has no reason that is kept
-  none_kept : (w : Work) (x : Option Reason) → w.kept ≡ x → IsSane frames grants dom parts w → w.closing ≡ true → x ≡ None
+  pub none_kept : (w : Work) (x : Option Reason) → w.kept ≡ x → IsSane frames grants dom parts w → w.closing ≡ true → x ≡ None
   none_kept w None e s closing = refl
   none_kept w (Some why) e s closing = absurd (true≢false (sym closing ∙ (s.kept why e).1))
 
@@ -183,9 +190,9 @@ module _ (frames grants : ℕ → ℕ) (dom parts : ℕ) where
   settles w (Slept quiet) s q = sleep_sane w quiet s
   settles w (Met ps) s q =
       record { own = q.1; stored = tt; few = q.2; buffers = no_buffers; opened = inr ((refl, refl), (refl, refl)); kept = λ why e. let wrong : ⊥ = cc in absurd wrong }
-  settles w (Denied why) s q = shut_sane w s q.2
-  settles w (Lacked problem) s q = shut_sane w s q.2
-  settles w (Shut why) s q = shut_sane w s q.2
+  settles w (Denied why) s q = shut_sane w s q.1
+  settles w (Lacked problem) s q = shut_sane w s q.1
+  settles w (Shut why) s q = shut_sane w s q.1
   settles w Left s q = left_sane w s q
   settles w Renewed s q = renewed_sane w s q.1 q.3
   settles w (Served x) s q =
@@ -274,8 +281,12 @@ module _ (w v : Work) where
     unfolding choice
     pauses e = rests_closing w.closing e
 
-pub rests : (frames grants : ℕ → ℕ) (dom parts : ℕ) (w v : Work) → IsSane frames grants dom parts w → choice (the_site frames grants dom parts) w ≡ Rest v → IsSane frames grants dom parts v × ((h : Holds) → TellsHeld w h → TellsHeld v h) × ((m : Naming) → IsNamed w m → IsNamed v m × Stays (reading (the_site frames grants dom parts)) w v m)
+-- a display that rests tells the same
+abbrev pub StillTells : Work → Work → Type 0
+StillTells w v = ((h : Holds) → TellsHeld w h → TellsHeld v h) × ((f : Found) → KeptFound w f → KeptFound v f)
+
+pub rests : (frames grants : ℕ → ℕ) (dom parts : ℕ) (w v : Work) → IsSane frames grants dom parts w → choice (the_site frames grants dom parts) w ≡ Rest v → IsSane frames grants dom parts v × StillTells w v × ((m : Naming) → IsNamed w m → IsNamed v m × Stays (display (the_site frames grants dom parts)) (reading (the_site frames grants dom parts)) w v m [])
 rests frames grants dom parts w v s e =
     let same = pauses w v (the_site frames grants dom parts) e in
-    subst (λ x. IsSane frames grants dom parts x × ((h : Holds) → TellsHeld w h → TellsHeld x h) × ((m : Naming) → IsNamed w m → IsNamed x m × Stays (reading (the_site frames grants dom parts)) w x m)) same.1
-    (record { own = s.own; stored = s.stored; few = s.few; buffers = s.buffers; opened = s.opened; kept = s.kept }, (λ h t. t), (λ m named. (named, record { rows = refl; names = refl })))
+    subst (λ x. IsSane frames grants dom parts x × StillTells w x × ((m : Naming) → IsNamed w m → IsNamed x m × Stays (display (the_site frames grants dom parts)) (reading (the_site frames grants dom parts)) w x m [])) same.1
+    (record { own = s.own; stored = s.stored; few = s.few; buffers = s.buffers; opened = s.opened; kept = s.kept }, ((λ h t. t), (λ f k. k)), (λ m named. (named, record { rows = refl; names = refl; numbers = refl })))

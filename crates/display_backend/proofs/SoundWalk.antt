@@ -67,7 +67,7 @@ module _ (frames grants : ℕ → ℕ) (dom parts : ℕ) (w : Work) (is : IsWalk
       let before : (k : Hold) → times k held ≡ times k (buffer_pages w.stock.buffers ++ all_pages w.parts) = λ k. same k ∙ ap (λ hs. times k ((hs ++ buffer_pages w.stock.buffers) ++ all_pages w.parts)) is.none in
       let all : AreSame h.held ((ps ++ buffer_pages w.stock.buffers) ++ all_pages w.parts) = λ k. omega (arith, l.1 k, before k, times_append k held ps, times_append k (buffer_pages w.stock.buffers) (all_pages w.parts), times_append k (ps ++ buffer_pages w.stock.buffers) (all_pages w.parts), times_append k ps (buffer_pages w.stock.buffers)) in
       ((l.0, all), (is, (page_are (frames dom) (grants dom) dom ps l.2, omega (arith, l.3, some_pages))))
-  listed held same h (walked.Refused why) l = ((l.0, (λ k. l.1 k ∙ same k)), (is, l.2))
+  listed held same h (walked.Refused why) l = ((l.0, (λ k. l.1 k ∙ same k)), (is, tt))
 
   pub fits_walk : (held : List Hold) → AreSame held (held_pages w) → Fit frames grants dom (EndsSo frames grants dom parts w) (holds_of held) (mapped Listed (walk_plan (frames dom) (grants dom) dom is.create.gref_directory Read (walking.pages_of is.create.buffer_sz)))
   unfolding count

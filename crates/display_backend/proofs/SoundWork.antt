@@ -8,6 +8,8 @@ use Rattle.pv_words.specs.declared.device.Reason.TheVariants as reason
 use Rattle.pv_words.specs.declared.device.State.{State}
 use Rattle.pv_words.specs.declared.device.State.TheVariants as state
 use Rattle.pv_words.specs.declared.grant.Hold.{Hold}
+use Rattle.pv_words.specs.declared.grant.Mode.TheVariants.{Read}
+use Rattle.pv_words.specs.Found.{Found}
 use Rattle.pv_words.specs.Held.{Holds, holds_of}
 use Rattle.displ_wire.specs.declared.Asked.{Asked}
 use Rattle.displ_wire.specs.declared.Asked.TheVariants as asked
@@ -20,10 +22,10 @@ use Rattle.page_directory.specs.Laws as walk
 use Rattle.page_directory.specs.Same.{AreSame}
 use Rattle.ring_words.specs.declared.Looked.{Looked}
 use Rattle.ring_words.specs.declared.Looked.TheVariants as looked
-use Rattle.ring_words.specs.Ring.{looked_of}
+use Rattle.ring_words.specs.Ring.{looked_of, since}
 use Rattle.xenbus_states.specs.Connection.{Connection, first_ending, heard, is_start}
 use Rattle.link_core.specs.Laws.{AreOf}
-use Rattle.device_core.specs.Machine.{Moves}
+use Rattle.device_core.specs.Machine.{Passes}
 use Rattle.device_core.specs.Order.{News, Sets, Hosts, refused_by}
 use Rattle.display_backend.specs.declared.display.Progress.{Progress}
 use Rattle.display_backend.specs.declared.display.Progress.TheVariants as progress
@@ -88,8 +90,17 @@ IsBare w = (w.parts ≡ []) × (pages_of w.stock ≡ [])
 abbrev pub reason_rows : Connection → Bool → List NodeValue → Rows
 reason_rows c connecting read = record first_rows { connection = c; connecting = connecting; read = read }
 
-abbrev pub IsDue : Site → Work → Reason → Type 0
-IsDue site w why = IsReason site (reason_rows w.connection w.connecting w.read) why
+abbrev pub IsDue : Site → Work → Found → Reason → Type 0
+IsDue site w f why = IsReason site (reason_rows w.connection w.connecting w.read) f why
+
+-- a reason that is kept: the two indices are more than a ring apart
+abbrev pub IsKept : Work → Reason → Type 0
+IsKept w (reason.Overrun prod rsp) = (w.connection.back ≡ state.Connected) × (32 < since rsp prod)
+IsKept w other = ⊥
+
+-- the index that is kept is the word that was found last
+abbrev pub KeptFound : Work → Found → Type 0
+KeptFound w f = (prod rsp : ℕ) → w.kept ≡ Some (reason.Overrun prod rsp) → f.word ≡ Some prod
 
 -- The pages of the parts are the domain's own, mapped for writing, and those of buffers the domain's; there are no more parts
 -- than the device has; the buffers are sound; no page is held unless the device is connected and not closing, and then the
@@ -100,7 +111,7 @@ pub record IsSane (frames grants : ℕ → ℕ) (dom parts : ℕ) (w : Work) : T
   pub few : length w.parts ≤ parts
   pub buffers : AreSound w.stock.buffers
   pub opened : IsBare w ⊎ (IsServing w × HasCome w)
-  pub kept : (why : Reason) → w.kept ≡ Some why → IsDue (the_site frames grants dom parts) w why × (w.closing ≡ false)
+  pub kept : (why : Reason) → w.kept ≡ Some why → IsKept w why × (w.closing ≡ false)
 
 -- no page is held unless the device is connected and not closing
 pub bare_unless : (frames grants : ℕ → ℕ) (dom parts : ℕ) (w : Work) → IsSane frames grants dom parts w → (IsServing w → ⊥) → IsBare w
@@ -144,14 +155,14 @@ abbrev pub IsAnswer : Work → Hand → Type 0
 IsAnswer w h = IsAnswerAt w.stock h w.progress
 
 module _ (frames grants : ℕ → ℕ) (dom parts : ℕ) where
-  -- a connection that is closed for this reason, with no page of a buffer
-  abbrev pub IsShut : Work → Reason → Type 0
-  IsShut w why = IsDue (the_site frames grants dom parts) w why × (w.closing ≡ false) × (pages_of w.stock ≡ [])
+  -- a connection that is closed, with no page of a buffer
+  abbrev pub IsShut : Work → Type 0
+  IsShut w = (w.closing ≡ false) × (pages_of w.stock ≡ [])
 
   -- what a walk came to
   abbrev pub HasListed : Walked → Type 0
   HasListed (walked.Pages ps) = AreOf (grants dom) dom ps × (0 < length ps)
-  HasListed (walked.Refused why) = walk.IsReason (frames dom) (grants dom) why
+  HasListed (walked.Refused why) = Unit {0}
 
   -- how an activity ends, of the work in which it was chosen
   abbrev pub EndsWell : Work → End → Type 0
@@ -163,9 +174,9 @@ module _ (frames grants : ℕ → ℕ) (dom parts : ℕ) where
   EndsWell w (Slept quiet) = Unit {0}
   EndsWell w (Met ps) =
       (w.connecting ≡ true) × AllOwn frames grants dom (all_pages ps) × (length ps ≤ parts) × ((refs : List Refs) × (all_refs w.read 0 parts ≡ Ok refs)) × (pages_of w.stock ≡ [])
-  EndsWell w (Denied why) = IsShut w (reason.Refused why)
-  EndsWell w (Lacked problem) = IsShut w (reason.Node problem.part problem.key problem.fault)
-  EndsWell w (Shut why) = IsShut w why
+  EndsWell w (Denied why) = IsShut w
+  EndsWell w (Lacked problem) = IsShut w
+  EndsWell w (Shut why) = IsShut w
   EndsWell w Left = w.closing ≡ true
   EndsWell w Renewed =
       (w.closing ≡ false) × (w.connection.back ≡ state.Closed) × (w.connection.again ≡ true) × (w.kept ≡ None)
@@ -175,23 +186,36 @@ module _ (frames grants : ℕ → ℕ) (dom parts : ℕ) where
   abbrev pub EndsSo : Work → Holds → End → Type 0
   EndsSo w k o = TellsHeld (settled (the_site frames grants dom parts) w o) k × EndsWell w o
 
+-- why a walk was refused, of the CREATE in hand; and why a connection is closed: as the words show that were found last
+abbrev pub ListedFound : Site → Work → Found → Walked → Type 0
+ListedFound site w f (walked.Pages ps) = Unit {0}
+ListedFound site w f (walked.Refused why) =
+    (h : Hand) (c : Create) → w.hand ≡ Some h → h.request.asked ≡ asked.Create c → walk.IsReason site.frames site.grants c.gref_directory Read f why
+
+abbrev pub EndsFound : Site → Work → Found → End → Type 0
+EndsFound site w f (Listed came) = ListedFound site w f came
+EndsFound site w f (Denied why) = IsDue site w f (reason.Refused why)
+EndsFound site w f (Lacked problem) = IsDue site w f (reason.Node problem.part problem.key problem.fault)
+EndsFound site w f (Shut why) = IsDue site w f why
+EndsFound site w f other = Unit {0}
+
 -- a reason stays one, whatever the frontend sets
-due_heard : (site : Site) (c : Connection) (connecting : Bool) (read : List NodeValue) (front : State) (why : Reason) → IsReason site (reason_rows c connecting read) why → IsReason site (reason_rows (heard c front) connecting read) why
-due_heard site c connecting read front (reason.Asked s) h = (h.0, ap (λ e. first_ending e front) h.1)
-due_heard site c connecting read front (reason.Overrun prod rsp) h = h
-due_heard site c connecting read front (reason.Refused why) h = h
-due_heard site c connecting read front (reason.Node part key fault) h = h
-due_heard site c connecting read front (reason.BadCons p x) h = h
-due_heard site c connecting read front (reason.Spent p) h = h
+due_heard : (site : Site) (c : Connection) (connecting : Bool) (read : List NodeValue) (front : State) (f : Found) (why : Reason) → IsReason site (reason_rows c connecting read) f why → IsReason site (reason_rows (heard c front) connecting read) f why
+due_heard site c connecting read front f (reason.Asked s) h = (h.0, ap (λ e. first_ending e front) h.1)
+due_heard site c connecting read front f (reason.Overrun prod rsp) h = h
+due_heard site c connecting read front f (reason.Refused why) h = h
+due_heard site c connecting read front f (reason.Node part key fault) h = h
+due_heard site c connecting read front f (reason.BadCons p x) h = h
+due_heard site c connecting read front f (reason.Spent p) h = h
 
 -- it is one of all rows with this connection
-pub due_rows : (site : Site) (w : Work) (m : Naming) (why : Reason) → IsDue site w why → IsReason site (rows_of w m) why
-due_rows site w m (reason.Asked s) h = h
-due_rows site w m (reason.Overrun prod rsp) h = h
-due_rows site w m (reason.Refused why) h = h
-due_rows site w m (reason.Node part key fault) h = h
-due_rows site w m (reason.BadCons p x) h = h
-due_rows site w m (reason.Spent p) h = h
+pub due_rows : (site : Site) (w : Work) (m : Naming) (f : Found) (why : Reason) → IsDue site w f why → IsReason site (rows_of w m) f why
+due_rows site w m f (reason.Asked s) h = h
+due_rows site w m f (reason.Overrun prod rsp) h = h
+due_rows site w m f (reason.Refused why) h = h
+due_rows site w m f (reason.Node part key fault) h = h
+due_rows site w m f (reason.BadCons p x) h = h
+due_rows site w m f (reason.Spent p) h = h
 
 -- what a Look, a Sleep and an Answer leave
 pub look_pages : (site : Site) (w : Work) (l : Looked) → held_pages (after_look site w l) ≡ held_pages w
@@ -207,7 +231,7 @@ sleep_pages w false = refl
 -- events that wait.
 record Hearing (site : Site) (w : Work) (c : Connection) (waits : List Waiting) : Type 0 where
   back : c.back ≡ w.connection.back
-  due : (why : Reason) → IsDue site w why → IsReason site (reason_rows c w.connecting w.read) why
+  due : (f : Found) (why : Reason) → IsDue site w f why → IsReason site (reason_rows c w.connecting w.read) f why
   again : w.connection.again ≡ true → c.again ≡ true
   oldest : (x : Waiting) (later : List Waiting) → w.waiting ≡ x ∷ later → (rest : List Waiting) × (waits ≡ x ∷ rest)
 
@@ -218,6 +242,10 @@ module _ (frames grants : ℕ → ℕ) (dom parts : ℕ) (w : Work) (c : Connect
   serving_now : IsServing w → IsServing now
   serving_now q = (h.back ∙ q.0, q.1)
 
+  kept_now : (why : Reason) → IsKept w why → IsKept now why
+  kept_now (reason.Overrun prod rsp) q = (h.back ∙ q.0, q.1)
+  kept_now other q = absurd q
+
   sane_now : IsSane frames grants dom parts w → IsSane frames grants dom parts now
   sane_now s =
       record {
@@ -226,11 +254,8 @@ module _ (frames grants : ℕ → ℕ) (dom parts : ℕ) (w : Work) (c : Connect
         few = s.few;
         buffers = s.buffers;
         opened = elim s.opened [ inl bare ↦ inl bare | inr o ↦ inr (serving_now o.0, o.1) ];
-        kept = λ why e. (h.due why (s.kept why e).0, (s.kept why e).1);
+        kept = λ why e. (kept_now why (s.kept why e).0, (s.kept why e).1);
       }
-
-  shut_now : (why : Reason) → IsShut frames grants dom parts w why → IsShut frames grants dom parts now why
-  shut_now why q = (h.due why q.0, q.1, q.2)
 
   well_now : (o : End) → EndsWell frames grants dom parts w o → EndsWell frames grants dom parts now o
   well_now (Saw l) q = (serving_now q.0, q.1)
@@ -242,9 +267,9 @@ module _ (frames grants : ℕ → ℕ) (dom parts : ℕ) (w : Work) (c : Connect
   well_now (Answered notified) q = (serving_now q.0, q.1)
   well_now (Slept quiet) q = q
   well_now (Met ps) q = q
-  well_now (Denied why) q = shut_now (reason.Refused why) q
-  well_now (Lacked problem) q = shut_now (reason.Node problem.part problem.key problem.fault) q
-  well_now (Shut why) q = shut_now why q
+  well_now (Denied why) q = q
+  well_now (Lacked problem) q = q
+  well_now (Shut why) q = q
   well_now Left q = q
   well_now Renewed q = (q.0, h.back ∙ q.1, h.again q.2, q.3)
   well_now (Served x) q = (serving_now q.0, h.oldest x q.1.0 q.1.1)
@@ -296,7 +321,7 @@ sets_hearing : (site : Site) (w : Work) (front : State) → Hearing site w (hear
 sets_hearing site w front =
     record {
       back = refl;
-      due = λ why q. due_heard site w.connection w.connecting w.read front why q;
+      due = λ f why q. due_heard site w.connection w.connecting w.read front f why q;
       again = λ e. ap (λ t. t || is_start front) e;
       oldest = λ x later e. (later, e);
     }
@@ -305,10 +330,14 @@ hosts_hearing : (site : Site) (w : Work) (e : HostEvent) → Hearing site w w.co
 hosts_hearing site w e =
     record {
       back = refl;
-      due = λ why q. q;
+      due = λ f why q. q;
       again = λ a. a;
       oldest = λ x later i. stays_oldest (refused_at w) w.waiting (waiting_of e) x later i;
     }
+
+due_told : (site : Site) (w : Work) (news : News) (f : Found) (why : Reason) → IsDue site w f why → IsDue site (told w news) f why
+due_told site w (Sets front nodes) f why q = (sets_hearing site w front).due f why q
+due_told site w (Hosts e) f why q = (hosts_hearing site w e).due f why q
 
 -- what an activity's end says doesn't hang on the connection, the nodes, or the events that wait
 same_said : (w : Work) (k : Connection) (nodes : List NodeValue) (ws : List Waiting) (o : End) → said_at (record w { connection = k; seen = nodes; waiting = ws }) o ≡ said_at w o
@@ -356,10 +385,53 @@ unfolding said_at
 hears_said w (Sets front nodes) o = same_said w (heard w.connection front) nodes w.waiting o
 hears_said w (Hosts e) o = same_said w w.connection w.seen (unless (refused_at w) w.waiting (waiting_of e)) o
 
+-- what was found stays a reason, whatever is heard
+pub hears_found : (site : Site) (w : Work) (news : News) (f : Found) (o : End) → EndsFound site w f o → EndsFound site (told w news) f o
+hears_found site w news f (Listed (walked.Pages ps)) q = tt
+hears_found site w (Sets front nodes) f (Listed (walked.Refused why)) q = q
+hears_found site w (Hosts e) f (Listed (walked.Refused why)) q = q
+hears_found site w news f (Denied why) q = due_told site w news f (reason.Refused why) q
+hears_found site w news f (Lacked problem) q = due_told site w news f (reason.Node problem.part problem.key problem.fault) q
+hears_found site w news f (Shut why) q = due_told site w news f why q
+hears_found site w news f other q = tt
+
+-- and so does the index that is kept
+pub hears_kept : (w : Work) (news : News) (f : Found) → KeptFound w f → KeptFound (told w news) f
+hears_kept w (Sets front nodes) f k = k
+hears_kept w (Hosts e) f k = k
+
+settled_kept : (site : Site) (w : Work) (k : Connection) (nodes : List NodeValue) (ws : List Waiting) (o : End) → (settled site (record w { connection = k; seen = nodes; waiting = ws }) o).kept ≡ (settled site w o).kept
+unfolding settled
+settled_kept site w k nodes ws (Saw looked.Nothing) = refl
+settled_kept site w k nodes ws (Saw (looked.Ready n)) = refl
+settled_kept site w k nodes ws (Saw (looked.Overrun prod rsp)) = refl
+settled_kept site w k nodes ws (Took words) = refl
+settled_kept site w k nodes ws (Listed (walked.Pages ps)) = refl
+settled_kept site w k nodes ws (Listed (walked.Refused why)) = refl
+settled_kept site w k nodes ws Freed = refl
+settled_kept site w k nodes ws (Answered notified) = answered w.hand
+  where
+    answered : (x : Option Hand) → (after_answer (record w { connection = k; seen = nodes; waiting = ws }) x).kept ≡ (after_answer w x).kept
+    answered None = refl
+    answered (Some h) = refl
+settled_kept site w k nodes ws (Slept true) = refl
+settled_kept site w k nodes ws (Slept false) = refl
+settled_kept site w k nodes ws (Met ps) = refl
+settled_kept site w k nodes ws (Denied why) = refl
+settled_kept site w k nodes ws (Lacked problem) = refl
+settled_kept site w k nodes ws (Shut why) = refl
+settled_kept site w k nodes ws Left = refl
+settled_kept site w k nodes ws Renewed = refl
+settled_kept site w k nodes ws (Served x) = refl
+
+pub hears_settled : (site : Site) (w : Work) (news : News) (o : End) (f : Found) → KeptFound (settled site w o) f → KeptFound (settled site (told w news) o) f
+hears_settled site w (Sets front nodes) o f k = λ a b e. k a b (sym (settled_kept site w (heard w.connection front) nodes w.waiting o) ∙ e)
+hears_settled site w (Hosts e) o f k = λ a b i. k a b (sym (settled_kept site w w.connection w.seen (unless (refused_at w) w.waiting (waiting_of e)) o) ∙ i)
+
 -- what is heard is a move of the machine, and leaves the pages and the names
-pub hears_move : (site : Site) (w : Work) (news : News) → ((h : Holds) → TellsHeld w h → TellsHeld (told w news) h) × ((m : Naming) → IsNamed w m → IsNamed (told w news) m × Moves (reading site) w m (Hears news) [] (told w news) m)
-hears_move site w (Sets front nodes) = ((λ h t. t), (λ m named. (named, record { move = refl; names = λ memory. refl })))
-hears_move site w (Hosts e) = ((λ h t. t), (λ m named. (named, record { move = refl; names = λ memory. refl })))
+pub hears_move : (site : Site) (w : Work) (news : News) → ((h : Holds) → TellsHeld w h → TellsHeld (told w news) h) × ((m : Naming) → IsNamed w m → IsNamed (told w news) m × Passes (reading site) w m (Hears news) (told w news))
+hears_move site w (Sets front nodes) = ((λ h t. t), (λ m named. (named, record { move = λ touched. refl; names = refl; numbers = λ key. refl })))
+hears_move site w (Hosts e) = ((λ h t. t), (λ m named. (named, record { move = λ touched. refl; names = refl; numbers = λ key. refl })))
 
 -- an event of the host leaves just the refusal owed that the work gives
 pub hears_owed : (site : Site) (w : Work) (m : Naming) (news : News) → owes (rows_of w m) (Hears news) ≡ refused_by (display site) w news

@@ -68,4 +68,4 @@ none_begins w m true = refl
 none_begins w m false = none_with w m w.kept
 
 pub tells_all : (site : Site) → TellsAll (reading site) told_of
-tells_all site = record { said = λ w o t. refl; heard = λ news. refl; began = λ w m. none_begins w m w.closing }
+tells_all site = record { said = λ w o s t. refl; heard = λ news. refl; began = λ w m. none_begins w m w.closing }

@@ -11,7 +11,8 @@ use Rattle.pv_words.specs.declared.device.Reason.TheVariants as reason
 use Rattle.pv_words.specs.declared.device.State.{State}
 use Rattle.pv_words.specs.declared.device.State.TheVariants as state
 use Rattle.pv_words.specs.declared.grant.GrantRefusal.{GrantRefusal}
-use Rattle.pv_words.specs.declared.grant.Mode.TheVariants.{Write}
+use Rattle.pv_words.specs.declared.grant.Mode.TheVariants.{Read, Write}
+use Rattle.pv_words.specs.Found.{Found}
 use Rattle.displ_wire.specs.declared.Asked.{Asked}
 use Rattle.displ_wire.specs.declared.Asked.TheVariants as asked
 use Rattle.displ_wire.specs.declared.Create.{Create}
@@ -26,7 +27,7 @@ use Rattle.display_backend.specs.Waiting.{waiting_of}
 use Rattle.host_events.specs.Queue.{refusal_of, unless}
 use Rattle.display_buffers.specs.declared.live.Live.{Live}
 use Rattle.display_buffers.specs.Buffers.{buffer_of, check_of, with_buffer, without_buffer}
-use Rattle.grant_table.specs.Laws.{IsCause}
+use Rattle.grant_table.specs.Laws.{IsShown}
 use Rattle.device_core.specs.Order.{News, Sets, Hosts}
 use Rattle.device_core.specs.Site.{Site}
 use Rattle.page_directory.specs.Laws as walk
@@ -130,10 +131,11 @@ pub record Rows : Type 0 where
   pub replies : ℕ
   pub waiting : List Waiting
 
--- what happens to the machine: what the device says, and the words that it had taken, if they are a request's; a state of
--- the frontend, while the nodes stand so, or an event of the host and whether it is refused; and a Connect that begins
+-- what happens to the machine: what the device says, with the words that it had taken, if they are a request's, and the words
+-- that its accesses found last; a state of the frontend, while the nodes stand so, or an event of the host and whether it is
+-- refused; and a Connect that begins
 pub data Event : Type 0 where
-  Says : Said → List ℕ → Event
+  Says : Said → List ℕ → Found → Event
   Hears : News → Event
   Begins : Event
 
@@ -142,21 +144,22 @@ abbrev pub IsAskedFor : Site → List NodeValue → ℕ → Type 0
 IsAskedFor site nodes gref =
     (part : ℕ) × (key : ℕ) × (part < site.parts) × (((key == 0) || (key == 2)) ≡ true) × (needed (node_at nodes part key) ≡ Ok gref)
 
--- a closed connection tells why: the frontend set this ending state; or the two indices are more than a ring apart; or,
--- at the end of a Connect, a map of a node's reference was refused, or a needed node is missing or bad
-abbrev pub IsReason : Site → Rows → Reason → Type 0
-IsReason site old (reason.Asked s) = (old.connection.back ≡ state.Connected) × (old.connection.ending ≡ Some s)
-IsReason site old (reason.Overrun prod rsp) = (old.connection.back ≡ state.Connected) × (32 < since rsp prod)
-IsReason site old (reason.Refused why) =
-    (old.connecting ≡ true) × ((gref : ℕ) × IsAskedFor site old.read gref × IsCause site.frames site.grants gref Write why)
-IsReason site old (reason.Node part key fault) =
+-- A closed connection tells why: the frontend set this ending state; or the request index that was found last is more than a
+-- ring apart from the device's own; or, at the end of a Connect, the map of a node's reference was refused, as the words show
+-- that were found last, or a needed node is missing or bad.
+abbrev pub IsReason : Site → Rows → Found → Reason → Type 0
+IsReason site old f (reason.Asked s) = (old.connection.back ≡ state.Connected) × (old.connection.ending ≡ Some s)
+IsReason site old f (reason.Overrun prod rsp) = (old.connection.back ≡ state.Connected) × (f.word ≡ Some prod) × (32 < since rsp prod)
+IsReason site old f (reason.Refused why) =
+    (old.connecting ≡ true) × ((gref : ℕ) × IsAskedFor site old.read gref × IsShown site.frames site.grants gref Write f why)
+IsReason site old f (reason.Node part key fault) =
     (old.connecting ≡ true) × (all_refs old.read 0 site.parts ≡ Err (record { part = part; key = key; fault = fault }))
-IsReason site old other = ⊥
+IsReason site old f other = ⊥
 
 -- a closed connection has no request in hand
-abbrev pub Closes : Site → Rows → Reason → Rows → Type 0
-Closes site old reason new =
-    IsReason site old reason × (old.closing ≡ false)
+abbrev pub Closes : Site → Rows → Found → Reason → Rows → Type 0
+Closes site old f reason new =
+    IsReason site old f reason × (old.closing ≡ false)
     × (new ≡ record old { connecting = false; closing = true; hand = None; denied = false })
 
 -- a state in which the backend has no buffer yet, or no longer, and no event waits
@@ -184,9 +187,9 @@ pub record Requests (site : Site) (old : Rows) (part id op : ℕ) (request : Req
   pub empty : old.hand ≡ None
   pub taken : new ≡ record old { hand = Some (record { part = part; request = request }); denied = false }
 
--- A page is denied to an accepted CREATE, once: the map of some reference was refused, or the directory has no further page
--- where one is needed.
-pub record Denies (site : Site) (old : Rows) (why : GrantRefusal) (new : Rows) : Type 0 where
+-- A page is denied to an accepted CREATE, once, as the words show that were found last: the map was refused of the first page of
+-- its directory, or of the reference that was loaded last; or the directory has no further page where one is needed.
+pub record Denies (site : Site) (old : Rows) (f : Found) (why : GrantRefusal) (new : Rows) : Type 0 where
   pub hand : Hand
   pub create : Create
   pub connected : old.connection.back ≡ state.Connected
@@ -195,7 +198,7 @@ pub record Denies (site : Site) (old : Rows) (why : GrantRefusal) (new : Rows) :
   pub asks : hand.request.asked ≡ asked.Create create
   pub accepted : verdict old.buffers hand.request.asked ≡ pos 0
   pub first : old.denied ≡ false
-  pub cause : walk.IsReason site.frames site.grants why
+  pub cause : walk.IsReason site.frames site.grants create.gref_directory Read f why
   pub done : new ≡ record old { denied = true }
 
 -- The status that answers a request: where a page was denied to it, just that; else its verdict, or, of an accepted CREATE,
@@ -232,18 +235,18 @@ pub record Serves (old : Rows) (event : Waiting) (new : Rows) : Type 0 where
 
 -- A blank of a connector on which no flip is pending is only told. A connector without a picture shows no pixel, whose mark
 -- is 0. No flip is ever pending yet, and no connector has a picture.
-abbrev pub Tells : Site → Rows → Said → List ℕ → Rows → Type 0
-Tells site old (said.Request part id op) taken new = Requests site old part id op (request_of taken) new
-Tells site old (said.Denied why) taken new = Denies site old why new
-Tells site old (said.Replied part id status notified) taken new = Replies old part id status new
-Tells site old (said.Closed reason) taken new = Closes site old reason new
-Tells site old (said.State s) taken new = Enters site old s new
-Tells site old (said.Blank part) taken new = Serves old (waiting.Blank part) new
-Tells site old (said.Shown part pixels mark) taken new = (pixels ≡ 0) × (mark ≡ 0) × Serves old (waiting.Show part) new
-Tells site old other taken new = ⊥
+abbrev pub Tells : Site → Rows → Said → List ℕ → Found → Rows → Type 0
+Tells site old (said.Request part id op) taken f new = Requests site old part id op (request_of taken) new
+Tells site old (said.Denied why) taken f new = Denies site old f why new
+Tells site old (said.Replied part id status notified) taken f new = Replies old part id status new
+Tells site old (said.Closed reason) taken f new = Closes site old f reason new
+Tells site old (said.State s) taken f new = Enters site old s new
+Tells site old (said.Blank part) taken f new = Serves old (waiting.Blank part) new
+Tells site old (said.Shown part pixels mark) taken f new = (pixels ≡ 0) × (mark ≡ 0) × Serves old (waiting.Show part) new
+Tells site old other taken f new = ⊥
 
 abbrev pub Moves : Site → Rows → Event → Rows → Type 0
-Moves site old (Says s taken) new = Tells site old s taken new
+Moves site old (Says s taken f) new = Tells site old s taken f new
 Moves site old (Hears (Sets front nodes)) new = new ≡ record old { connection = heard old.connection front; seen = nodes }
 Moves site old (Hears (Hosts e)) new =
     new ≡ record old { waiting = unless (refusal_of old.connection.back old.waiting) old.waiting (waiting_of e) }
@@ -257,7 +260,7 @@ made_at None status number = None
 made_at (Some h) status number = if is_creation h.request.asked && is_accepted status then Some number else None
 
 abbrev pub makes : Rows → Event → Option ℕ
-makes old (Says (said.Replied part id status notified) taken) = made_at old.hand status old.replies
+makes old (Says (said.Replied part id status notified) taken f) = made_at old.hand status old.replies
 makes old other = None
 
 -- an event of the host leaves its refusal owed where it is refused

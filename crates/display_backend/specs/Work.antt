@@ -12,6 +12,8 @@ use Rattle.pv_words.specs.declared.grant.GrantRefusal.{GrantRefusal}
 use Rattle.pv_words.specs.declared.grant.Hold.{Hold}
 use Rattle.pv_words.specs.declared.grant.Mode.TheVariants.{Read}
 use Rattle.pv_words.specs.declared.place.Place.{Place}
+use Rattle.pv_words.specs.Found.{Found, finding, nothing_found}
+use Rattle.pv_words.specs.Memory.{zeros}
 use Rattle.pv_words.specs.Plan.{Plan, Finished, mapped, joined}
 use Rattle.displ_wire.specs.declared.Asked.{Asked}
 use Rattle.displ_wire.specs.declared.Asked.TheVariants as asked
@@ -33,8 +35,8 @@ use Rattle.xenbus_states.specs.Connection.{Connection, first_connection, heard, 
 use Rattle.xenbus_states.specs.Nodes.{no_nodes}
 use Rattle.link_core.specs.Activities.{Page, Joined, Connected, Joins, Refuses, page_at, look_plan, take_plan, answer_plan, sleep_plan, connect_plan, unmaps}
 use Rattle.link_core.specs.Activities as link
-use Rattle.device_core.specs.Machine.{Reading, Happening, Row, Gone}
-use Rattle.device_core.specs.Names.{Name, cells_of}
+use Rattle.device_core.specs.Machine.{Reading, View, Happening, Meanwhile, Gone}
+use Rattle.device_core.specs.Names.{Name, Words, cells_of}
 use Rattle.device_core.specs.Order.{News, Sets, Hosts, Order, Act, Either, Rest, Rules, Stand, work_at, Own, Spoke, Heard}
 use Rattle.display_backend.specs.declared.display.Progress.{Progress}
 use Rattle.display_backend.specs.declared.display.Progress.TheVariants as progress
@@ -476,7 +478,7 @@ abbrev pub begins_close : Work → Naming → List (Happening Event)
 begins_close w m = all_gone (numbers (names_of w m))
 
 abbrev pub begins_by : Work → Naming → Action → List (Happening Event)
-begins_by w m action.Connect = Row Begins [] ∷ []
+begins_by w m action.Connect = Meanwhile Begins ∷ []
 begins_by w m action.Stay = begins_state w m w.connection.back
 begins_by w m (action.Close s) = begins_close w m
 begins_by w m action.Renew = []
@@ -491,20 +493,26 @@ begins_of w m false = begins_with w m w.kept
 
 -- whether something that happens to the rows is said or heard, and what
 abbrev pub told_of : Event → Option Own
-told_of (Says s taken) = Some (Spoke s)
+told_of (Says s taken f) = Some (Spoke s)
 told_of (Hears news) = Some (Heard news)
 told_of Begins = None
 
 -- the display's work read as a machine of rows and names
-abbrev pub reading : Site → Reading Work End Naming Rows Event
+abbrev pub reading : Site → Reading Found Work End Naming Rows Event
 reading site =
     record {
-      table = record { moves = Moves site; makes = makes; owes = owes };
+      table = record { moves = λ old touched e new. Moves site old e new; makes = makes; owes = owes };
       rows = rows_of;
       names = names_of;
-      event = λ w o s. Says s (taken_at o);
+      number = λ w m key. 0;
+      carry = λ f note a. finding f a;
+      event = λ w o f s. Says s (taken_at o) f;
       made = made_at;
       named = named_after;
       heard = Hears;
       began = λ w m. begins_of w m w.closing;
     }
+
+-- what a reading keeps at the beginning: no names, no word that was found, and a memory of zeros
+abbrev pub first_view : View Found Naming
+first_view = record { naming = first_naming; carried = record { own = nothing_found; touched = [] }; sight = Words zeros }

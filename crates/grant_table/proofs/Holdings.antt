@@ -35,7 +35,7 @@ pub permitted : (b : Bool) → false ≡ not b → b ≡ true
 permitted true e = refl
 permitted false e = e
 
-some_same : {A : Type 0} (x y : A) → Some x ≡ Some y → x ≡ y
+pub some_same : {A : Type 0} (x y : A) → Some x ≡ Some y → x ≡ y
 some_same x y e = cc
 
 -- a refusal by the flags' word shows its cause

@@ -5,3 +5,4 @@ pub mod Maps
 pub mod Outcomes
 pub mod Owns
 pub mod Plans
+pub mod Shown

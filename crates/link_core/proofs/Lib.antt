@@ -5,3 +5,4 @@ pub mod PlanFits
 pub mod Ports
 pub mod Stays
 pub mod Transitions
+pub mod Shown

@@ -11,6 +11,7 @@ use Rattle.pv_words.specs.declared.grant.Mode.TheVariants.{Read, Write}
 use Rattle.pv_words.specs.declared.place.Place.{Place}
 use Rattle.pv_words.specs.Held.{Covers, Has, Holds, IsProper, holding, holds_of, same_hold, same_mode, unheld}
 use Rattle.pv_words.specs.Plan.{Plan, Finished, Make, Want, Load, Store, Note, Plain, FitsFrom, found, mapped, joined}
+pub use Rattle.pv_words.proofs.Fits.{fits_mapped, fits_joined, fits_so}
 use Rattle.grant_table.specs.Laws.{IsHold, IsCause, IsResult, with_result}
 use Rattle.grant_table.specs.Mapping.{map_plan}
 use Rattle.grant_table.proofs.Holdings.{holds_exactly, unmaps_exactly}
@@ -18,19 +19,6 @@ use Rattle.link_core.specs.Activities.{Connected, Joined, Joins, Refuses, hold_l
 use Rattle.link_core.specs.Laws.{AreOf, ConnectsExactly, DropsExactly, IsEnd, IsRefused, IsRing, kept_by}
 
 module _ {S : Type 0} (May : S → Want → Note → Type 0) (after : S → Note → Access → S) where
-  pub fits_mapped : {A B : Type 0} (f : A → B) (Q : S → B → Type 0) (s : S) (p : Plan A) → FitsFrom May after (λ t x. Q t (f x)) s p → FitsFrom May after Q s (mapped f p)
-  fits_mapped f Q s (Finished x) h = h
-  fits_mapped f Q s (Make want note more) h = (h.0, λ v. fits_mapped f Q (after s note (found want v)) (more v) (h.1 v))
-
-  pub fits_joined : {A B : Type 0} (f : A → Plan B) (Q : S → B → Type 0) (s : S) (p : Plan A) → FitsFrom May after (λ t x. FitsFrom May after Q t (f x)) s p → FitsFrom May after Q s (joined p f)
-  fits_joined f Q s (Finished x) h = h
-  fits_joined f Q s (Make want note more) h = (h.0, λ v. fits_joined f Q (after s note (found want v)) (more v) (h.1 v))
-
-  -- an end that is so is also otherwise
-  pub fits_so : {A : Type 0} (P Q : S → A → Type 0) → ((t : S) (x : A) → P t x → Q t x) → (s : S) (p : Plan A) → FitsFrom May after P s p → FitsFrom May after Q s p
-  fits_so P Q so s (Finished x) h = so s x h
-  fits_so P Q so s (Make want note more) h = (h.0, λ v. fits_so P Q so (after s note (found want v)) (more v) (h.1 v))
-
   -- loads that change nothing of what was done so far
   pub fits_loads : {A : Type 0} (Q : S → A → Type 0) (s : S) (at : ℕ → Place) (more : List ℕ → Plan A) (end : ℕ) → ((i : ℕ) → i < end → May s (Load (at i)) Plain) → ((i v : ℕ) → after s Plain (access.Load (at i) v) ≡ s) → ((vs : List ℕ) → FitsFrom May after Q s (more vs)) → (n i : ℕ) (taken : List ℕ) → i + n ≤ end → FitsFrom May after Q s (loads at more n i taken)
   unfolding loads

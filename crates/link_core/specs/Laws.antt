@@ -3,11 +3,13 @@ use Rattle.std.specs.Prelude.{◌≡◌, ◌⊎◌, ℕ, ◌<◌, true, List, []
 use Rattle.pv_words.specs.declared.grant.GrantRefusal.{GrantRefusal}
 use Rattle.pv_words.specs.declared.grant.Hold.{Hold}
 use Rattle.pv_words.specs.declared.grant.Mode.TheVariants.{Write}
+use Rattle.pv_words.specs.Found.{Found, finding}
 use Rattle.pv_words.specs.Held.{Holds, IsProper, holding, holds_of}
-use Rattle.pv_words.specs.Plan.{Finished, FitsFrom}
-use Rattle.grant_table.specs.Laws.{IsHold, IsCause}
+use Rattle.pv_words.specs.Plan.{Finished, FitsFrom, IsUntouched}
+use Rattle.grant_table.specs.Laws.{IsHold, IsCause, IsShown}
+use Rattle.ring_words.specs.Ring.{looked_of}
 use Rattle.link_core.specs.declared.link.Link.{Link}
-use Rattle.link_core.specs.Activities.{Connected, Joins, Refuses, pages_of, connect_plan, unmaps}
+use Rattle.link_core.specs.Activities.{Connected, Joins, Refuses, Page, pages_of, connect_plan, look_plan, unmaps}
 use Rattle.link_core.specs.Link.{connect_left, connects, dom_of, held_of}
 
 -- the pages that a Connect leaves held
@@ -44,6 +46,23 @@ ConnectsExactly =
     (frames grants : ℕ → ℕ) (dom event : ℕ) (ring : Option ℕ) (held : List Hold)
     → FitsFrom (IsProper frames grants dom) (holding frames) (λ h c. (h ≡ holds_of (held ++ kept_by c)) × IsEnd (frames dom) (grants dom) dom ring event c)
     (holds_of held) (connect_plan (frames dom) (grants dom) dom ring event)
+
+-- why a Connect was refused, as the words show that were found last: the map of the ring's page, or of the event page
+abbrev pub HasShown : (frames grants : ℕ) → Option ℕ → (event : ℕ) → Found → Connected → Type 0
+HasShown frames grants ring event f (Joins j) = Unit {0}
+HasShown frames grants ring event f (Refuses held why) = (gref : ℕ) × ((ring ≡ Some gref) ⊎ (event ≡ gref)) × IsShown frames grants gref Write f why
+
+-- Whatever words a Connect finds, its refusal is the one that they show; and it touches no word of a name.
+abbrev pub ConnectsShow : Type 0
+ConnectsShow =
+    (frames grants dom event : ℕ) (ring : Option ℕ) (f : Found)
+    → FitsFrom (λ g want note. IsUntouched note) (λ g note a. finding g a) (HasShown frames grants ring event) f (connect_plan frames grants dom ring event)
+
+-- What a Look answers follows from the word that it loads.
+abbrev pub LooksShow : Type 0
+LooksShow =
+    (page : Page) (rsp : ℕ) (f : Found)
+    → FitsFrom (λ g want note. IsUntouched note) (λ g note a. finding g a) (λ g l. (prod : ℕ) × (g.word ≡ Some prod) × (l ≡ looked_of rsp prod)) f (look_plan page rsp)
 
 -- pages of this domain, by entries that it has
 abbrev pub AreOf : (grants dom : ℕ) → List Hold → Type 0

@@ -1,6 +1,6 @@
 //! What a link's Connect and Drop come to.
 
-ghost use Rattle.link_core.specs.Laws.{ConnectsExactly, HoldsThroughout, DropsExactly};
+ghost use Rattle.link_core.specs.Laws.{ConnectsExactly, ConnectsShow, HoldsThroughout, DropsExactly, LooksShow};
 
 /// By the accesses of a Connect a device holds the pages that were mapped more, also where a map was refused; each access
 /// stays in its pages and in the domain's grant entries, and a refusal shows its cause. While a Connect is under way a link
@@ -9,4 +9,11 @@ pub fn holds_exactly()
     ensures connects { ConnectsExactly }
     ensures throughout { HoldsThroughout }
     ensures drops { DropsExactly }
+{}
+
+/// A Connect's refusal is the one that the words show which its last map found, and what a Look answers follows from the
+/// index that it loaded.
+pub fn shows_words()
+    ensures connects { ConnectsShow }
+    ensures looks { LooksShow }
 {}

@@ -37,7 +37,7 @@ TellsBy frames Plain next = (v : ℕ) → NotHeld (next v)
 TellsBy frames (Begins gref) next = (v : ℕ) → NotHeld (next v)
 TellsBy frames (Frames gref) next = (v : ℕ) → HeldAt (nat_lt v frames) gref v (next v)
 TellsBy frames Undoes next = (v : ℕ) → NotHeld (next v)
-TellsBy frames (Ends h) next = ⊥
+TellsBy frames other next = ⊥
 
 abbrev Tells : (frames : ℕ) → Plan (Result Hold GrantRefusal) → Type 0
 Tells frames (Finished x) = Unit {0}
@@ -86,7 +86,7 @@ same_by frames Plain next a held tells none = refl
 same_by frames (Begins gref) next a held tells none = refl
 same_by frames (Frames gref) next a held tells none = at_end (nat_lt (seen_by a) frames) gref (seen_by a) (next (seen_by a)) held (tells (seen_by a)) none
 same_by frames Undoes next a held tells none = refl
-same_by frames (Ends h) next a held tells none = absurd tells
+same_by frames other next a held tells none = absurd tells
 
 unfinished_not : (p : Plan (Result Hold GrantRefusal)) → IsUnfinished p → (x : Result Hold GrantRefusal) → p ≡ Finished x → ⊥
 unfinished_not p u x e = subst (λ (q : Plan (Result Hold GrantRefusal)). IsUnfinished q) e u
@@ -117,7 +117,7 @@ page_by frames (Frames gref) next a h held tells e = by_frame (nat_lt (seen_by a
         (at.0, at.1, at.2, ap (λ k. held ++ k ∷ []) same)
     by_frame false at = absurd (subst NotHeld (sym e) at)
 page_by frames Undoes next a h held tells e = absurd (subst NotHeld (sym e) (tells (seen_by a)))
-page_by frames (Ends k) next a h held tells e = absurd tells
+page_by frames other next a h held tells e = absurd tells
 
 -- the last step of a map that does
 gains : (frames : ℕ) (p : Plan (Result Hold GrantRefusal)) (a : Access) (h : Hold) (q : Plan (Result Hold GrantRefusal)) (held : List Hold) → Tells frames p → Advances p (Some a) (Some (Ok h)) q → Changes frames held p (Some a) (held ++ h ∷ [])

@@ -7,3 +7,4 @@ pub mod Plans
 pub mod Readings
 pub mod Transitions
 pub mod WalkAlong
+pub mod Shown

@@ -14,20 +14,15 @@ use Rattle.grant_table.specs.Laws.{with_result}
 use Rattle.page_directory.specs.declared.walk.Walked.{Walked}
 use Rattle.page_directory.specs.declared.walk.Walked.TheVariants.{Pages}
 use Rattle.pv_words.specs.Plan.{FitsFrom, found}
+use Rattle.pv_words.proofs.Fits.{fits_then}
 use Rattle.pv_words.specs.Held.{Holds, IsProper, holding, holds_of, unheld}
 use Rattle.grant_table.specs.Laws.{IsHold, IsResult}
 use Rattle.page_directory.specs.Same.{AreSame, times}
 use Rattle.pv_words.specs.Plan.{joined}
-use Rattle.page_directory.specs.Laws.{IsPage, IsReason, Leaves, WalksExactly}
+use Rattle.page_directory.specs.Laws.{IsPage, Leaves, WalksExactly}
 use Rattle.page_directory.specs.Walking.{per_page, word_in, undo_plan, with_map, entry_plan, enter_plan, leave_plan, next_plan, rest_plan, walk_plan}
 use Rattle.page_directory.proofs.Counts.{times_append, times_insert, times_here, has_counted, covers_counted, times_unheld}
 use Rattle.grant_table.proofs.Holdings.{holds_exactly, unmaps_exactly}
-
--- a plan fits where its first part does, and what follows each end of it
-pub fits_joined : {S A B : Type 0} (May : S → Want → Note → Type 0) (after : S → Note → Access → S) (R : S → A → Type 0) (Q : S → B → Type 0) (next : A → Plan B) (s : S) (p : Plan A) → FitsFrom May after R s p → ((t : S) (x : A) → R t x → FitsFrom May after Q t (next x)) → FitsFrom May after Q s (joined p next)
-fits_joined May after R Q next s (Finished x) h more = more s x h
-fits_joined May after R Q next s (Make want note then) h more =
-    (h.0, λ v. fits_joined May after R Q next (after s note (found want v)) (then v) (h.1 v) more)
 
 pub all_push : {X : Type 0} (P : X → Type 0) (xs : List X) (x : X) → AllByRecursion P xs → P x → AllByRecursion P (xs ++ x ∷ [])
 all_push P [] x h p = (p, tt)
@@ -67,19 +62,19 @@ module _ (frames grants : ℕ → ℕ) (dom : ℕ) (mode : Mode) (count : ℕ) (
             subst (λ s. FitsFrom (IsProper frames grants dom) (holding frames) (Leaves (frames dom) (grants dom) dom mode count others) s p) (sym w.1) (more (unheld h held) left),
       )
 
-  undo_fits : (hs : List Hold) (r : GrantRefusal) (held : List Hold) → AreSame held (others ++ hs) → AllByRecursion IsOwn hs → IsReason (frames dom) (grants dom) r → Fit held (undo_plan hs r)
-  undo_fits [] r held same own reason = (refl, (λ k. omega (arith, same k, times_append k others [])), reason)
-  undo_fits (h ∷ hs) r held same own reason =
-      unmap_fits h held hs (undo_plan hs r) own.0 same (λ left s. undo_fits hs r left s own.1 reason)
+  undo_fits : (hs : List Hold) (r : GrantRefusal) (held : List Hold) → AreSame held (others ++ hs) → AllByRecursion IsOwn hs → Fit held (undo_plan hs r)
+  undo_fits [] r held same own = (refl, (λ k. omega (arith, same k, times_append k others [])))
+  undo_fits (h ∷ hs) r held same own =
+      unmap_fits h held hs (undo_plan hs r) own.0 same (λ left s. undo_fits hs r left s own.1)
 
   -- a map, where these pages are unmapped if it is refused
   map_fits : (gref : ℕ) (m : Mode) (held hs : List Hold) (next : Hold → Plan Walked) → AreSame held (others ++ hs) → AllByRecursion IsOwn hs → ((h : Hold) → IsHold (frames dom) (grants dom) dom gref m h → Fit (held ++ h ∷ []) (next h)) → Fit held (joined (map_plan (frames dom) (grants dom) dom gref m) (with_map hs next))
   map_fits gref m held hs next same own more =
-      fits_joined (IsProper frames grants dom) (holding frames) (λ h r. (h ≡ holds_of (with_result held r)) × IsResult (frames dom) (grants dom) dom gref m r) (Leaves (frames dom) (grants dom) dom mode count others) (with_map hs next) (holds_of held) (map_plan (frames dom) (grants dom) dom gref m) (holds_exactly frames grants dom gref m held) ended
+      fits_then (IsProper frames grants dom) (holding frames) (λ h r. (h ≡ holds_of (with_result held r)) × IsResult (frames dom) (grants dom) dom gref m r) (Leaves (frames dom) (grants dom) dom mode count others) (with_map hs next) (holds_of held) (map_plan (frames dom) (grants dom) dom gref m) (holds_exactly frames grants dom gref m held) ended
     where
       ended : (t : Holds) (x : Result Hold GrantRefusal) → (t ≡ holds_of (with_result held x)) × IsResult (frames dom) (grants dom) dom gref m x → FitsFrom (IsProper frames grants dom) (holding frames) (Leaves (frames dom) (grants dom) dom mode count others) t (with_map hs next x)
       ended t (Ok h) e = subst (λ s. FitsFrom (IsProper frames grants dom) (holding frames) (Leaves (frames dom) (grants dom) dom mode count others) s (next h)) (sym e.0) (more h e.1)
-      ended t (Err r) e = subst (λ s. FitsFrom (IsProper frames grants dom) (holding frames) (Leaves (frames dom) (grants dom) dom mode count others) s (undo_plan hs r)) (sym e.0) (undo_fits hs r held same own (inr (gref, m, e.1)))
+      ended t (Err r) e = subst (λ s. FitsFrom (IsProper frames grants dom) (holding frames) (Leaves (frames dom) (grants dom) dom mode count others) s (undo_plan hs r)) (sym e.0) (undo_fits hs r held same own)
 
   -- the walk is at a directory page, and so many references are still needed
   record At (n : ℕ) (d : Hold) (begins : ℕ) (pages held : List Hold) : Type 0 where
@@ -153,7 +148,7 @@ module _ (frames grants : ℕ → ℕ) (dom : ℕ) (mode : Mode) (count : ℕ) (
   rest_fits (suc n) d begins pages held at = by_room (nat_lt (length pages - begins) per_page) refl (rest_fits n)
     where
       further : Rests n → (b : Bool) (gref : ℕ) → Fit held (cond b (undo_plan (insert pages begins d) NoNext) (leave_plan d (enter_plan (frames dom) (grants dom) dom mode (rest_plan (frames dom) (grants dom) dom mode n) gref pages)))
-      further rest true gref = undo_fits (insert pages begins d) NoNext held at.same (owned (suc n) d begins pages held at) (inl refl)
+      further rest true gref = undo_fits (insert pages begins d) NoNext held at.same (owned (suc n) d begins pages held at)
       further rest false gref = leave_fits (suc n) d begins pages held (enter_plan (frames dom) (grants dom) dom mode (rest_plan (frames dom) (grants dom) dom mode n) gref pages) at (λ left s. enter_fits n rest gref pages left s at.all at.total)
 
       by_room : (b : Bool) → nat_lt (length pages - begins) per_page ≡ b → Rests n → Fit held (cond b (entry_plan (frames dom) (grants dom) dom mode (rest_plan (frames dom) (grants dom) dom mode n d begins) d begins pages) (next_plan d begins pages (λ gref. enter_plan (frames dom) (grants dom) dom mode (rest_plan (frames dom) (grants dom) dom mode n) gref pages)))

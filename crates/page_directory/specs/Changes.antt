@@ -2,7 +2,7 @@
 use Rattle.std.specs.Prelude.{◌≡◌, ℕ, Bool, true, false, List, [], ◌∷◌, ◌++◌, Option, Some, None, nat_lt}
 use Rattle.pv_words.specs.declared.access.Access.{Access}
 use Rattle.pv_words.specs.declared.grant.Hold.{Hold}
-use Rattle.pv_words.specs.Plan.{Plan, Finished, Make, Note, Plain, Begins, Frames, Undoes, Ends, seen_by}
+use Rattle.pv_words.specs.Plan.{Plan, Finished, Make, Note, Frames, Ends, seen_by}
 use Rattle.page_directory.specs.declared.walk.Walked.{Walked}
 use Rattle.page_directory.specs.declared.walk.Walked.TheVariants.{Pages, Refused}
 
@@ -17,11 +17,9 @@ Loses h old new = (before : List Hold) × (behind : List Hold) × (old ≡ befor
 
 -- what an access that is for this makes of the pages that are held
 abbrev pub ChangesBy : (frames : ℕ) → (old : List Hold) → Note → Access → (new : List Hold) → Type 0
-ChangesBy frames old Plain a new = new ≡ old
-ChangesBy frames old (Begins gref) a new = new ≡ old
 ChangesBy frames old (Frames gref) a new = Gains (nat_lt (seen_by a) frames) gref (seen_by a) old new
-ChangesBy frames old Undoes a new = new ≡ old
 ChangesBy frames old (Ends h) a new = Loses h old new
+ChangesBy frames old other a new = new ≡ old
 
 -- what the next access of a plan makes of them
 abbrev pub Changes : {A : Type 0} → (frames : ℕ) → (old : List Hold) → Plan A → Option Access → (new : List Hold) → Type 0

@@ -1,4 +1,5 @@
 pub mod Apart
 pub mod Blocks
+pub mod Fits
 pub mod Keeping
 pub mod Listing

@@ -1,5 +1,5 @@
 -- What is so of devices of every kind, from what is so of each kind's order of work.
-use Rattle.std.proofs.Common.{◌≡◌, ℕ, false, List, [], ◌∷◌, ◌++◌, Option, Some, None, refl, sym, subst, ◌∙◌, ap, append-nil}
+use Rattle.std.proofs.Common.{◌≡◌, ℕ, false, true, List, [], ◌∷◌, ◌++◌, Option, Some, None, refl, sym, subst, ◌∙◌, ap, append-nil}
 use Rattle.pv_words.specs.declared.access.Access.{Access}
 use Rattle.pv_words.specs.declared.device.HostEvent.{HostEvent}
 use Rattle.pv_words.specs.declared.device.HostRefusal.{HostRefusal}
@@ -8,31 +8,38 @@ use Rattle.pv_words.specs.declared.setup.DeviceKind.{DeviceKind}
 use Rattle.pv_words.specs.declared.setup.DeviceKind.TheVariants as kind
 use Rattle.pv_words.specs.declared.setup.DeviceSetup.{DeviceSetup}
 use Rattle.pv_words.specs.Along.{after, Along, after-append, Along-append}
+use Rattle.pv_words.specs.Found.{Found}
 use Rattle.pv_words.specs.Held.{Holds, Made, IsProper, holding, holds_of, KeepsToGrants}
 use Rattle.pv_words.specs.Memory.{Memory, zeros}
 use Rattle.pv_words.specs.Plan.{Plan, Finished, Make, Note, Want, MayGo, wanted}
-use Rattle.device_core.specs.Machine.{Happening, HappensTo, IsRun}
+use Rattle.device_core.specs.Learned.{Learned, learned_of, learning}
+use Rattle.device_core.specs.Machine.{Happening, HappensTo, IsRun, Snapshot, View, AreTrueTo}
+use Rattle.device_core.specs.Names.{Words}
+use Rattle.device_core.specs.Touched.{Carried}
 use Rattle.device_core.specs.Order as order
-use Rattle.device_core.specs.Order.{Own, Did, Spoke, Heard, Hosts, Refused, Stand, Between, Station, MayStep, at_stand, due_at, followed, made_by, note_at, steps_of}
+use Rattle.device_core.specs.Order.{Own, Did, Spoke, Rested, Heard, Hosts, Refused, Others, Stand, Between, Station, MayStep, at_stand, due_at, followed, made_by, note_at, steps_of}
 use Rattle.device_core.specs.Site.{Site}
-use Rattle.device_core.proofs.MachineRun.{IsGood, good_after, may_step, memory_left, named_after, proper_after, proper_follow, run_after, snapshot_at}
+use Rattle.device_core.proofs.Extending.{history_less}
+use Rattle.device_core.proofs.Learning.{along_learned, holds_learned}
+use Rattle.device_core.proofs.MachineRun.{IsGood, carried_after, good_after, may_step, own_after, proper_after, proper_follow, run_after, snapshot_at, view_after}
+use Rattle.device_core.proofs.Saying.{IsUnspoken, says_so}
 use Rattle.device_core.proofs.Passing.{news_may_come}
 use Rattle.device_core.specs.Told.{spoken}
 use Rattle.device_core.proofs.Single.{FindsBy, IsDoing, one_next}
 use Rattle.device_core.proofs.Stations.{AreHeard, AreOthers, due_heard, heard_made, made_append, others_follow, others_made, station_is, told_is_due}
 use Rattle.device_core.proofs.Telling.{told_all}
 use Rattle.display_backend.specs.Display as screen
-use Rattle.display_backend.specs.Machine.{Event}
+use Rattle.display_backend.specs.Machine.{Event, Rows}
 use Rattle.display_backend.specs.Waiting.{is_for}
-use Rattle.display_backend.specs.Work.{Work, End, choice, display, first_naming, first_work, reading, told_of}
-use Rattle.display_backend.proofs.Sound.{sound, first_good, first_named}
+use Rattle.display_backend.specs.Work.{Work, End, Naming, choice, display, first_naming, first_view, first_work, reading, told_of}
+use Rattle.display_backend.proofs.Sound.{Lies, first_carried, first_good, first_named, learned, shows_why, sound}
 use Rattle.display_backend.proofs.Telling.{tells_all}
 use Rattle.backend_core.specs.declared.device.Device.{Device}
 use Rattle.backend_core.specs.declared.device.Device.TheVariants.{Display}
 use Rattle.backend_core.specs.Device as backend
 use Rattle.backend_core.specs.Device.{GoesOn, IsDisplay, MayMakeNext, StandsFor}
 use Rattle.backend_core.specs.History.{held_after, site_of}
-use Rattle.backend_core.specs.Kinds.{AnswersAll, Continues, IsExplained, IsMachineRun, IsSettled, display_station, due_after, first_snapshot, machine, made_after, owed_after, parts_of, takes_event, told_after, wants_memory}
+use Rattle.backend_core.specs.Kinds.{AnswersAll, Continues, IsShownBy, TellsTruly, IsExplained, IsMachineRun, IsSettled, display_station, due_after, first_snapshot, machine, made_after, owed_after, parts_of, takes_event, told_after, wants_memory}
 use Rattle.backend_core.proofs.Answers.{answers_then}
 
 pub along_front : {S E : Type 0} (step : S → E → S) (may : S → E → Type 0) (s : S) (es fs : List E) → Along step may s (es ++ fs) → Along step may s es
@@ -125,10 +132,21 @@ module _ (frames grants : ℕ → ℕ) (dom : ℕ) where
   abbrev pub holds_as : DeviceKind → List Own → Holds
   holds_as k es = after (λ h (x : Made). holding frames h x.note x.access) (holds_of []) (made_after k (site_as k) es)
 
-  -- where explained work leaves a display, what it knows is true and tells what it holds
-  good : (n : ℕ) (es : List Own) → IsExplained (kind.Display n) (site_as (kind.Display n)) es → IsGood (display (site_as (kind.Display n))) (reading (site_as (kind.Display n))) (IsProper frames grants dom) (holding frames) (sound frames grants dom n) (display_station (site_as (kind.Display n)) es).stand (holds_as (kind.Display n) es)
+  -- what the accesses of a display told it
+  abbrev carried_as : ℕ → List Own → Carried Learned
+  carried_as n es =
+      carried_after (display (site_as (kind.Display n))) (learned frames (site_as (kind.Display n))) (Lies frames grants dom n) (sound frames grants dom n) (at_stand (Between first_work)) (first_carried frames grants dom n) es
+
+  -- where explained work leaves a display, what it knows is true and tells what its accesses made
+  good : (n : ℕ) (es : List Own) → IsExplained (kind.Display n) (site_as (kind.Display n)) es → IsGood (display (site_as (kind.Display n))) (learned frames (site_as (kind.Display n))) (Lies frames grants dom n) (sound frames grants dom n) (display_station (site_as (kind.Display n)) es).stand (carried_as n es)
   good n es h =
-      good_after (display (site_as (kind.Display n))) (reading (site_as (kind.Display n))) (IsProper frames grants dom) (holding frames) (sound frames grants dom n) (at_stand (Between first_work)) es (holds_of []) (first_good frames grants dom n) h
+      good_after (display (site_as (kind.Display n))) (learned frames (site_as (kind.Display n))) (Lies frames grants dom n) (sound frames grants dom n) (at_stand (Between first_work)) es (first_carried frames grants dom n) (first_good frames grants dom n) h
+
+  -- of which the pages are those that it holds
+  good_holds : (n : ℕ) (es : List Own) → (carried_as n es).own.holds ≡ holds_as (kind.Display n) es
+  good_holds n es =
+      ap (λ (l : Learned). l.holds) (own_after (display (site_as (kind.Display n))) (learned frames (site_as (kind.Display n))) (Lies frames grants dom n) (sound frames grants dom n) (at_stand (Between first_work)) es (first_carried frames grants dom n))
+      ∙ holds_learned frames (learned_of []) (made_after (kind.Display n) (site_as (kind.Display n)) es)
 
   first_may : (site : Site) (p : Station Work End) (a : Access) (t : Option Said) → order.IsExplained (display site) p (steps_of (Some a) t) → order.MayFollow (display site) p (Did a)
   first_may site p a None h = h.0
@@ -145,7 +163,7 @@ module _ (frames grants : ℕ → ℕ) (dom : ℕ) where
       let p = display_station site es in
       let note = note_at (display site) p.stand (Did a) in (
         note,
-        proper_follow (display site) (reading site) (IsProper frames grants dom) (holding frames) (sound frames grants dom n) p.stand p.owes a (holds_as (kind.Display n) es) (good n es x) (first_may site p a t h),
+        subst (λ hs. IsProper frames grants dom hs (wanted a) note) (good_holds n es) (proper_follow (display site) (learned frames site) (Lies frames grants dom n) (sound frames grants dom n) p.stand p.owes a (carried_as n es) (good n es x) (first_may site p a t h)),
         ap (λ ms. after (λ k (y : Made). holding frames k y.note y.access) (holds_of []) ms) (made_append (display site) (at_stand (Between first_work)) es (steps_of (Some a) t))
             ∙ (after-append (λ k (y : Made). holding frames k y.note y.access) (holds_of []) (made_after (kind.Display n) site es) (made_by (display site) p (steps_of (Some a) t))
             ∙ ap (λ ms. after (λ k (y : Made). holding frames k y.note y.access) (holds_as (kind.Display n) es) ms) (made_step site p a t)),
@@ -156,25 +174,46 @@ module _ (frames grants : ℕ → ℕ) (dom : ℕ) where
   next_may may (kind.Display n) (Display d) es all s x =
       let site = site_as (kind.Display n) in
       subst (λ (y : Stand Work End). MayStep may (display site) y) (sym s.stands)
-      (may_step (display site) (reading site) (IsProper frames grants dom) (holding frames) (sound frames grants dom n) may (holds_as (kind.Display n) es) all (display_station site es).stand (good n es x))
+      (may_step (display site) (learned frames site) (Lies frames grants dom n) (sound frames grants dom n) may (carried_as n es) (λ want note lies. all want note (subst (λ hs. IsProper frames grants dom hs want note) (good_holds n es) lies)) (display_station site es).stand (good n es x))
 
-  pub runs : (k : DeviceKind) (es : List Own) → IsExplained k (site_as k) es → IsMachineRun k (site_as k) es
-  runs (kind.Display n) es h =
-      let site = site_as (kind.Display n) in (
-        snapshot_at (display site) (reading site) (display_station site es) (named_after (display site) (reading site) (at_stand (Between first_work)) first_naming es) (memory_left (display site) (reading site) zeros es),
-        run_after (display site) (reading site) (IsProper frames grants dom) (holding frames) (sound frames grants dom n) (at_stand (Between first_work)) es (holds_of []) first_naming zeros (first_good frames grants dom n) (first_named frames grants dom n) h,
+  -- what a reading of a display keeps at the beginning
+  abbrev view_as : ℕ → View Learned Naming
+  view_as n = record { naming = first_naming; carried = first_carried frames grants dom n; sight = Words zeros }
+
+  pub runs : (k : DeviceKind) (es : List Own) → IsExplained k (site_as k) es → AreTrueTo (Words zeros) es → IsMachineRun k (site_as k) es
+  runs (kind.Display n) es h true_to =
+      let site = site_as (kind.Display n) in
+      let end : Snapshot Rows = snapshot_at (display site) (learned frames site) (display_station site es) (view_after (display site) (learned frames site) (at_stand (Between first_work)) (view_as n) es) in (
+        end,
+        subst (λ hs. IsRun (HappensTo true (machine site)) first_snapshot hs end) (history_less (display site) (reading site) (λ (l : Learned). l.found) (learning frames) (λ k note a. refl) (at_stand (Between first_work)) (view_as n) es)
+            (run_after (display site) (learned frames site) (Lies frames grants dom n) (sound frames grants dom n) true (at_stand (Between first_work)) es (view_as n) refl true_to (first_good frames grants dom n) (first_named frames grants dom n) h),
       )
 
-  pub answers : (k : DeviceKind) (es : List Own) → IsExplained k (site_as k) es → AnswersAll k (site_as k) es
-  answers (kind.Display n) es h = λ before later now hand split front in_hand accepted.
+  pub answers : (k : DeviceKind) (es : List Own) → IsExplained k (site_as k) es → AreTrueTo (Words zeros) es → AnswersAll k (site_as k) es
+  answers (kind.Display n) es h true_to = λ before later now hand split front in_hand accepted.
       let site = site_as (kind.Display n) in
-      let run = runs (kind.Display n) es h in
-      answers_then site before later now run.0 hand (subst (λ (x : List (Happening Event)). IsRun (HappensTo (machine site)) first_snapshot x run.0) split run.1) front (record { hand = in_hand; accepted = accepted })
+      let run = runs (kind.Display n) es h true_to in
+      answers_then site before later now run.0 hand (subst (λ (x : List (Happening Event)). IsRun (HappensTo true (machine site)) first_snapshot x run.0) split run.1) front (record { hand = in_hand; accepted = accepted })
 
   pub keeps : (k : DeviceKind) (es : List Own) → IsExplained k (site_as k) es → KeepsToGrants frames grants dom (holds_of []) (made_after k (site_as k) es)
   keeps (kind.Display n) es h =
       let site = site_as (kind.Display n) in
-      proper_after (display site) (reading site) (IsProper frames grants dom) (holding frames) (sound frames grants dom n) (at_stand (Between first_work)) es (holds_of []) (first_good frames grants dom n) h
+      along_learned frames (IsProper frames grants dom) (learned_of []) (made_after (kind.Display n) site es)
+      (proper_after (display site) (learned frames site) (Lies frames grants dom n) (sound frames grants dom n) (at_stand (Between first_work)) es (first_carried frames grants dom n) (first_good frames grants dom n) h)
+
+  -- what it says is as the words show that it found
+  pub truly : (k : DeviceKind) (es : List Own) → IsExplained k (site_as k) es → TellsTruly k (site_as k) es
+  truly (kind.Display n) es h =
+      let site = site_as (kind.Display n) in
+      says_so (display site) (learned frames site) (Lies frames grants dom n) (sound frames grants dom n) (λ (l : Learned). l.found) (λ k note a. refl) (IsShownBy (kind.Display n) site) (shows_why frames grants dom n) unspoken (at_stand (Between first_work)) es (first_carried frames grants dom n) (first_good frames grants dom n) h
+    where
+      unspoken : (f : Found) (e : Own) → IsUnspoken e → IsShownBy (kind.Display n) (site_as (kind.Display n)) f e
+      unspoken f (Spoke t) u = absurd u
+      unspoken f (Did a) u = tt
+      unspoken f Rested u = tt
+      unspoken f (Heard news) u = tt
+      unspoken f (Refused why) u = tt
+      unspoken f (Others a) u = tt
 
 -- a device steps within the work that it was made for
 pub may_weaker : (may also : Want → Type 0) → ((want : Want) → may want → also want) → (site : Site) (d : Device) → MayMakeNext may site d → MayMakeNext also site d
@@ -312,4 +351,4 @@ same_next m (kind.Display n) site es a b i j h k w x f g =
 
 -- what the machine's history tells is what the device did
 pub tells : (k : DeviceKind) (site : Site) (es : List Own) → IsExplained k site es → told_after k site es ≡ spoken es
-tells (kind.Display n) site es h = told_all (display site) (reading site) told_of (tells_all site) (at_stand (Between first_work)) es first_naming zeros h
+tells (kind.Display n) site es h = told_all (display site) (reading site) told_of (tells_all site) (at_stand (Between first_work)) es first_view h

@@ -121,6 +121,10 @@ held_in frames grants m s = held_after frames grants s (own s.dev.0 m)
 abbrev pub IsMachineRunIn : (frames grants : ℕ → ℕ) → List Item → DeviceSetup → Type 0
 IsMachineRunIn frames grants m s = kinds.IsMachineRun s.kind (site_of frames grants s) (own s.dev.0 m)
 
+-- each refusal that it tells, and each index that is too far, is as the words show that it found last
+abbrev pub TellsTrulyIn : (frames grants : ℕ → ℕ) → List Item → DeviceSetup → Type 0
+TellsTrulyIn frames grants m s = kinds.TellsTruly s.kind (site_of frames grants s) (own s.dev.0 m)
+
 -- its accepted requests are answered
 abbrev pub AnswersIn : (frames grants : ℕ → ℕ) → List Item → DeviceSetup → Type 0
 AnswersIn frames grants m s = kinds.AnswersAll s.kind (site_of frames grants s) (own s.dev.0 m)

@@ -1,21 +1,22 @@
 -- What a device is, by its kind: which work is explained, where it leaves the device, and which machine runs by it. Here alone
 -- the kinds are told apart.
-use Rattle.std.specs.Prelude.{◌≡◌, ℕ, pos, Bool, List, [], ◌++◌, Option, Some, None}
+use Rattle.std.specs.Prelude.{◌≡◌, ℕ, pos, Bool, true, List, [], ◌++◌, Option, Some, None}
 use Rattle.pv_words.specs.declared.device.HostEvent.{HostEvent}
 use Rattle.pv_words.specs.declared.device.HostRefusal.{HostRefusal}
 use Rattle.pv_words.specs.declared.device.Said.{Said}
 use Rattle.pv_words.specs.declared.setup.DeviceKind.{DeviceKind}
 use Rattle.pv_words.specs.declared.setup.DeviceKind.TheVariants.{Display}
-use Rattle.pv_words.specs.Along.{after}
+use Rattle.pv_words.specs.Along.{after, Along}
 use Rattle.pv_words.specs.Held.{Made}
-use Rattle.pv_words.specs.Memory.{zeros}
+use Rattle.pv_words.specs.Found.{Found, nothing_found}
 use Rattle.device_core.specs.Order as order
+use Rattle.device_core.specs.Learned.{found_next}
 use Rattle.device_core.specs.Order.{Own, Spoke, Heard, Order, Either, Stand, Between, Station, at_stand, at_rest, due_at, followed, is_in_page, made_by}
 use Rattle.device_core.specs.Machine.{Happening, HappensTo, IsRun, Snapshot, Table, history}
 use Rattle.device_core.specs.Site.{Site}
 use Rattle.device_core.specs.Told.{told_by}
-use Rattle.display_backend.specs.Work.{Work, End, display, reading, first_naming, first_work, told_of}
-use Rattle.display_backend.specs.Machine.{Event, Hand, Rows, Moves, first_rows, makes, owes, verdict}
+use Rattle.display_backend.specs.Work.{Work, End, display, reading, first_view, first_work, told_of}
+use Rattle.display_backend.specs.Machine.{Event, Hand, Rows, Moves, ShowsWhy, first_rows, makes, owes, verdict}
 use Rattle.display_backend.specs.Waiting.{is_for}
 use Rattle.backend_core.specs.Answered.{IsAnsweredIn}
 
@@ -67,15 +68,15 @@ made_after (Display connectors) site es = made_by (display site) (at_stand (Betw
 
 -- the display machine: its rows, the names that its replies make, and the refusals that it owes
 abbrev pub machine : Site → Table Rows Event
-machine site = record { moves = Moves site; makes = makes; owes = owes }
+machine site = record { moves = λ old touched e new. Moves site old e new; makes = makes; owes = owes }
 
 -- at the beginning it has no name
 abbrev pub first_snapshot : Snapshot Rows
-first_snapshot = record { rows = first_rows; names = []; owes = None }
+first_snapshot = record { rows = first_rows; names = []; touched = []; owes = None }
 
 -- what happens to a display's machine: what it says and hears, and each write of a word of a live name, whoever writes
 abbrev pub display_events : Site → List Own → List (Happening Event)
-display_events site es = history (display site) (reading site) (at_stand (Between first_work)) first_naming zeros es
+display_events site es = history (display site) (reading site) (at_stand (Between first_work)) first_view es
 
 -- what the history of a device's machine tells of what the device said, heard and refused
 abbrev pub told_after : DeviceKind → Site → List Own → List Own
@@ -83,7 +84,7 @@ told_after (Display connectors) site es = told_by told_of (display_events site e
 
 -- what a device says and hears, with the words that are drawn, is a run of its machine
 abbrev pub IsMachineRun : DeviceKind → Site → List Own → Type 0
-IsMachineRun (Display connectors) site es = (end : Snapshot Rows) × IsRun (HappensTo (machine site)) first_snapshot (display_events site es) end
+IsMachineRun (Display connectors) site es = (end : Snapshot Rows) × IsRun (HappensTo true (machine site)) first_snapshot (display_events site es) end
 
 -- Whenever the machine has an accepted request in hand, after some of what happens to it, that request is answered in what
 -- happens then, or its connection is closed, or it is in hand at the end.
@@ -91,6 +92,16 @@ abbrev pub AnswersAll : DeviceKind → Site → List Own → Type 0
 AnswersAll (Display connectors) site es =
     (before later : List (Happening Event)) (now : Snapshot Rows) (h : Hand)
     → display_events site es ≡ before ++ later
-    → IsRun (HappensTo (machine site)) first_snapshot before now
+    → IsRun (HappensTo true (machine site)) first_snapshot before now
     → now.rows.hand ≡ Some h → verdict now.rows.buffers h.request.asked ≡ pos 0
     → IsAnsweredIn h now.rows.denied later
+
+-- what it says is as these words show, where it says why a map was refused, or which index is too far
+abbrev pub IsShownBy : DeviceKind → Site → Found → Own → Type 0
+IsShownBy (Display connectors) site f (Spoke s) = ShowsWhy site f s
+IsShownBy (Display connectors) site f other = Unit {0}
+
+-- Each refusal of a map that a device tells is the one that the words show which its accesses found last, and each index that
+-- is too far is the word that it loaded last.
+abbrev pub TellsTruly : DeviceKind → Site → List Own → Type 0
+TellsTruly kind site es = Along found_next (IsShownBy kind site) nothing_found es

@@ -6,7 +6,7 @@ use Rattle.pv_words.specs.Port.{Port, PortMay, IsListed}
 use Rattle.device_core.specs.Order.{Own}
 use Rattle.backend_core.specs.declared.device.Device.{Device}
 use Rattle.backend_core.specs.Device.{StandsFor, MayMakeNext}
-use Rattle.backend_core.specs.History.{AnswersIn, IsHistory, IsMachineRunIn, IsPromptIn, KeepsIn, TellsIn, held_after, site_of}
+use Rattle.backend_core.specs.History.{AnswersIn, IsHistory, IsMachineRunIn, IsPromptIn, KeepsIn, TellsIn, TellsTrulyIn, held_after, site_of}
 use Rattle.backend_core.specs.Kinds.{IsExplained}
 use Rattle.backend_core.specs.Marked.{Item}
 
@@ -16,6 +16,12 @@ HistoriesAreRuns =
     (frames grants : ℕ → ℕ) (devices : List DeviceSetup) (m : List Item) → IsHistory frames grants devices m
     → AllByRecursion (IsMachineRunIn frames grants m) devices × AllByRecursion (AnswersIn frames grants m) devices
     × AllByRecursion (KeepsIn frames grants m) devices
+
+-- Each refusal of a map that a device tells is the one that the words of its last map show, and each request index that is too far
+-- is the word that its Look loaded.
+abbrev pub RefusalsAreShown : Type 0
+RefusalsAreShown =
+    (frames grants : ℕ → ℕ) (devices : List DeviceSetup) (m : List Item) → IsHistory frames grants devices m → AllByRecursion (TellsTrulyIn frames grants m) devices
 
 -- Nobody has to believe the reading of a history as a machine's: what is said, heard and refused in it is what was entered.
 abbrev pub ReadingsTellAll : Type 0

@@ -1,11 +1,17 @@
 //! What is so of every journal of devices.
 
-ghost use Rattle.backend_core.specs.Laws.{FrontsAreHistories, HistoriesAreRuns, ListingSuffices, ReadingsTellAll};
+ghost use Rattle.backend_core.specs.Laws.{FrontsAreHistories, HistoriesAreRuns, ListingSuffices, ReadingsTellAll, RefusalsAreShown};
 
 /// Whatever was played, what a device said and heard is a run of its machine, its accepted requests are answered, and each of
 /// its accesses lies in a page that it mapped and holds.
 pub fn histories_are_runs()
     ensures { HistoriesAreRuns }
+{}
+
+/// Each refusal of a map that a device tells, to a request or where its connection is closed, is the one that the words of its
+/// last map show; and each request index that is too far apart is the word that its Look loaded.
+pub fn refusals_are_shown()
+    ensures { RefusalsAreShown }
 {}
 
 /// What the history of a device's machine tells is what was entered of the device: all that it said and heard and each refusal,

@@ -5,6 +5,7 @@ pub mod Learning
 pub mod MachineRun
 pub mod Passing
 pub mod Runs
+pub mod Saying
 pub mod Single
 pub mod Stations
 pub mod Steps

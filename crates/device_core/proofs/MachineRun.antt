@@ -121,7 +121,7 @@ module _ {S W O N R E : Type 0} (r : Rules W O) (d : Reading S W O N R E) (Prope
   begins_named w x p e k n i s t m =
       (sound.begins_run w x p (record { naming = n; carried = k; sight = Numbers }) s t m (picked_offers (r.choice w) e x p i)).0
 
-  begins_so : (w x : W) (p : Plan O) (e : Own) (k : Carried S) → picked (r.choice w) e ≡ Act x p → sound.Sane w → sound.Tells w k → sound.Sane x × Fits x k p
+  pub begins_so : (w x : W) (p : Plan O) (e : Own) (k : Carried S) → picked (r.choice w) e ≡ Act x p → sound.Sane w → sound.Tells w k → sound.Sane x × Fits x k p
   begins_so w x p e k i s t = let b = sound.begins w x p s (picked_offers (r.choice w) e x p i) in (b.0, b.1 k t)
 
   good_ended : (w : W) (o : O) (x : Option Said) (k : Carried S) → r.said_at w o ≡ x → sound.Sane w → EndsSo w k o → IsGood (ended r w o x) k

@@ -5,6 +5,7 @@ use Rattle.pv_words.specs.declared.grant.Hold.{Hold}
 use Rattle.pv_words.specs.Found.{Found, finding, nothing_found}
 use Rattle.pv_words.specs.Held.{Holds, holding, holds_of}
 use Rattle.pv_words.specs.Plan.{Note}
+use Rattle.device_core.specs.Order.{Own, Did}
 
 pub record Learned : Type 0 where
   pub holds : Holds
@@ -16,3 +17,8 @@ learning frames l note a = record { holds = holding frames l.holds note a; found
 -- of just these pages, before it found a word
 abbrev pub learned_of : List Hold → Learned
 learned_of held = record { holds = holds_of held; found = nothing_found }
+
+-- the words that a device's accesses found last, after one more thing
+abbrev pub found_next : Found → Own → Found
+found_next f (Did a) = finding f a
+found_next f other = f

@@ -1,6 +1,15 @@
 -- The display's order of work is sound: its accesses lie on the pages that it holds, and its ends are moves of the machine.
-use Rattle.std.proofs.Common.{◌≡◌, inl, ℕ, List, [], None, refl, arith}
+use Rattle.std.proofs.Common.{◌≡◌, inl, ℕ, List, [], Option, Some, None, refl, subst, arith}
+use Rattle.pv_words.specs.declared.device.Reason.{Reason}
+use Rattle.pv_words.specs.declared.device.Reason.TheVariants as reason
+use Rattle.pv_words.specs.declared.device.Said.{Said}
+use Rattle.pv_words.specs.declared.device.Said.TheVariants as said
+use Rattle.pv_words.specs.declared.device.State.TheVariants as state
 use Rattle.pv_words.specs.declared.place.Place.{Place}
+use Rattle.pv_words.specs.Found.{Found}
+use Rattle.displ_wire.specs.Wire.{request_of}
+use Rattle.page_directory.specs.declared.walk.Walked.TheVariants as walked
+use Rattle.display_backend.specs.declared.waiting.Waiting.TheVariants as waiting
 use Rattle.pv_words.specs.Found.{Found}
 use Rattle.pv_words.specs.Held.{Holds, IsProper, holding, holds_of}
 use Rattle.pv_words.specs.Plan.{Plan, Want, Note, FitsFrom, IsUntouched}
@@ -11,14 +20,14 @@ use Rattle.device_core.specs.Site.{Site}
 use Rattle.device_core.specs.Touched.{Carried}
 use Rattle.device_core.proofs.ByPlain.{sound_of}
 use Rattle.device_core.proofs.Learning.{fits_learned}
-use Rattle.display_backend.specs.Machine.{Event, Says, Hears, Rows}
-use Rattle.display_backend.specs.Work.{Work, End, Naming, display, made_at, named_after, reading, settled, taken_at, told, first_work, first_naming}
+use Rattle.display_backend.specs.Machine.{Event, Says, Hears, Hand, Rows, ShowsWhy}
+use Rattle.display_backend.specs.Work.{Work, End, Saw, Took, Listed, Freed, Answered, Slept, Met, Denied, Lacked, Shut, Left, Renewed, Served, Naming, display, made_at, named_after, reading, replied_in, said_at, settled, status_of, taken_at, told, first_work, first_naming}
 use Rattle.display_backend.proofs.SoundBegins.{begins}
 use Rattle.display_backend.proofs.SoundFound.{EndsFoundSo, FitsFound, begins_found}
 use Rattle.display_backend.proofs.SoundPlans.{Fit}
 use Rattle.display_backend.proofs.SoundSettles.{no_buffers, settles, rests}
 use Rattle.display_backend.proofs.SoundTells.{tells, quiet}
-use Rattle.display_backend.proofs.SoundWork.{the_site, TellsHeld, KeptFound, IsNamed, IsSane, EndsFound, EndsSo, EndsWell, hears_found, hears_kept, hears_sane, hears_well, hears_told, hears_said, hears_settled, hears_move, hears_owed}
+use Rattle.display_backend.proofs.SoundWork.{the_site, IsDue, TellsHeld, KeptFound, IsNamed, IsSane, EndsFound, EndsSo, EndsWell, hears_found, hears_kept, hears_sane, hears_well, hears_told, hears_said, hears_settled, hears_move, hears_owed}
 
 -- the display's reading, of all that its accesses told
 abbrev pub learned : (ℕ → ℕ) → Site → Reading Learned Work End Naming Rows Event
@@ -37,6 +46,9 @@ module _ (frames grants : ℕ → ℕ) (dom parts : ℕ) where
 
   abbrev Ends : Work → Learned → End → Type 0
   Ends w l o = EndsWell frames grants dom parts w o × EndsFound site w l.found o
+
+  said_as : (s t : Said) (f : Found) → ShowsWhy site f s → Some s ≡ Some t → ShowsWhy site f t
+  said_as s t f h e = let same : s ≡ t = cc in subst (λ u. ShowsWhy site f u) same h
 
   -- an activity holds and finds what it should
   fits : (v : Work) (l : Learned) (p : Plan End) → Fit frames grants dom (EndsSo frames grants dom parts v) l.holds p → FitsFound frames grants dom parts v l.found p → FitsFrom (λ (k : Learned) want note. Lies k want note × IsUntouched note) (learning frames) (λ (k : Learned) o. Tells (settled site v o) k × Ends v k o) l p
@@ -98,3 +110,36 @@ module _ (frames grants : ℕ → ℕ) (dom parts : ℕ) where
   pub first_named : sound.Named first_work first_naming
   unfolding sound plain sound_of
   first_named = refl
+
+  -- what a display says at an activity's end is as the words show that it found
+  pub shows_why : (w : Work) (o : End) (k : Carried Learned) (t : Said) → sound.EndsWell w k o → (display site).said_at w o ≡ Some t → ShowsWhy site k.own.found t
+  unfolding sound plain sound_of said_at
+  shows_why w (Saw l) k t q e = let wrong : ⊥ = cc in absurd wrong
+  shows_why w (Took words) k t q e = said_as (said.Request w.at (request_of words).id (request_of words).op) t k.own.found tt e
+  shows_why w (Listed (walked.Pages ps)) k t q e = let wrong : ⊥ = cc in absurd wrong
+  shows_why w (Listed (walked.Refused why)) k t q e =
+      let is = q.0.0.0 in
+      said_as (said.Denied why) t k.own.found (is.create.gref_directory, q.0.1 is.hand is.create is.in_hand is.creating.0) e
+  shows_why w Freed k t q e = let wrong : ⊥ = cc in absurd wrong
+  shows_why w (Answered notified) k t q e = replied w.hand e
+    where
+      replied : (x : Option Hand) → replied_in w x notified ≡ Some t → ShowsWhy site k.own.found t
+      replied None i = let wrong : ⊥ = cc in absurd wrong
+      replied (Some h) i = said_as (said.Replied h.part h.request.id (status_of w h.request.asked) notified) t k.own.found tt i
+  shows_why w (Slept b) k t q e = let wrong : ⊥ = cc in absurd wrong
+  shows_why w (Met ps) k t q e = said_as (said.State state.Connected) t k.own.found tt e
+  shows_why w (Denied why) k t q e = said_as (said.Closed (reason.Refused why)) t k.own.found (q.0.1.1.0, q.0.1.1.2) e
+  shows_why w (Lacked problem) k t q e = said_as (said.Closed (reason.Node problem.part problem.key problem.fault)) t k.own.found tt e
+  shows_why w (Shut why) k t q e = said_as (said.Closed why) t k.own.found (closed why q.0.1) e
+    where
+      closed : (why : Reason) → IsDue site w k.own.found why → ShowsWhy site k.own.found (said.Closed why)
+      closed (reason.Asked s) d = tt
+      closed (reason.Overrun prod rsp) d = d.1
+      closed (reason.Refused r) d = (d.1.0, d.1.2)
+      closed (reason.Node part key fault) d = tt
+      closed (reason.BadCons a b) d = tt
+      closed (reason.Spent a) d = tt
+  shows_why w Left k t q e = said_as (said.State state.Closed) t k.own.found tt e
+  shows_why w Renewed k t q e = said_as (said.State state.InitWait) t k.own.found tt e
+  shows_why w (Served (waiting.Blank part)) k t q e = said_as (said.Blank part) t k.own.found tt e
+  shows_why w (Served (waiting.Show part)) k t q e = said_as (said.Shown part 0 0) t k.own.found tt e

@@ -156,6 +156,14 @@ IsReason site old f (reason.Node part key fault) =
     (old.connecting ≡ true) × (all_refs old.read 0 site.parts ≡ Err (record { part = part; key = key; fault = fault }))
 IsReason site old f other = ⊥
 
+-- What a display says is as the words show that it found last: why a page is denied to a CREATE, from which first directory page
+-- on; why a map of a Connect is refused, by which reference; and which request index is too far.
+abbrev pub ShowsWhy : Site → Found → Said → Type 0
+ShowsWhy site f (said.Denied why) = (first : ℕ) × walk.IsReason site.frames site.grants first Read f why
+ShowsWhy site f (said.Closed (reason.Refused why)) = (gref : ℕ) × IsShown site.frames site.grants gref Write f why
+ShowsWhy site f (said.Closed (reason.Overrun prod rsp)) = f.word ≡ Some prod
+ShowsWhy site f other = Unit {0}
+
 -- a closed connection has no request in hand
 abbrev pub Closes : Site → Rows → Found → Reason → Rows → Type 0
 Closes site old f reason new =

@@ -102,7 +102,7 @@ module _ (frames grants : ℕ → ℕ) (dom parts : ℕ) where
   pub first_good : sound.Sane first_work × sound.Tells first_work first_carried
   unfolding sound plain sound_of
   first_good = (
-    record { own = tt; stored = tt; few = omega arith; buffers = no_buffers; opened = inl (refl, refl); kept = λ why e. let wrong : ⊥ = cc in absurd wrong },
+    record { own = tt; stored = tt; whole = inl refl; buffers = no_buffers; opened = inl (refl, refl); kept = λ why e. let wrong : ⊥ = cc in absurd wrong },
     (((refl, (λ k. refl)), λ prod rsp e. let wrong : ⊥ = cc in absurd wrong), refl),
   )
 

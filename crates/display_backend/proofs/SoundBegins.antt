@@ -22,16 +22,16 @@ use Rattle.display_backend.specs.declared.waiting.Waiting.{Waiting}
 use Rattle.display_backend.specs.Machine.{Hand}
 use Rattle.display_backend.specs.Work.{Work, End, Saw, Took, Slept, Left, Renewed, Served, ring_page, sleep_all, looks_at, in_round, takes_from, with_left, with_waiting, with_hand, with_state, with_action, with_kept, with_closing, choice, settled, entered, begins_hand, begins_state, begins_by, begins_with, begins_of}
 use Rattle.display_backend.proofs.SoundActions.{closed_apart, renews_again}
-use Rattle.display_backend.proofs.SoundFits.{BeginsSo, chosen, held_so, ring_own, page_held, ring_held, same_work}
+use Rattle.display_backend.proofs.SoundFits.{BeginsSo, begins_nothing, chosen, held_so, ring_own, page_held, ring_held, same_work}
 use Rattle.display_backend.proofs.SoundDecides.{begins_goes}
 use Rattle.display_backend.proofs.SoundClose.{begins_leaving, begins_connect, told_bare}
 use Rattle.display_backend.proofs.SoundParts.{fits_look, fits_take, fits_sleeps}
-use Rattle.display_backend.proofs.SoundWork.{the_site, TellsHeld, IsServing, IsSane, EndsSo, bare_unless, look_pages, sleep_pages}
+use Rattle.display_backend.proofs.SoundWork.{the_site, TellsHeld, IsServing, IsSane, EndsSo, bare_unless, few_parts, look_pages, sleep_pages}
 
 module _ (frames grants : ℕ → ℕ) (dom parts : ℕ) (w v : Work) (p : Plan End) (s : IsSane frames grants dom parts w) where
   begins_look : (k : ℕ) (x : Option Joined) → IsServing w → slice_get w.parts k ≡ x → Offers (looks_at w x) v p → BeginsSo frames grants dom parts w v p (λ m. [])
   unfolding settled
-  begins_look k None serving at o = absurd o
+  begins_look k None serving at o = begins_nothing frames grants dom parts w v p s serving o
   begins_look k (Some j) serving at o =
       let fits = λ (h : Holds) (t : TellsHeld w h). held_so frames grants dom parts w (mapped Saw (look_plan (ring_page j) j.rsp)) h t.0
       (fits_mapped (IsProper frames grants dom) (holding frames) (λ l. Saw l) (EndsSo frames grants dom parts w) (holds_of h.held) (look_plan (ring_page j) j.rsp)
@@ -52,9 +52,9 @@ module _ (frames grants : ℕ → ℕ) (dom parts : ℕ) (w v : Work) (p : Plan 
 
   begins_take : (x : Option Joined) → IsServing w → w.hand ≡ None → slice_get w.parts w.at ≡ x → Offers (takes_from w x) v p → BeginsSo frames grants dom parts w v p (λ m. [])
   unfolding settled
-  begins_take None serving empty at o = absurd o
+  begins_take None serving empty at o = begins_nothing frames grants dom parts w v p s serving o
   begins_take (Some j) serving empty at o =
-      let small : w.at < parts = omega (arith, slice_get_within w.parts w.at j at, s.few) in
+      let small : w.at < parts = omega (arith, slice_get_within w.parts w.at j at, few_parts parts w s.whole) in
       let fits = λ (h : Holds) (t : TellsHeld w h). held_so frames grants dom parts w (mapped Took (take_plan (ring_page j) j.rsp)) h t.0
       (fits_mapped (IsProper frames grants dom) (holding frames) (λ x. Took x) (EndsSo frames grants dom parts w) (holds_of h.held) (take_plan (ring_page j) j.rsp)
       (fits_take frames grants dom h.held j (ring_own frames grants dom parts w w.at j s at) (ring_held frames grants dom parts w w.at j h t at) (λ x words. EndsSo frames grants dom parts w x (Took words))

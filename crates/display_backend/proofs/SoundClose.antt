@@ -39,7 +39,7 @@ module _ (frames grants : ℕ → ℕ) (dom parts : ℕ) (w v : Work) (p : Plan 
         record {
           own = tt;
           stored = subst (λ x. AreOf (grants dom) dom x) (sym bare_then) tt;
-          few = omega arith;
+          whole = inl refl;
           buffers = like_sound w.stock.buffers (all_bared w.stock.buffers) (sym leaving_like) s.buffers;
           opened = inl (refl, bare_then);
           kept = s.kept;
@@ -82,7 +82,7 @@ module _ (frames grants : ℕ → ℕ) (dom parts : ℕ) (w v : Work) (p : Plan 
   pub begins_connect : w.closing ≡ false → w.kept ≡ None → action_of w.connection ≡ action.Connect → Offers (with_action (the_site frames grants dom parts) w action.Connect) v p → BeginsSo frames grants dom parts w v p (λ m. begins_by w m action.Connect)
   begins_connect still none a o =
       let bare = bare_unless frames grants dom parts w s (λ serving. connects_apart w.connection.back w.connection serving.0 a) in
-      let sane : IsSane frames grants dom parts (beginning w) = record { own = s.own; stored = s.stored; few = s.few; buffers = s.buffers; opened = inl bare; kept = λ why h. let wrong : ⊥ = cc in absurd wrong } in
+      let sane : IsSane frames grants dom parts (beginning w) = record { own = s.own; stored = s.stored; whole = s.whole; buffers = s.buffers; opened = inl bare; kept = λ why h. let wrong : ⊥ = cc in absurd wrong } in
       let plan = connect_all (the_site frames grants dom parts) (all_refs w.seen 0 parts) in
       let fits = λ (k : Holds) (t : TellsHeld w k). subst (λ (x : Holds). Fit frames grants dom (EndsSo frames grants dom parts (beginning w)) x plan) (sym (bare_pages bare k t)) (fits_all frames grants dom parts (beginning w) refl still bare.1 (all_refs w.seen 0 parts) refl) in
       chosen frames grants dom parts w v (beginning w) p plan (λ m. begins_by w m action.Connect)

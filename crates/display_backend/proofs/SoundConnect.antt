@@ -30,10 +30,10 @@ module _ (frames grants : ℕ → ℕ) (dom parts : ℕ) (w : Work) (connecting 
 
   -- the other parts follow one that is joined; a refused one ends it all
   module _ (r : Refs) (rs : List Refs) (met : List Joined) (own : AllOwn frames grants dom (all_pages met)) where
-    joins_one : (rest : (more : List Joined) → AllOwn frames grants dom (all_pages more) → length more + length rs ≤ parts → FitsSo (holds_of (all_pages more)) (connect_parts (the_site frames grants dom parts) rs more)) → length met + suc (length rs) ≤ parts → (j : Joined) → IsRing (frames dom) (grants dom) dom (Some r.ring) j.ring → IsHold (frames dom) (grants dom) dom r.event Write j.event → FitsSo (holds_of (all_pages met ++ link.pages_of j)) (connect_parts (the_site frames grants dom parts) rs (met ++ j ∷ []))
+    joins_one : (rest : (more : List Joined) → AllOwn frames grants dom (all_pages more) → length more + length rs ≡ parts → FitsSo (holds_of (all_pages more)) (connect_parts (the_site frames grants dom parts) rs more)) → length met + suc (length rs) ≡ parts → (j : Joined) → IsRing (frames dom) (grants dom) dom (Some r.ring) j.ring → IsHold (frames dom) (grants dom) dom r.event Write j.event → FitsSo (holds_of (all_pages met ++ link.pages_of j)) (connect_parts (the_site frames grants dom parts) rs (met ++ j ∷ []))
     joins_one rest few j ring event =
         let all = subst (λ x. AllOwn frames grants dom x) (sym (pages_last met j)) (own_append frames grants dom (all_pages met) (link.pages_of j) own (own_joined frames grants dom r.ring r.event j.ring j.event ring event)) in
-        subst (λ x. FitsSo (holds_of x) (connect_parts (the_site frames grants dom parts) rs (met ++ j ∷ []))) (pages_last met j) (rest (met ++ j ∷ []) all (omega (arith, length-append met (j ∷ []))))
+        subst (λ x. FitsSo (holds_of x) (connect_parts (the_site frames grants dom parts) rs (met ++ j ∷ []))) (pages_last met j) (rest (met ++ j ∷ []) all (omega (arith, few, length-append met (j ∷ []))))
 
     refuses_one : (hs : List Hold) (why : GrantRefusal) → IsRefused (frames dom) (grants dom) dom (Some r.ring) r.event hs why → FitsSo (holds_of (all_pages met ++ hs)) (unmaps (all_pages met ++ hs) (Finished (Denied why)))
     unfolding settled
@@ -44,9 +44,9 @@ module _ (frames grants : ℕ → ℕ) (dom parts : ℕ) (w : Work) (connecting 
         (λ left gone. ((refl, (λ k. omega (arith, gone k, shut_pages w k bare))), (not_closing, bare)))
 
   module _ (refs : List Refs) (found : all_refs w.read 0 parts ≡ Ok refs) where
-    fits_parts : (rs : List Refs) (met : List Joined) → AllOwn frames grants dom (all_pages met) → length met + length rs ≤ parts → FitsSo (holds_of (all_pages met)) (connect_parts (the_site frames grants dom parts) rs met)
+    fits_parts : (rs : List Refs) (met : List Joined) → AllOwn frames grants dom (all_pages met) → length met + length rs ≡ parts → FitsSo (holds_of (all_pages met)) (connect_parts (the_site frames grants dom parts) rs met)
     unfolding settled
-    fits_parts [] met own few = ((refl, (λ k. refl)), (connecting, own, omega arith, (refs, found), bare))
+    fits_parts [] met own few = ((refl, (λ k. refl)), (connecting, own, omega (arith, few), (refs, found), bare))
     fits_parts (r ∷ rs) met own few =
         fits_joined (IsProper frames grants dom) (holding frames) (after_part met (connect_parts (the_site frames grants dom parts) rs)) (EndsSo frames grants dom parts w) (holds_of (all_pages met)) (connect_plan (frames dom) (grants dom) dom (Some r.ring) r.event)
         (fits_connect frames grants dom r.event (Some r.ring) (all_pages met) (λ k x. FitsSo k (after_part met (connect_parts (the_site frames grants dom parts) rs) x))

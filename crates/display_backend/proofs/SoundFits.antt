@@ -3,10 +3,11 @@ use Rattle.std.proofs.Common.{◌≡◌, inl, inr, ℕ, List, [], ◌∷◌, Opt
 use Rattle.pv_words.specs.declared.grant.Hold.{Hold}
 use Rattle.pv_words.specs.Held.{Holds, IsProper, holding, holds_of}
 use Rattle.device_core.specs.Names.{Sight, is_worded}
-use Rattle.pv_words.specs.Plan.{Plan}
+use Rattle.pv_words.specs.Plan.{Plan, Finished}
 use Rattle.display_buffers.specs.Buffers.{AreDistinct, cookies}
 use Rattle.display_backend.specs.Stock.{pages_of}
 use Rattle.page_directory.specs.Same.{AreSame, times}
+use Rattle.ring_words.specs.declared.Looked.TheVariants as looked
 use Rattle.link_core.specs.Activities.{Joined, answer_plan}
 use Rattle.device_core.specs.Machine.{Happening, HappensTo, IsRun, Snapshot, shown_as}
 use Rattle.device_core.specs.Order.{Act, Offers}
@@ -14,7 +15,7 @@ use Rattle.link_core.proofs.PlanFits.{fits_mapped}
 use Rattle.display_backend.specs.declared.display.Progress.{Progress}
 use Rattle.display_backend.specs.Machine.{Event, Hand, Rows, is_accepted}
 use Rattle.display_backend.specs.Reply.{reply_to}
-use Rattle.display_backend.specs.Work.{Work, Naming, End, Answered, ring_hold, ring_page, all_pages, answers, answer_of, part_of, status_of, display, reading, settled, after_answer}
+use Rattle.display_backend.specs.Work.{Work, Naming, End, Saw, Answered, nothing, ring_hold, ring_page, all_pages, answers, answer_of, part_of, status_of, display, reading, settled, after_answer}
 use Rattle.display_backend.proofs.SoundAnswer.{answer_same, answered_done}
 use Rattle.display_backend.proofs.SoundParts.{part_in, counted_pages, fits_answer}
 use Rattle.display_backend.proofs.SoundPlans.{Fit, IsOwn, own_in}
@@ -81,8 +82,13 @@ module _ (frames grants : ℕ → ℕ) (dom parts : ℕ) where
     pub same_work : (q : Plan End) → ((h : Holds) → TellsHeld w h → Fit frames grants dom (EndsSo frames grants dom parts w) h q) → BeginsSo w w q (λ m. [])
     same_work q fits = (s, fits, (λ m sight named. (named, refl)))
 
+    -- nothing comes of a part that isn't there
+    pub begins_nothing : IsServing w → Offers (nothing w) v p → BeginsSo w v p (λ m. [])
+    unfolding settled
+    begins_nothing serving o = chosen w v w p (Finished (Saw looked.Nothing)) (λ m. []) (same_work (Finished (Saw looked.Nothing)) (λ k t. (t, (serving, (0, 0, refl))))) o
+
     pub begins_answer : (h : Hand) (x : Option Joined) → IsServing w → w.hand ≡ Some h → IsAnswer w h → part_of w h ≡ x → Offers (answers w h x) v p → BeginsSo w v p (λ m. [])
-    begins_answer h None serving has is at o = absurd o
+    begins_answer h None serving has is at o = begins_nothing serving o
     begins_answer h (Some j) serving has is at o =
         chosen w v w p (answer_of w h j) (λ m. []) (same_work (answer_of w h j) (answer_fits w h j s serving has at is)) o
 

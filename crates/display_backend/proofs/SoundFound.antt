@@ -38,7 +38,7 @@ use Rattle.display_backend.specs.declared.waiting.Waiting.{Waiting}
 use Rattle.display_backend.specs.Machine.{Hand, Refs, Problem, IsAskedFor, all_refs, is_accepted, verdict}
 use Rattle.display_backend.specs.Reply.{reply_to}
 use Rattle.display_backend.specs.Stock.{pages_of, pages_under}
-use Rattle.display_backend.specs.Work.{Work, End, Saw, Took, Listed, Freed, Answered, Slept, Met, Denied, Lacked, Shut, Left, Renewed, Served, after_answer, after_look, after_part, after_sleep, after_walk, all_pages, answer_of, answers, beginning, choice, close, connect_all, connect_parts, decides, freeing, frees, goes_on, in_round, leaving, looks_at, maps, part_of, ring_page, settled, sleep_all, sleeps_on, starved, status_of, takes_from, with_action, with_closing, with_hand, with_kept, with_left, with_state, with_waiting}
+use Rattle.display_backend.specs.Work.{Work, End, Saw, Took, Listed, Freed, Answered, Slept, Met, Denied, Lacked, Shut, Left, Renewed, Served, after_answer, after_look, after_part, after_sleep, after_walk, all_pages, answer_of, answers, beginning, choice, close, connect_all, connect_parts, decides, freeing, frees, goes_on, in_round, leaving, looks_at, maps, nothing, part_of, ring_page, settled, sleep_all, sleeps_on, starved, status_of, takes_from, with_action, with_closing, with_hand, with_kept, with_left, with_state, with_waiting}
 use Rattle.display_backend.proofs.SoundActions.{closes_asked}
 use Rattle.display_backend.proofs.SoundRefs.{AllAsked, all_asked}
 use Rattle.display_backend.proofs.SoundSettles.{found_index, none_kept}
@@ -103,9 +103,13 @@ module _ (frames grants : ℕ → ℕ) (dom parts : ℕ) where
     plain x end q none all o =
         chosen x (mapped end q) (fits_mapped (λ g want note. IsUntouched note) (λ g (note : Note) a. finding g a) end (EndsFoundSo x) f q (found_any (λ g a. EndsFoundSo x g (end a)) all f q none)) o
 
+    found_nothing : w.kept ≡ None → Offers (nothing w) v p → FitsFound v f p
+    unfolding settled
+    found_nothing none o = chosen w (Finished (Saw looked.Nothing)) ((λ a b k. absurd (no_reason w.kept a b none k)), tt) o
+
     found_look : w.kept ≡ None → (x : Option Joined) → Offers (looks_at w x) v p → FitsFound v f p
     unfolding settled
-    found_look none None o = absurd o
+    found_look none None o = found_nothing none o
     found_look none (Some j) o =
         chosen w (mapped Saw (look_plan (ring_page j) j.rsp)) (fits_mapped (λ g want note. IsUntouched note) (λ g (note : Note) a. finding g a) Saw (EndsFoundSo w) f (look_plan (ring_page j) j.rsp)
         (fits_so (λ g want note. IsUntouched note) (λ g (note : Note) a. finding g a) (λ g l. (prod : ℕ) × (g.word ≡ Some prod) × (l ≡ looked_of j.rsp prod)) (λ g l. EndsFoundSo w g (Saw l)) (λ g l h. (sees g l h.0 h.1 h.2, tt)) f (look_plan (ring_page j) j.rsp) (looks_show (ring_page j) j.rsp f))) o
@@ -123,7 +127,7 @@ module _ (frames grants : ℕ → ℕ) (dom parts : ℕ) where
 
     found_take : w.kept ≡ None → (x : Option Joined) → Offers (takes_from w x) v p → FitsFound v f p
     unfolding settled
-    found_take none None o = absurd o
+    found_take none None o = found_nothing none o
     found_take none (Some j) o = plain w Took (take_plan (ring_page j) j.rsp) (take_none (ring_page j) j.rsp) (λ g words. ((λ a b k. absurd (no_reason w.kept a b none k)), tt)) o
 
     found_left : w.kept ≡ None → (n : ℕ) → Offers (with_left w n) v p → FitsFound v f p
@@ -142,12 +146,12 @@ module _ (frames grants : ℕ → ℕ) (dom parts : ℕ) where
         plain x Answered (answer_plan (ring_page j) j.rsp reply) (answer_none (ring_page j) j.rsp reply) (λ g b. (kept_none (after_answer x x.hand) g (answer_kept x x.hand ∙ none), tt)) o
 
     found_answers : w.kept ≡ None → (h : Hand) (x : Option Joined) → Offers (answers w h x) v p → FitsFound v f p
-    found_answers none h None o = absurd o
+    found_answers none h None o = found_nothing none o
     found_answers none h (Some j) o = answer_found w h j none o
 
     found_walk : w.kept ≡ None → (h : Hand) (c : Create) → w.hand ≡ Some h → h.request.asked ≡ asked.Create c → (x : Option Joined) → Offers (maps (the_site frames grants dom parts) w h c x) v p → FitsFound v f p
     unfolding settled
-    found_walk none h c has asks None o = absurd o
+    found_walk none h c has asks None o = found_nothing none o
     found_walk none h c has asks (Some j) (inl o) = answer_found (starved w) h j none o
     found_walk none h c has asks (Some j) (inr o) =
         let plan = walk_plan (frames dom) (grants dom) dom c.gref_directory Read (walking.pages_of c.buffer_sz) in
@@ -166,7 +170,7 @@ module _ (frames grants : ℕ → ℕ) (dom parts : ℕ) where
 
     found_free : w.kept ≡ None → (cookie : ℕ) (x : Option Joined) → Offers (frees w cookie x) v p → FitsFound v f p
     unfolding settled
-    found_free none cookie None o = absurd o
+    found_free none cookie None o = found_nothing none o
     found_free none cookie (Some j) o =
         chosen (freeing w cookie) (unmaps (pages_under cookie w.stock.buffers) (Finished Freed)) (unmaps_found (EndsFoundSo (freeing w cookie)) f (pages_under cookie w.stock.buffers) (Finished Freed) ((λ a b k. absurd (no_reason w.kept a b none k)), tt)) o
 

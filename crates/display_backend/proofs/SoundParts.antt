@@ -1,5 +1,5 @@
 -- The pages of the parts are held along each activity of a connected display.
-use Rattle.std.proofs.Common.{◌≡◌, inl, ℕ, zero, suc, ◌+◌, ◌≤◌, ◌==◌, ℤ, Bool, true, false, List, [], ◌∷◌, ◌++◌, Option, Some, None, refl, sym, ◌∙◌, ap, subst, arith, length, append_assoc, append-nil, slice_get, set, length-set}
+use Rattle.std.proofs.Common.{◌≡◌, inl, ℕ, zero, suc, ◌+◌, ◌≤◌, ◌==◌, ℤ, Bool, true, false, List, [], ◌∷◌, ◌++◌, Option, Some, None, refl, sym, ◌∙◌, ap, subst, arith, length, slice_set, append_assoc, append-nil, slice_get, set, length-set}
 use Rattle.std.proofs.lemmas.List.{length-replicate}
 use Rattle.pv_words.specs.declared.grant.Hold.{Hold}
 use Rattle.pv_words.specs.Held.{Holds, IsProper, holding, holds_of}
@@ -43,6 +43,10 @@ set_pages (x ∷ js) (suc k) i j e same = ap (λ y. pages_of x ++ y) (set_pages 
 pub counted_pages : (js : List Joined) (k : ℕ) (x : Option Joined) → slice_get js k ≡ x → all_pages (counted js k x) ≡ all_pages js
 counted_pages js k None e = refl
 counted_pages js k (Some j) e = set_pages js k j (record j { rsp = next_index j.rsp }) e refl
+
+pub counted_none : (js : List Joined) (k : ℕ) (x : Option Joined) → js ≡ [] → counted js k x ≡ []
+counted_none js k None e = e
+counted_none js k (Some j) e = ap (λ (is : List Joined). slice_set is k (record j { rsp = next_index j.rsp })) e
 
 pub counted_length : (js : List Joined) (k : ℕ) (x : Option Joined) → length (counted js k x) ≡ length js
 counted_length js k None = refl

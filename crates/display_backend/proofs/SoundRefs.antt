@@ -32,7 +32,7 @@ module _ (site : Site) (nodes : List NodeValue) where
 
   -- so many references, of the nodes
   abbrev pub AreAsked : ℕ → List Refs → Type 0
-  AreAsked n refs = AllAsked refs × (length refs ≤ n)
+  AreAsked n refs = AllAsked refs × (length refs ≡ n)
 
   first_asked : (part n : ℕ) (a : Result Refs Problem) (b : Result (List Refs) Problem) (refs : List Refs) → part < site.parts → part_refs nodes part ≡ a → ((rs : List Refs) → b ≡ Ok rs → AreAsked n rs) → all_with a b ≡ Ok refs → AreAsked (suc n) refs
   first_asked part n (Err p) b refs small e rest h = let wrong : ⊥ = cc in absurd wrong

@@ -1,5 +1,5 @@
 -- What is known of the work stays true at an activity's end, and where the display rests.
-use Rattle.std.proofs.Common.{◌≡◌, inl, inr, ℕ, zero, suc, ◌<◌, ◌≤◌, ◌==◌, nat_le, Bool, true, false, cond, List, [], ◌∷◌, Option, Some, None, refl, sym, ◌∙◌, ap, subst, arith, length, slice_get}
+use Rattle.std.proofs.Common.{◌≡◌, ◌⊎◌, inl, inr, ℕ, zero, suc, ◌<◌, ◌≤◌, ◌==◌, nat_le, Bool, true, false, cond, List, [], ◌∷◌, Option, Some, None, refl, sym, ◌∙◌, ap, subst, arith, length, slice_get}
 use Rattle.std.proofs.lemmas.Bool.{true≢false}
 use Rattle.std.proofs.lemmas.Bool.Decides.{nat_tests}
 use Rattle.pv_words.specs.declared.device.Reason.{Reason}
@@ -36,7 +36,7 @@ use Rattle.display_backend.specs.Machine.{Hand, is_accepted, verdict}
 use Rattle.display_backend.specs.Work.{Work, Naming, End, Saw, Took, Listed, Freed, Answered, Slept, Met, Denied, Lacked, Shut, Left, Renewed, Served, all_pages, looks_at, in_round, takes_from, with_left, with_waiting, answers, maps, frees, decides, goes_on, part_of, status_of, with_hand, with_state, with_action, with_kept, with_closing, choice, display, reading, settled, shut, entered, after_look, after_sleep, after_answer, after_walk, stock_after}
 use Rattle.display_backend.proofs.SoundActions.{closed_apart}
 use Rattle.display_backend.proofs.SoundAnswer.{answer_same, answer_sound, answer_none, answered_done}
-use Rattle.display_backend.proofs.SoundParts.{counted_pages, counted_length}
+use Rattle.display_backend.proofs.SoundParts.{counted_pages, counted_length, counted_none}
 use Rattle.display_backend.proofs.SoundPlans.{AllOwn}
 use Rattle.display_backend.proofs.SoundSame.{are_append, are_right, are_same}
 use Rattle.display_backend.proofs.SoundWork.{the_site, TellsHeld, KeptFound, IsNamed, IsServing, IsSane, IsBare, IsKept, IsWalking, IsFreeing, IsDone, HasListed, HasComeIn, EndsWell, bare_unless}
@@ -72,14 +72,14 @@ module _ (frames grants : ℕ → ℕ) (dom parts : ℕ) where
   -- the place in the round is no matter, and neither are the requests that are left
   look_sane : (w : Work) (l : Looked) (rsp prod : ℕ) → IsSane frames grants dom parts w → IsServing w → l ≡ looked_of rsp prod → IsSane frames grants dom parts (after_look (the_site frames grants dom parts) w l)
   look_sane w looked.Nothing rsp prod s serving e =
-      record { own = s.own; stored = s.stored; few = s.few; buffers = s.buffers; opened = s.opened; kept = s.kept }
+      record { own = s.own; stored = s.stored; whole = s.whole; buffers = s.buffers; opened = s.opened; kept = s.kept }
   look_sane w (looked.Ready n) rsp prod s serving e =
-      record { own = s.own; stored = s.stored; few = s.few; buffers = s.buffers; opened = s.opened; kept = s.kept }
+      record { own = s.own; stored = s.stored; whole = s.whole; buffers = s.buffers; opened = s.opened; kept = s.kept }
   look_sane w (looked.Overrun x y) rsp prod s serving e =
       record {
         own = s.own;
         stored = s.stored;
-        few = s.few;
+        whole = s.whole;
         buffers = s.buffers;
         opened = s.opened;
         kept = λ why h. let same : reason.Overrun x y ≡ why = cc in
@@ -88,13 +88,13 @@ module _ (frames grants : ℕ → ℕ) (dom parts : ℕ) where
 
   shut_sane : (w : Work) → IsSane frames grants dom parts w → pages_of w.stock ≡ [] → IsSane frames grants dom parts (shut w)
   shut_sane w s bare =
-      record { own = tt; stored = s.stored; few = omega arith; buffers = s.buffers; opened = inl (refl, bare); kept = λ why h. let wrong : ⊥ = cc in absurd wrong }
+      record { own = tt; stored = s.stored; whole = inl refl; buffers = s.buffers; opened = inl (refl, bare); kept = λ why h. let wrong : ⊥ = cc in absurd wrong }
 
   sleep_sane : (w : Work) (quiet : Bool) → IsSane frames grants dom parts w → IsSane frames grants dom parts (after_sleep w quiet)
   sleep_sane w true s =
-      record { own = s.own; stored = s.stored; few = s.few; buffers = s.buffers; opened = s.opened; kept = s.kept }
+      record { own = s.own; stored = s.stored; whole = s.whole; buffers = s.buffers; opened = s.opened; kept = s.kept }
   sleep_sane w false s =
-      record { own = s.own; stored = s.stored; few = s.few; buffers = s.buffers; opened = s.opened; kept = s.kept }
+      record { own = s.own; stored = s.stored; whole = s.whole; buffers = s.buffers; opened = s.opened; kept = s.kept }
 
   answer_sane : (w : Work) (x : Option Hand) → IsSane frames grants dom parts w → IsServing w → ((h : Hand) → x ≡ Some h → IsDone w.stock h.request.asked (is_accepted (status_of w h.request.asked))) → IsSane frames grants dom parts (after_answer w x)
   answer_sane w None s serving done = s
@@ -104,7 +104,7 @@ module _ (frames grants : ℕ → ℕ) (dom parts : ℕ) where
       record {
         own = subst (λ hs. AllOwn frames grants dom hs) (sym (counted_pages w.parts h.part (part_of w h) refl)) s.own;
         stored = are_same (grants dom) dom (pages_of w.stock) (pages_of (stock_after w.stock h.request.asked accepted)) same s.stored;
-        few = subst (λ n. n ≤ parts) (sym (counted_length w.parts h.part (part_of w h))) s.few;
+        whole = elim s.whole [ inl none ↦ inl (counted_none w.parts h.part (part_of w h) none) | inr all ↦ inr (counted_length w.parts h.part (part_of w h) ∙ all) ];
         buffers = answer_sound w.stock h.request.asked accepted s.buffers (done h refl);
         opened = inr (serving, (refl, answer_none w.stock h.request.asked accepted (done h refl)));
         kept = s.kept;
@@ -116,7 +116,7 @@ module _ (frames grants : ℕ → ℕ) (dom parts : ℕ) where
       record {
         own = s.own;
         stored = s.stored;
-        few = s.few;
+        whole = s.whole;
         buffers = s.buffers;
         opened = elim s.opened [ inl bare ↦ inl bare | inr o ↦ inr (o.0, (subst (λ x. HasComeIn w.stock w.progress x) empty o.1).1) ];
         kept = s.kept;
@@ -128,7 +128,7 @@ module _ (frames grants : ℕ → ℕ) (dom parts : ℕ) where
       record {
         own = s.own;
         stored = are_append (grants dom) dom ps (buffer_pages w.stock.buffers) l.0 (are_right (grants dom) dom w.stock.mapped (buffer_pages w.stock.buffers) s.stored);
-        few = s.few;
+        whole = s.whole;
         buffers = s.buffers;
         opened = inr (is.serving, subst (λ x. HasComeIn new progress.Mapped x) (sym is.in_hand) ((is.create, is.creating), l.1));
         kept = s.kept;
@@ -137,7 +137,7 @@ module _ (frames grants : ℕ → ℕ) (dom parts : ℕ) where
       record {
         own = s.own;
         stored = s.stored;
-        few = s.few;
+        whole = s.whole;
         buffers = s.buffers;
         opened = inr (is.serving, subst (λ x. HasComeIn w.stock progress.Denied x) (sym is.in_hand) ((is.create, is.creating), is.none));
         kept = s.kept;
@@ -149,7 +149,7 @@ module _ (frames grants : ℕ → ℕ) (dom parts : ℕ) where
       record {
         own = s.own;
         stored = s.stored;
-        few = s.few;
+        whole = s.whole;
         buffers = s.buffers;
         opened = inr (is.serving, subst (λ x. HasComeIn w.stock progress.Released x) (sym is.in_hand) ((is.cookie, is.destroying, is.bare), is.none));
         kept = s.kept;
@@ -161,7 +161,7 @@ module _ (frames grants : ℕ → ℕ) (dom parts : ℕ) where
       record {
         own = subst (λ js. AllOwn frames grants dom (all_pages js)) (sym same) s.own;
         stored = subst (λ (x : Stock). AreOf (grants dom) dom (pages_of x)) (sym none) tt;
-        few = subst (λ (js : List Joined). length js ≤ parts) (sym same) s.few;
+        whole = subst (λ (js : List Joined). (js ≡ []) ⊎ (length js ≡ parts)) (sym same) s.whole;
         buffers = subst (λ (x : Stock). AreSound x.buffers) (sym none) no_buffers;
         opened = inl (same ∙ bare.0, ap (λ (x : Stock). pages_of x) none);
         kept = λ why e. let wrong : ⊥ = cc in absurd wrong;
@@ -189,14 +189,14 @@ module _ (frames grants : ℕ → ℕ) (dom parts : ℕ) where
   settles w (Answered notified) s q = answer_sane w w.hand s q.0 (answered_done w q.1.0 q.1.1 q.1.2)
   settles w (Slept quiet) s q = sleep_sane w quiet s
   settles w (Met ps) s q =
-      record { own = q.1; stored = tt; few = q.2; buffers = no_buffers; opened = inr ((refl, refl), (refl, refl)); kept = λ why e. let wrong : ⊥ = cc in absurd wrong }
+      record { own = q.1; stored = tt; whole = inr q.2; buffers = no_buffers; opened = inr ((refl, refl), (refl, refl)); kept = λ why e. let wrong : ⊥ = cc in absurd wrong }
   settles w (Denied why) s q = shut_sane w s q.1
   settles w (Lacked problem) s q = shut_sane w s q.1
   settles w (Shut why) s q = shut_sane w s q.1
   settles w Left s q = left_sane w s q
   settles w Renewed s q = renewed_sane w s q.1 q.3
   settles w (Served x) s q =
-      record { own = s.own; stored = s.stored; few = s.few; buffers = s.buffers; opened = s.opened; kept = s.kept }
+      record { own = s.own; stored = s.stored; whole = s.whole; buffers = s.buffers; opened = s.opened; kept = s.kept }
 
 -- a display that rests keeps all but its place in the round
 abbrev IsPaused : Work → Work → Type 0
@@ -207,7 +207,7 @@ module _ (w v : Work) where
   paused e = let same : w ≡ v = cc in (w.round, same)
 
   rests_look : (x : Option Joined) → looks_at w x ≡ Rest v → IsPaused w v
-  rests_look None e = paused e
+  rests_look None e = let wrong : ⊥ = cc in absurd wrong
   rests_look (Some j) e = let wrong : ⊥ = cc in absurd wrong
 
   rests_round : (r : Round) → in_round w r ≡ Rest v → IsPaused w v
@@ -216,7 +216,7 @@ module _ (w v : Work) where
   rests_round round.Idles e = let same : record w { round = round.Looks 0 false } ≡ v = cc in (round.Looks 0 false, same)
 
   rests_take : (x : Option Joined) → takes_from w x ≡ Rest v → IsPaused w v
-  rests_take None e = paused e
+  rests_take None e = let wrong : ⊥ = cc in absurd wrong
   rests_take (Some j) e = let wrong : ⊥ = cc in absurd wrong
 
   rests_left : (n : ℕ) → with_left w n ≡ Rest v → IsPaused w v
@@ -228,16 +228,16 @@ module _ (w v : Work) where
   rests_waiting (x ∷ xs) e = let wrong : ⊥ = cc in absurd wrong
 
   rests_answer : (h : Hand) (x : Option Joined) → answers w h x ≡ Rest v → IsPaused w v
-  rests_answer h None e = paused e
+  rests_answer h None e = let wrong : ⊥ = cc in absurd wrong
   rests_answer h (Some j) e = let wrong : ⊥ = cc in absurd wrong
 
   rests_free : (cookie : ℕ) (x : Option Joined) → frees w cookie x ≡ Rest v → IsPaused w v
-  rests_free cookie None e = paused e
+  rests_free cookie None e = let wrong : ⊥ = cc in absurd wrong
   rests_free cookie (Some j) e = let wrong : ⊥ = cc in absurd wrong
 
   module _ (site : Site) where
     rests_map : (h : Hand) (c : Create) (x : Option Joined) → maps site w h c x ≡ Rest v → IsPaused w v
-    rests_map h c None e = paused e
+    rests_map h c None e = let wrong : ⊥ = cc in absurd wrong
     rests_map h c (Some j) e = let wrong : ⊥ = cc in absurd wrong
 
     rests_decides : (h : Hand) (asks : Asked) (b : Bool) → decides site w h asks b ≡ Rest v → IsPaused w v
@@ -289,4 +289,4 @@ pub rests : (frames grants : ℕ → ℕ) (dom parts : ℕ) (w v : Work) → IsS
 rests frames grants dom parts w v s e =
     let same = pauses w v (the_site frames grants dom parts) e in
     subst (λ x. IsSane frames grants dom parts x × StillTells w x × ((m : Naming) → IsNamed w m → IsNamed x m × Stays (display (the_site frames grants dom parts)) (reading (the_site frames grants dom parts)) w x m [])) same.1
-    (record { own = s.own; stored = s.stored; few = s.few; buffers = s.buffers; opened = s.opened; kept = s.kept }, ((λ h t. t), (λ f k. k)), (λ m named. (named, record { rows = refl; names = refl; numbers = refl })))
+    (record { own = s.own; stored = s.stored; whole = s.whole; buffers = s.buffers; opened = s.opened; kept = s.kept }, ((λ h t. t), (λ f k. k)), (λ m named. (named, record { rows = refl; names = refl; numbers = refl })))

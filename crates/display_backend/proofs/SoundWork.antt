@@ -1,5 +1,5 @@
 -- What is known of a display's work between two activities, and of an activity's end.
-use Rattle.std.proofs.Common.{◌≡◌, ◌⊎◌, ℕ, ◌<◌, ◌≤◌, ◌||◌, pos, Bool, true, false, List, [], ◌∷◌, ◌++◌, Option, Some, None, Ok, refl, sym, ap, ◌∙◌, subst, inl, inr, length}
+use Rattle.std.proofs.Common.{◌≡◌, ◌⊎◌, ℕ, ◌<◌, ◌≤◌, ◌||◌, pos, Bool, true, false, List, [], ◌∷◌, ◌++◌, Option, Some, None, Ok, refl, sym, ap, ◌∙◌, subst, inl, inr, length, arith}
 use Rattle.pv_words.specs.declared.device.HostEvent.{HostEvent}
 use Rattle.pv_words.specs.declared.device.HostRefusal.{HostRefusal}
 use Rattle.pv_words.specs.declared.device.NodeValue.{NodeValue}
@@ -24,6 +24,7 @@ use Rattle.ring_words.specs.declared.Looked.{Looked}
 use Rattle.ring_words.specs.declared.Looked.TheVariants as looked
 use Rattle.ring_words.specs.Ring.{looked_of, since}
 use Rattle.xenbus_states.specs.Connection.{Connection, first_ending, heard, is_start}
+use Rattle.link_core.specs.Activities.{Joined}
 use Rattle.link_core.specs.Laws.{AreOf}
 use Rattle.device_core.specs.Machine.{Passes}
 use Rattle.device_core.specs.Order.{News, Sets, Hosts, refused_by}
@@ -82,6 +83,10 @@ HasComeIn stock p (Some h) = HasComeTo stock h p
 abbrev pub HasCome : Work → Type 0
 HasCome w = HasComeIn w.stock w.progress w.hand
 
+-- all parts are there, or none
+abbrev pub HasParts : ℕ → Work → Type 0
+HasParts parts w = (w.parts ≡ []) ⊎ (length w.parts ≡ parts)
+
 -- no page is held
 abbrev pub IsBare : Work → Type 0
 IsBare w = (w.parts ≡ []) × (pages_of w.stock ≡ [])
@@ -102,16 +107,20 @@ IsKept w other = ⊥
 abbrev pub KeptFound : Work → Found → Type 0
 KeptFound w f = (prod rsp : ℕ) → w.kept ≡ Some (reason.Overrun prod rsp) → f.word ≡ Some prod
 
--- The pages of the parts are the domain's own, mapped for writing, and those of buffers the domain's; there are no more parts
--- than the device has; the buffers are sound; no page is held unless the device is connected and not closing, and then the
+-- The pages of the parts are the domain's own, mapped for writing, and those of buffers the domain's; there are all parts of the
+-- device, or none; the buffers are sound; no page is held unless the device is connected and not closing, and then the
 -- request in hand has come so far; and a kept reason is one.
 pub record IsSane (frames grants : ℕ → ℕ) (dom parts : ℕ) (w : Work) : Type 0 where
   pub own : AllOwn frames grants dom (all_pages w.parts)
   pub stored : AreOf (grants dom) dom (pages_of w.stock)
-  pub few : length w.parts ≤ parts
+  pub whole : HasParts parts w
   pub buffers : AreSound w.stock.buffers
   pub opened : IsBare w ⊎ (IsServing w × HasCome w)
   pub kept : (why : Reason) → w.kept ≡ Some why → IsKept w why × (w.closing ≡ false)
+
+pub few_parts : (parts : ℕ) (w : Work) → HasParts parts w → length w.parts ≤ parts
+few_parts parts w (inl none) = subst (λ (js : List Joined). length js ≤ parts) (sym none) (omega arith)
+few_parts parts w (inr all) = omega (arith, all)
 
 -- no page is held unless the device is connected and not closing
 pub bare_unless : (frames grants : ℕ → ℕ) (dom parts : ℕ) (w : Work) → IsSane frames grants dom parts w → (IsServing w → ⊥) → IsBare w
@@ -173,7 +182,7 @@ module _ (frames grants : ℕ → ℕ) (dom parts : ℕ) where
   EndsWell w (Answered notified) = IsServing w × ((h : Hand) × (w.hand ≡ Some h) × IsAnswer w h)
   EndsWell w (Slept quiet) = Unit {0}
   EndsWell w (Met ps) =
-      (w.connecting ≡ true) × AllOwn frames grants dom (all_pages ps) × (length ps ≤ parts) × ((refs : List Refs) × (all_refs w.read 0 parts ≡ Ok refs)) × (pages_of w.stock ≡ [])
+      (w.connecting ≡ true) × AllOwn frames grants dom (all_pages ps) × (length ps ≡ parts) × ((refs : List Refs) × (all_refs w.read 0 parts ≡ Ok refs)) × (pages_of w.stock ≡ [])
   EndsWell w (Denied why) = IsShut w
   EndsWell w (Lacked problem) = IsShut w
   EndsWell w (Shut why) = IsShut w
@@ -251,7 +260,7 @@ module _ (frames grants : ℕ → ℕ) (dom parts : ℕ) (w : Work) (c : Connect
       record {
         own = s.own;
         stored = s.stored;
-        few = s.few;
+        whole = s.whole;
         buffers = s.buffers;
         opened = elim s.opened [ inl bare ↦ inl bare | inr o ↦ inr (serving_now o.0, o.1) ];
         kept = λ why e. (kept_now why (s.kept why e).0, (s.kept why e).1);

@@ -14,7 +14,8 @@ use Rattle.device_core.specs.Told.{TellsAll, told_by}
 use Rattle.display_backend.specs.declared.display.Progress.{Progress}
 use Rattle.display_backend.specs.declared.display.Progress.TheVariants as progress
 use Rattle.display_backend.specs.Machine.{Hand, is_accepted, verdict}
-use Rattle.display_backend.specs.Work.{Naming, Work, all_gone, begins_by, begins_close, begins_decided, begins_hand, begins_of, begins_progress, begins_state, begins_with, names_of, names_under, numbers, reading, told_of}
+use Rattle.link_core.specs.Activities.{Joined}
+use Rattle.display_backend.specs.Work.{Naming, Work, all_gone, begins_by, begins_close, begins_decided, begins_freeing, begins_hand, begins_of, begins_progress, begins_state, begins_with, names_of, names_under, numbers, part_of, reading, told_of}
 
 -- names that are gone tell nothing
 none_gone : (ns : List ℕ) → told_by told_of (all_gone ns) ≡ []
@@ -24,15 +25,19 @@ none_gone (n ∷ ns) = none_gone ns
 none_closing : (w : Work) (m : Naming) → told_by told_of (begins_close w m) ≡ []
 none_closing w m = none_gone (numbers (names_of w m))
 
-none_decided : (w : Work) (m : Naming) (asks : Asked) (accepted : Bool) → told_by told_of (begins_decided w m asks accepted) ≡ []
-none_decided w m (asked.Destroy cookie) true = none_gone (numbers (names_under cookie w.stock.buffers m.ids))
-none_decided w m (asked.Destroy cookie) false = refl
-none_decided w m (asked.Create c) accepted = refl
-none_decided w m (asked.Config c) accepted = refl
-none_decided w m asked.Other accepted = refl
+none_freeing : (w : Work) (m : Naming) (cookie : ℕ) (x : Option Joined) → told_by told_of (begins_freeing w m cookie x) ≡ []
+none_freeing w m cookie None = refl
+none_freeing w m cookie (Some j) = none_gone (numbers (names_under cookie w.stock.buffers m.ids))
+
+none_decided : (w : Work) (m : Naming) (h : Hand) (asks : Asked) (accepted : Bool) → told_by told_of (begins_decided w m h asks accepted) ≡ []
+none_decided w m h (asked.Destroy cookie) true = none_freeing w m cookie (part_of w h)
+none_decided w m h (asked.Destroy cookie) false = refl
+none_decided w m h (asked.Create c) accepted = refl
+none_decided w m h (asked.Config c) accepted = refl
+none_decided w m h asked.Other accepted = refl
 
 none_progress : (w : Work) (m : Naming) (h : Hand) (at : Progress) → told_by told_of (begins_progress w m h at) ≡ []
-none_progress w m h progress.Decided = none_decided w m h.request.asked (is_accepted (verdict w.stock.buffers h.request.asked))
+none_progress w m h progress.Decided = none_decided w m h h.request.asked (is_accepted (verdict w.stock.buffers h.request.asked))
 none_progress w m h progress.NoMemory = refl
 none_progress w m h progress.Denied = refl
 none_progress w m h progress.Mapped = refl

@@ -144,10 +144,14 @@ leaving w = record w { parts = []; stock = stripped w.stock }
 abbrev pub close : Work → Reason → Order Work End
 close w why = Act (leaving w) (unmaps (pages_of w.stock ++ all_pages w.parts) (Finished (Shut why)))
 
+-- Nothing may come of a part that isn't there: an activity that is over at once has to say something, and this says nothing.
+abbrev pub nothing : Work → Order Work End
+nothing w = Act w (Finished (Saw looked.Nothing))
+
 -- A round looks at the rings of the parts, in order; where it served no request, the display sleeps, and where no request
 -- came then, it rests. The next round begins after that.
 abbrev pub looks_at : Work → Option Joined → Order Work End
-looks_at w None = Rest w
+looks_at w None = nothing w
 looks_at w (Some j) = Act w (mapped Saw (look_plan (ring_page j) j.rsp))
 
 abbrev pub in_round : Work → Round → Order Work End
@@ -156,7 +160,7 @@ in_round w round.Sleeps = Act w (mapped Slept (sleep_all w.parts))
 in_round w round.Idles = Rest (record w { round = round.Looks 0 false })
 
 abbrev pub takes_from : Work → Option Joined → Order Work End
-takes_from w None = Rest w
+takes_from w None = nothing w
 takes_from w (Some j) = Act w (mapped Took (take_plan (ring_page j) j.rsp))
 
 abbrev pub with_left : Work → ℕ → Order Work End
@@ -172,7 +176,7 @@ abbrev pub answer_of : Work → Hand → Joined → Plan End
 answer_of w h j = mapped Answered (answer_plan (ring_page j) j.rsp (reply_to h.request (status_of w h.request.asked)))
 
 abbrev pub answers : Work → Hand → Option Joined → Order Work End
-answers w h None = Rest w
+answers w h None = nothing w
 answers w h (Some j) = Act w (answer_of w h j)
 
 -- memory is wanting for the list of a buffer's pages
@@ -181,7 +185,7 @@ starved w = record w { progress = progress.NoMemory }
 
 -- Walk: an accepted CREATE maps the pages that its directory lists, for reading; where memory is wanting, it is answered so
 abbrev pub maps : Site → Work → Hand → Create → Option Joined → Order Work End
-maps site w h c None = Rest w
+maps site w h c None = nothing w
 maps site w h c (Some j) =
     Either (starved w) (answer_of (starved w) h j)
     w (mapped Listed (walk_plan site.frames site.grants site.dom c.gref_directory Read (walking.pages_of c.buffer_sz)))
@@ -191,7 +195,7 @@ abbrev pub freeing : Work → ℕ → Work
 freeing w cookie = record w { stock = record { mapped = w.stock.mapped; buffers = bared cookie w.stock.buffers } }
 
 abbrev pub frees : Work → ℕ → Option Joined → Order Work End
-frees w cookie None = Rest w
+frees w cookie None = nothing w
 frees w cookie (Some j) = Act (freeing w cookie) (unmaps (pages_under cookie w.stock.buffers) (Finished Freed))
 
 -- the part whose ring a request came by
@@ -458,12 +462,16 @@ names_under cookie (b ∷ bs) (n ∷ ns) = if has_cookie cookie b then named_if 
 
 -- What a beginning is to the machine: a Connect that begins is something that happens to its rows; where a Close begins, all
 -- names are gone, and where a Release does, its buffer's.
-abbrev pub begins_decided : Work → Naming → Asked → Bool → List (Happening Event)
-begins_decided w m (asked.Destroy cookie) true = all_gone (numbers (names_under cookie w.stock.buffers m.ids))
-begins_decided w m asks accepted = []
+abbrev pub begins_freeing : Work → Naming → ℕ → Option Joined → List (Happening Event)
+begins_freeing w m cookie None = []
+begins_freeing w m cookie (Some j) = all_gone (numbers (names_under cookie w.stock.buffers m.ids))
+
+abbrev pub begins_decided : Work → Naming → Hand → Asked → Bool → List (Happening Event)
+begins_decided w m h (asked.Destroy cookie) true = begins_freeing w m cookie (part_of w h)
+begins_decided w m h asks accepted = []
 
 abbrev pub begins_progress : Work → Naming → Hand → Progress → List (Happening Event)
-begins_progress w m h progress.Decided = begins_decided w m h.request.asked (is_accepted (verdict w.stock.buffers h.request.asked))
+begins_progress w m h progress.Decided = begins_decided w m h h.request.asked (is_accepted (verdict w.stock.buffers h.request.asked))
 begins_progress w m h other = []
 
 abbrev pub begins_hand : Work → Naming → Option Hand → List (Happening Event)

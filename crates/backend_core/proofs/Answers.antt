@@ -1,5 +1,6 @@
 -- Accepted requests are answered: a law of the display machine.
 use Rattle.std.proofs.Common.{◌≡◌, inl, inr, ℕ, ℤ, pos, Bool, true, false, cond, suc, List, [], ◌∷◌, ◌++◌, Option, Some, None, refl, sym, subst, ◌∙◌, ap}
+use Rattle.std.proofs.lemmas.Option.{same_Some}
 use Rattle.pv_words.specs.declared.device.Said.{Said}
 use Rattle.pv_words.specs.declared.device.Said.TheVariants as said
 use Rattle.pv_words.specs.declared.device.State.{State}
@@ -55,9 +56,6 @@ pub record IsCalm (r : Rows) : Type 0 where
   pub waits : r.connecting ≡ true → r.connection.back ≡ state.InitWait
   pub creates : (h : Hand) → r.hand ≡ Some h → r.denied ≡ true → is_creation h.request.asked ≡ true
 
-some_same : {A : Type 0} (x y : A) → Some x ≡ Some y → x ≡ y
-some_same x y e = cc
-
 none_some : {A B : Type 0} (x : A) → None ≡ Some x → B
 none_some x e = let wrong : ⊥ = cc in absurd wrong
 
@@ -98,7 +96,7 @@ module _ (site : Site) where
       subst (λ (r : Rows). IsCalm r) (sym x.done) (record {
         served = c.served;
         waits = c.waits;
-        creates = λ h e d. subst (λ (k : Hand). is_creation k.request.asked ≡ true) (some_same x.hand h (sym x.in_hand ∙ e)) (ap is_creation x.asks);
+        creates = λ h e d. subst (λ (k : Hand). is_creation k.request.asked ≡ true) (same_Some x.hand h (sym x.in_hand ∙ e)) (ap is_creation x.asks);
       })
   says_calm old new (said.Replied part id status notified) taken x c =
       subst (λ (r : Rows). IsCalm r) (sym x.done) (record { served = λ h e. none_some h e; waits = c.waits; creates = λ h e d. none_some h e })
@@ -150,7 +148,7 @@ module _ (site : Site) where
   says_same old a b (said.Request part id op) taken x y = x.taken ∙ sym y.taken
   says_same old a b (said.Denied why) taken x y = x.done ∙ sym y.done
   says_same old a b (said.Replied part id status notified) taken x y =
-      let same = some_same _ _ (sym x.in_hand ∙ y.in_hand) in
+      let same = same_Some _ _ (sym x.in_hand ∙ y.in_hand) in
       x.done ∙ (ap (λ (h : Hand). record old { hand = None; denied = false; buffers = replied_to old.buffers old.replies h.request.asked (is_accepted status); replies = suc old.replies }) same ∙ sym y.done)
   says_same old a b (said.Closed why) taken x y = x.2 ∙ sym y.2
   says_same old a b (said.State s) taken x y = enters_same old a b s x y
@@ -206,7 +204,7 @@ module _ (site : Site) where
   answered [] m n h c i x = tt
   answered (Row (Says (said.Replied part id status notified) taken) words ∷ es) m n h c i x =
       let reply = x.1.move in
-      let same : record { part = part; request = reply.request } ≡ h = some_same _ h (sym reply.in_hand ∙ i.hand) in
+      let same : record { part = part; request = reply.request } ≡ h = same_Some _ h (sym reply.in_hand ∙ i.hand) in
       record {
         part_is = ap (λ (k : Hand). k.part) same;
         id_is = reply.id_is ∙ ap (λ (k : Hand). k.request.id) same;

@@ -9,21 +9,12 @@ use Rattle.pv_words.specs.Along.{after, Along}
 use Rattle.pv_words.specs.Held.{Holds, Made}
 use Rattle.pv_words.specs.Memory.{Memory, place_of, written, zeros}
 use Rattle.pv_words.specs.Plan.{Plan, Finished, Make, Want, Note, FitsFrom, MayGo, wanted, seen_by, found}
+use Rattle.pv_words.proofs.Keeping.{found_as}
 use Rattle.device_core.specs.Order.{News, Own, Did, Spoke, Rested, Heard, Refused, Others, Order, Act, Either, Rest, Rules, Stand, Between, During, Telling, Station, Offers, is_in_page, picked, work_at, ended, going, begun, gone, told, next, May, MayBegin, MayGoOn, refused_by, owed, followed, follow, MayFollowWith, IsExplained, MayStep, MayChoose, note_of, note_in, note_at, made_by}
 use Rattle.device_core.specs.Names.{words_at, all_drawn}
 use Rattle.device_core.specs.Machine.{Reading, Snapshot, Row, HappensTo, IsRun, Stays, Moves, Sound, shown, row_of, draws, happens_first, happens_in, happens_told, happens_at, happens_by, happens, named_first, named_told, named_next, named_by, memory_next, history}
 use Rattle.device_core.proofs.Drawing.{draws_run}
 use Rattle.device_core.proofs.Runs.{run_joins}
-
--- an access is the one that was wanted, with the word that it found
-found_is : (a : Access) → found (wanted a) (seen_by a) ≡ a
-found_is (access.Load at v) = refl
-found_is (access.Store at v) = refl
-found_is (access.Cas at old new seen) = refl
-found_is (access.Clear at mask seen) = refl
-
-found_as : (want : Want) (a : Access) → wanted a ≡ want → found want (seen_by a) ≡ a
-found_as want a e = ap (λ x. found x (seen_by a)) (sym e) ∙ found_is a
 
 module _ {W O : Type 0} where
   -- the activity that comes is one of those that may

@@ -11,7 +11,7 @@ use Rattle.scenario_text.specs.Playable.{IsPlayed}
 use Rattle.pv_world.specs.World.{setups, devices_of, memory_of}
 use Rattle.scenario_run.specs.Follows.{AreSettled, Follows, IsRow, rides_in}
 use Rattle.scenario_run.specs.Played.{IsPromptHistory, StopsAt}
-use Rattle.scenario_run.proofs.Plays.{all_at, can_play, stops_legal, stops_full, stops_below, follows_push, front_is, true_journal}
+use Rattle.scenario_run.proofs.Plays.{all_at, can_play, stops_legal, stops_full, stops_wanting, follows_push, front_is, true_journal}
 use Rattle.scenario_run.proofs.Wholes.{settled_all}
 use Rattle.scenario_run.proofs.player.play_all.Goals as goal
 
@@ -71,7 +71,7 @@ returns-in_err-play_statement-clause-wanting g c = λ below.
     let stop = c.in_err-play_statement.field-0.0 in
     let wanting : stop ≡ OutOfMemory = cc (p.1, p.2, below) in
     let stopped = subst (λ (ds : List DeviceSetup). StopsAt (frames_by s.sizes) (grants_by s.sizes) ds (get_or xs i beyond) stop inv.0 es) (c.play_statement.ensures.devices ∙ inv.4) (c.in_err-play_statement.ensures.played (frames_by s.sizes) (grants_by s.sizes) inv.0 inv.2 inv.3) in
-    stops_below s i (get_or xs i beyond) inside (turn xs s.statements i c.statements-statements.ensures inside) stop inv.0 es wanting stopped
+    stops_wanting s i (get_or xs i beyond) inside (turn xs s.statements i c.statements-statements.ensures inside) stop inv.0 es wanting inv.1 stopped
 
 pub loop-statement-preserved : goal.loop-statement-preserved
 loop-statement-preserved g c =

@@ -1,7 +1,6 @@
 -- Explained work is a run of the machine, and each access is proper.
 use Rattle.std.proofs.Common.{◌≡◌, ℕ, Bool, true, false, List, [], ◌∷◌, Option, Some, None, if◌then◌else◌, inl, inr, refl, sym, subst, ◌∙◌, ap}
 use Rattle.pv_words.specs.declared.access.Access.{Access}
-use Rattle.pv_words.specs.declared.access.Access.TheVariants as access
 use Rattle.pv_words.specs.declared.device.HostRefusal.{HostRefusal}
 use Rattle.pv_words.specs.declared.device.Said.{Said}
 use Rattle.pv_words.specs.declared.place.Place.{Place}

@@ -77,8 +77,8 @@ abbrev pub AtMost : Option ℕ → ℕ → Type 0
 AtMost None n = Unit {0}
 AtMost (Some most) n = n ≤ most
 
--- Behind what was entered of a device, this is the rest of one step of it: its one entry, or its access with what is said on
--- it, or what is said alone, where the access was entered. What rides on the last of some items is `rides`.
+-- Behind what was entered of a device, this is the rest of one step of it: its one entry, or its access and what is said on
+-- it, or that alone, where the access was entered. What rides on the last of some items is `rides`.
 pub record IsCutAt (rides : List Item → Option Said) (dev : DevId) (here due : List Item) : Type 0 where
   pub before : List Item
   pub front : List Item

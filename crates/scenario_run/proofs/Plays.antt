@@ -212,7 +212,7 @@ module _ (s : Scenario) (i : ℕ) (x : Statement) (inside : i < length s.stateme
         begun = subst (λ (ss : List Statement). IsBegun (rides_in (frames_by s.sizes) (grants_by s.sizes) s.devices followed) ss more) (sym rest_is) begun;
       }
 
-  pub stops_legal : (stop : Stop) (followed : List Item) (es : List Entry) → Follows (frames_by s.sizes) (grants_by s.sizes) s.devices (take i s.statements) [] followed → StopsAt (frames_by s.sizes) (grants_by s.sizes) s.devices x stop followed es → IsLegalTo s es
+  stops_legal : (stop : Stop) (followed : List Item) (es : List Entry) → Follows (frames_by s.sizes) (grants_by s.sizes) s.devices (take i s.statements) [] followed → StopsAt (frames_by s.sizes) (grants_by s.sizes) s.devices x stop followed es → IsLegalTo s es
   stops_legal stop followed es f h =
       record {
         marked = followed ++ h.part;
@@ -234,16 +234,20 @@ module _ (s : Scenario) (i : ℕ) (x : Statement) (inside : i < length s.stateme
         };
       }
 
-  pub stops_full : (stop : Stop) (followed : List Item) (es : List Entry) → stop ≡ JournalFull → Follows (frames_by s.sizes) (grants_by s.sizes) s.devices (take i s.statements) [] followed → StopsAt (frames_by s.sizes) (grants_by s.sizes) s.devices x stop followed es → IsFullFor s es
+  stops_full : (stop : Stop) (followed : List Item) (es : List Entry) → stop ≡ JournalFull → Follows (frames_by s.sizes) (grants_by s.sizes) s.devices (take i s.statements) [] followed → StopsAt (frames_by s.sizes) (grants_by s.sizes) s.devices x stop followed es → IsFullFor s es
   stops_full stop followed es full f h =
       full_in followed h.part es f h.entered (subst (λ (y : Stop). HasCauseIn (frames_by s.sizes) (grants_by s.sizes) s.devices x followed h.part es y) full h.cause)
 
   -- or memory was wanting below the limit, between steps
-  pub stops_wanting : (stop : Stop) (followed : List Item) (es : List Entry) → stop ≡ OutOfMemory → Follows (frames_by s.sizes) (grants_by s.sizes) s.devices (take i s.statements) [] followed → StopsAt (frames_by s.sizes) (grants_by s.sizes) s.devices x stop followed es → IsWantingFor s es
+  stops_wanting : (stop : Stop) (followed : List Item) (es : List Entry) → stop ≡ OutOfMemory → Follows (frames_by s.sizes) (grants_by s.sizes) s.devices (take i s.statements) [] followed → StopsAt (frames_by s.sizes) (grants_by s.sizes) s.devices x stop followed es → IsWantingFor s es
   unfolding stops_legal
   stops_wanting stop followed es wanting f h =
       let cause = subst (λ (y : Stop). HasCauseIn (frames_by s.sizes) (grants_by s.sizes) s.devices x followed h.part es y) wanting h.cause in
       record { below = cause.0; legal = stops_legal stop followed es f h; whole = cause.1 }
+
+  -- all that a stop shows of the whole play
+  pub stops_play : (stop : Stop) (followed : List Item) (es : List Entry) → Follows (frames_by s.sizes) (grants_by s.sizes) s.devices (take i s.statements) [] followed → StopsAt (frames_by s.sizes) (grants_by s.sizes) s.devices x stop followed es → IsLegalTo s es × (stop ≡ JournalFull → IsFullFor s es) × (stop ≡ OutOfMemory → IsWantingFor s es)
+  stops_play stop followed es f h = (stops_legal stop followed es f h, λ full. stops_full stop followed es full f h, λ wanting. stops_wanting stop followed es wanting f h)
 
 -- what a scenario that was read keeps, at one of its statements
 pub all_at : {X : Type 0} (P : X → Type 0) (xs : List X) (i : ℕ) (d : X) → AllByRecursion P xs → i < length xs → P (get_or xs i d)

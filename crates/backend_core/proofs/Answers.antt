@@ -1,5 +1,6 @@
 -- Accepted requests are answered: a law of the display machine.
 use Rattle.std.proofs.Common.{◌≡◌, inl, inr, ℕ, ℤ, pos, Bool, true, false, cond, suc, List, [], ◌∷◌, ◌++◌, Option, Some, None, refl, sym, subst, ◌∙◌, ap}
+use Rattle.std.proofs.lemmas.Option.{same_Some}
 use Rattle.pv_words.specs.declared.device.Said.{Said}
 use Rattle.pv_words.specs.declared.device.Said.TheVariants as said
 use Rattle.pv_words.specs.declared.device.State.{State}
@@ -56,9 +57,6 @@ pub record IsCalm (r : Rows) : Type 0 where
   pub waits : r.connecting ≡ true → r.connection.back ≡ state.InitWait
   pub creates : (h : Hand) → r.hand ≡ Some h → r.denied ≡ true → is_creation h.request.asked ≡ true
 
-some_same : {A : Type 0} (x y : A) → Some x ≡ Some y → x ≡ y
-some_same x y e = cc
-
 none_some : {A B : Type 0} (x : A) → None ≡ Some x → B
 none_some x e = let wrong : ⊥ = cc in absurd wrong
 
@@ -99,7 +97,7 @@ module _ (site : Site) where
       subst (λ (r : Rows). IsCalm r) (sym x.done) (record {
         served = c.served;
         waits = c.waits;
-        creates = λ h e d. subst (λ (k : Hand). is_creation k.request.asked ≡ true) (some_same x.hand h (sym x.in_hand ∙ e)) (ap is_creation x.asks);
+        creates = λ h e d. subst (λ (k : Hand). is_creation k.request.asked ≡ true) (same_Some x.hand h (sym x.in_hand ∙ e)) (ap is_creation x.asks);
       })
   says_calm old new (said.Replied part id status notified) taken f x c =
       subst (λ (r : Rows). IsCalm r) (sym x.done) (record { served = λ h e. none_some h e; waits = c.waits; creates = λ h e d. none_some h e })
@@ -153,7 +151,7 @@ module _ (site : Site) where
   says_same old a b (said.Request part id op) taken f x y = x.taken ∙ sym y.taken
   says_same old a b (said.Denied why) taken f x y = x.done ∙ sym y.done
   says_same old a b (said.Replied part id status notified) taken f x y =
-      let same = some_same _ _ (sym x.in_hand ∙ y.in_hand) in
+      let same = same_Some _ _ (sym x.in_hand ∙ y.in_hand) in
       x.done ∙ (ap (λ (h : Hand). record old { hand = None; denied = false; buffers = replied_to old.buffers old.replies h.request.asked (is_accepted status); replies = suc old.replies }) same ∙ sym y.done)
   says_same old a b (said.Closed why) taken f x y = x.2 ∙ sym y.2
   says_same old a b (said.State s) taken f x y = enters_same old a b s x y
@@ -213,7 +211,7 @@ module _ (site : Site) where
   -- what one event makes of it
   answered_by : (e : Event) (old new : Rows) (h : Hand) (es : List (Happening Event)) → IsCalm old → IsInHand old h → Moves site old e new → (IsInHand new h → IsAnsweredIn h new.denied es) → IsAnsweredBy h old.denied e (λ d. IsAnsweredIn h d es)
   answered_by (Says (said.Replied part id status notified) taken f) old new h es c i x later =
-      let same : record { part = part; request = x.request } ≡ h = some_same _ h (sym x.in_hand ∙ i.hand) in
+      let same : record { part = part; request = x.request } ≡ h = same_Some _ h (sym x.in_hand ∙ i.hand) in
       record {
         part_is = ap (λ (k : Hand). k.part) same;
         id_is = x.id_is ∙ ap (λ (k : Hand). k.request.id) same;

@@ -3,12 +3,15 @@ use Rattle.std.proofs.Common.{◌≡◌, ℕ, ◌+◌, ◌≤◌, ◌==◌, Bool
 use Rattle.pv_words.specs.declared.access.Access.{Access}
 use Rattle.pv_words.specs.declared.entry.Entry.{Entry}
 use Rattle.pv_words.specs.declared.entry.Entry.TheVariants as entry
+use Rattle.pv_words.specs.declared.entry.End.TheVariants as end
 use Rattle.pv_words.specs.declared.place.DevId.{DevId}
 use Rattle.pv_words.specs.declared.device.Said.{Said}
 use Rattle.pv_words.specs.declared.device.Said.TheVariants as said
 use Rattle.pv_words.specs.declared.device.NodeValue.{NodeValue}
+use Rattle.pv_words.specs.declared.device.State.{State}
 use Rattle.pv_words.specs.Along.{after}
 use Rattle.device_core.specs.Order.{Own, Did, Spoke, Rested, Others, steps_of}
+use Rattle.backend_core.specs.History.{IsNoState}
 use Rattle.backend_core.specs.Marked.{Item, Entered, Idle, entries, told_by, told_in, own_from, node_set, nodes_next, entry_of, items_of, is_access, accesses_in, IsStepOf, AreSteps}
 use Rattle.backend_core.specs.Marked.{progress}
 use Rattle.device_core.proofs.Stations.{AreOthers}
@@ -44,37 +47,26 @@ chosen : (b : Bool) (xs ys : List Own) → b ≡ true → cond b xs ys ≡ xs
 chosen true xs ys e = refl
 chosen false xs ys e = let wrong : ⊥ = cc in absurd wrong
 
+pub dev_same : (a b : DevId) → a.0 ≡ b.0 → a ≡ b
+dev_same a b e = ap (λ n. record { 0 = n }) e
+
 same_device : (dev : DevId) → (dev.0 == dev.0) ≡ true
 same_device dev = eq-eqb dev.0 dev.0 refl
 
+-- What a device says is entered as a state of its bus, or, where it is no state, as said.
+pub as_said : (P : Said → Entry → Type 0) (dev : DevId) → ((state : State) → P (said.State state) (entry.Bus dev end.Back state)) → ((s : Said) → IsNoState s → P s (entry.Said dev s)) → (s : Said) → P s (entry_of dev s)
+as_said P dev f g (said.State state) = f state
+as_said P dev f g other = g other tt
+
 told_said : (dev : DevId) (nodes : List NodeValue) (s : Said) → told_by dev.0 nodes (entry_of dev s) ≡ Spoke s ∷ []
-told_said dev nodes (said.State s) = chosen (dev.0 == dev.0) _ [] (same_device dev)
-told_said dev nodes (said.Request part id op) = chosen (dev.0 == dev.0) _ [] (same_device dev)
-told_said dev nodes (said.Denied r) = chosen (dev.0 == dev.0) _ [] (same_device dev)
-told_said dev nodes (said.Replied part id status n) = chosen (dev.0 == dev.0) _ [] (same_device dev)
-told_said dev nodes (said.Raised part cookie) = chosen (dev.0 == dev.0) _ [] (same_device dev)
-told_said dev nodes (said.Pos part position) = chosen (dev.0 == dev.0) _ [] (same_device dev)
-told_said dev nodes (said.Full part) = chosen (dev.0 == dev.0) _ [] (same_device dev)
-told_said dev nodes (said.Blank part) = chosen (dev.0 == dev.0) _ [] (same_device dev)
-told_said dev nodes (said.Shown part pixels mark) = chosen (dev.0 == dev.0) _ [] (same_device dev)
-told_said dev nodes (said.Moved part octets mark) = chosen (dev.0 == dev.0) _ [] (same_device dev)
-told_said dev nodes (said.Published events) = chosen (dev.0 == dev.0) _ [] (same_device dev)
-told_said dev nodes (said.Closed why) = chosen (dev.0 == dev.0) _ [] (same_device dev)
+told_said dev nodes s =
+    as_said (λ t e. told_by dev.0 nodes e ≡ Spoke t ∷ []) dev
+    (λ state. chosen (dev.0 == dev.0) (Spoke (said.State state) ∷ []) [] (same_device dev))
+    (λ t no_state. chosen (dev.0 == dev.0) (Spoke t ∷ []) [] (same_device dev)) s
 
 -- what a device says sets no node
 said_sets : (d : ℕ) (dev : DevId) (nodes : List NodeValue) (s : Said) → node_set d nodes (entry_of dev s) ≡ nodes
-said_sets d dev nodes (said.State s) = refl
-said_sets d dev nodes (said.Request part id op) = refl
-said_sets d dev nodes (said.Denied r) = refl
-said_sets d dev nodes (said.Replied part id status n) = refl
-said_sets d dev nodes (said.Raised part cookie) = refl
-said_sets d dev nodes (said.Pos part position) = refl
-said_sets d dev nodes (said.Full part) = refl
-said_sets d dev nodes (said.Blank part) = refl
-said_sets d dev nodes (said.Shown part pixels mark) = refl
-said_sets d dev nodes (said.Moved part octets mark) = refl
-said_sets d dev nodes (said.Published events) = refl
-said_sets d dev nodes (said.Closed why) = refl
+said_sets d dev nodes s = as_said (λ t e. node_set d nodes e ≡ nodes) dev (λ state. refl) (λ t no_state. refl) s
 
 -- the items of a step are that step, and set no node
 pub own_step : (dev : DevId) (nodes : List NodeValue) (a : Option Access) (s : Option Said) → own_from dev.0 nodes (items_of dev a s) ≡ steps_of a s
@@ -100,18 +92,10 @@ others_as : (es fs : List Own) → es ≡ fs → AreOthers fs → AreOthers es
 others_as es fs e o = subst (λ (x : List Own). AreOthers x) (sym e) o
 
 told_other : (d : ℕ) (dev : DevId) (nodes : List NodeValue) (s : Said) → (dev.0 == d) ≡ false → told_by d nodes (entry_of dev s) ≡ []
-told_other d dev nodes (said.State s) e = not_chosen (dev.0 == d) _ [] e
-told_other d dev nodes (said.Request part id op) e = not_chosen (dev.0 == d) _ [] e
-told_other d dev nodes (said.Denied r) e = not_chosen (dev.0 == d) _ [] e
-told_other d dev nodes (said.Replied part id status n) e = not_chosen (dev.0 == d) _ [] e
-told_other d dev nodes (said.Raised part cookie) e = not_chosen (dev.0 == d) _ [] e
-told_other d dev nodes (said.Pos part position) e = not_chosen (dev.0 == d) _ [] e
-told_other d dev nodes (said.Full part) e = not_chosen (dev.0 == d) _ [] e
-told_other d dev nodes (said.Blank part) e = not_chosen (dev.0 == d) _ [] e
-told_other d dev nodes (said.Shown part pixels mark) e = not_chosen (dev.0 == d) _ [] e
-told_other d dev nodes (said.Moved part octets mark) e = not_chosen (dev.0 == d) _ [] e
-told_other d dev nodes (said.Published events) e = not_chosen (dev.0 == d) _ [] e
-told_other d dev nodes (said.Closed why) e = not_chosen (dev.0 == d) _ [] e
+told_other d dev nodes s apart =
+    as_said (λ t e. told_by d nodes e ≡ []) dev
+    (λ state. not_chosen (dev.0 == d) (Spoke (said.State state) ∷ []) [] apart)
+    (λ t no_state. not_chosen (dev.0 == d) (Spoke t ∷ []) [] apart) s
 
 pub own_other : (d : ℕ) (dev : DevId) (nodes : List NodeValue) (a : Option Access) (s : Option Said) → (dev.0 == d) ≡ false → AreOthers (own_from d nodes (items_of dev a s))
 own_other d dev nodes None None e = others_as _ [] (ap (λ (es : List Own). es ++ []) (not_chosen (dev.0 == d) (Rested ∷ []) [] e)) tt
@@ -122,18 +106,7 @@ own_other d dev nodes (Some a) (Some s) e =
     ∙ ap (λ (es : List Own). Others a ∷ (es ++ [])) (told_other d dev nodes s e)) tt
 
 is_step_said : (dev : DevId) (s : Said) → IsStepOf dev.0 (entry_of dev s)
-is_step_said dev (said.State s) = refl
-is_step_said dev (said.Request part id op) = refl
-is_step_said dev (said.Denied r) = refl
-is_step_said dev (said.Replied part id status n) = refl
-is_step_said dev (said.Raised part cookie) = refl
-is_step_said dev (said.Pos part position) = refl
-is_step_said dev (said.Full part) = refl
-is_step_said dev (said.Blank part) = refl
-is_step_said dev (said.Shown part pixels mark) = refl
-is_step_said dev (said.Moved part octets mark) = refl
-is_step_said dev (said.Published events) = refl
-is_step_said dev (said.Closed why) = refl
+is_step_said dev s = as_said (λ t e. IsStepOf dev.0 e) dev (λ state. refl) (λ t no_state. refl) s
 
 -- a step that isn't idle has steps alone, with one access or none; an idle one has a mark alone
 pub busy_steps : (dev : DevId) (a : Option Access) (s : Option Said) (b : Bool) → Some b ≡ progress a s → AreSteps dev.0 (items_of dev a s)
@@ -143,18 +116,7 @@ busy_steps dev (Some a) None b e = (refl, tt)
 busy_steps dev (Some a) (Some s) b e = (refl, (is_step_said dev s, tt))
 
 no_access_said : (dev : DevId) (s : Said) → is_access (Entered (entry_of dev s)) ≡ false
-no_access_said dev (said.State s) = refl
-no_access_said dev (said.Request part id op) = refl
-no_access_said dev (said.Denied r) = refl
-no_access_said dev (said.Replied part id status n) = refl
-no_access_said dev (said.Raised part cookie) = refl
-no_access_said dev (said.Pos part position) = refl
-no_access_said dev (said.Full part) = refl
-no_access_said dev (said.Blank part) = refl
-no_access_said dev (said.Shown part pixels mark) = refl
-no_access_said dev (said.Moved part octets mark) = refl
-no_access_said dev (said.Published events) = refl
-no_access_said dev (said.Closed why) = refl
+no_access_said dev s = as_said (λ t e. is_access (Entered e) ≡ false) dev (λ state. refl) (λ t no_state. refl) s
 
 said_counts : (dev : DevId) (s : Said) → accesses_in (Entered (entry_of dev s) ∷ []) ≡ 0
 said_counts dev s = ap (λ (b : Bool). cond b 1 0 + 0) (no_access_said dev s)

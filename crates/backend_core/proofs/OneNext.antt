@@ -18,7 +18,7 @@ use Rattle.backend_core.specs.Kinds.{IsExplained, wants_memory}
 use Rattle.backend_core.specs.Marked.{Item, Entered, Idle, IsStepOf, entries, entry_of, nodes_in, own, own_from, told_in}
 use Rattle.backend_core.proofs.EachKind.{along_last, same_next}
 use Rattle.backend_core.proofs.Histories.{all_with, history_front, own_is}
-use Rattle.backend_core.proofs.Items.{entries_append, own_step}
+use Rattle.backend_core.proofs.Items.{as_said, dev_same, entries_append, own_step}
 
 -- an item that the device of this number makes
 abbrev pub IsMade : ℕ → Item → Type 0
@@ -35,38 +35,22 @@ item_of dev (Refused why) = Idle dev.0
 item_of dev (Others a) = Idle dev.0
 
 no_state : (dev : DevId) (s : Said) → IsNoState s → entry_of dev s ≡ entry.Said dev s
-no_state dev (said.State s) h = absurd h
-no_state dev (said.Request part id op) h = refl
-no_state dev (said.Denied r) h = refl
-no_state dev (said.Replied part id status n) h = refl
-no_state dev (said.Raised part cookie) h = refl
-no_state dev (said.Pos part position) h = refl
-no_state dev (said.Full part) h = refl
-no_state dev (said.Blank part) h = refl
-no_state dev (said.Shown part pixels mark) h = refl
-no_state dev (said.Moved part octets mark) h = refl
-no_state dev (said.Published events) h = refl
-no_state dev (said.Closed why) h = refl
+no_state dev s h = as_said (λ t e. IsNoState t → e ≡ entry.Said dev t) dev (λ state is. absurd is) (λ t none is. refl) s h
 
-dev_same : (a b : DevId) → a.0 ≡ b.0 → a ≡ b
-dev_same a b e = ap (λ n. record { 0 = n }) e
-
-made_entry : (devices : List DeviceSetup) (dev : DevId) (e : Entry) → IsStepOf dev.0 e → BelongsIn devices (Entered e) → (o : Own) × IsDoing o × (Entered e ≡ item_of dev o)
+-- what a device enters is an item of its own doing, and the device is declared
+made_entry : (devices : List DeviceSetup) (dev : DevId) (e : Entry) → IsStepOf dev.0 e → BelongsIn devices (Entered e) → (o : Own) × IsDoing o × (Entered e ≡ item_of dev o) × (is_declared devices dev.0 ≡ true)
 unfolding item_of
-made_entry devices dev (entry.Back d a) h b = (Did a, tt, ap (λ (x : DevId). Entered (entry.Back x a)) (dev_same d dev h))
-made_entry devices dev (entry.Said d s) h b = (Spoke s, tt, ap (λ (x : DevId). Entered (entry.Said x s)) (dev_same d dev h) ∙ ap Entered (sym (no_state dev s b.1)))
-made_entry devices dev (entry.Bus d end.Back s) h b = (Spoke (said.State s), tt, ap (λ (x : DevId). Entered (entry.Bus x end.Back s)) (dev_same d dev h))
-made_entry devices dev (entry.Bus d end.Front s) h b = absurd h
-made_entry devices dev (entry.Front dom a) h b = absurd h
-made_entry devices dev (entry.Wake d) h b = absurd h
-made_entry devices dev (entry.Host d e) h b = absurd h
-made_entry devices dev (entry.Refused d why) h b = absurd h
-made_entry devices dev (entry.Node d part key v) h b = absurd h
-made_entry devices dev (entry.Told dom t) h b = absurd h
+made_entry devices dev (entry.Back d a) h b =
+    (Did a, tt, ap (λ (x : DevId). Entered (entry.Back x a)) (dev_same d dev h), subst (λ (n : ℕ). is_declared devices n ≡ true) h b)
+made_entry devices dev (entry.Said d s) h b =
+    (Spoke s, tt, ap (λ (x : DevId). Entered (entry.Said x s)) (dev_same d dev h) ∙ ap Entered (sym (no_state dev s b.1)), subst (λ (n : ℕ). is_declared devices n ≡ true) h b.0)
+made_entry devices dev (entry.Bus d end.Back s) h b =
+    (Spoke (said.State s), tt, ap (λ (x : DevId). Entered (entry.Bus x end.Back s)) (dev_same d dev h), subst (λ (n : ℕ). is_declared devices n ≡ true) h b)
+made_entry devices dev other h b = absurd h
 
 made_as : (devices : List DeviceSetup) (dev : DevId) (i : Item) → IsMade dev.0 i → BelongsIn devices i → (o : Own) × IsDoing o × (i ≡ item_of dev o)
 unfolding item_of
-made_as devices dev (Entered e) h b = made_entry devices dev e h b
+made_as devices dev (Entered e) h b = let x = made_entry devices dev e h b in (x.0, x.1, x.2)
 made_as devices dev (Idle d) h b = (Rested, tt, ap Idle h)
 
 own_of : (dev : DevId) (nodes : List NodeValue) (o : Own) → IsDoing o → own_from dev.0 nodes (item_of dev o ∷ []) ≡ o ∷ []
@@ -77,18 +61,6 @@ own_of dev nodes Rested i = own_step dev nodes None None
 own_of dev nodes (Heard news) i = absurd i
 own_of dev nodes (Refused why) i = absurd i
 own_of dev nodes (Others a) i = absurd i
-
-entered_declared : (devices : List DeviceSetup) (d : ℕ) (e : Entry) → IsStepOf d e → BelongsIn devices (Entered e) → is_declared devices d ≡ true
-entered_declared devices d (entry.Back dev a) h b = subst (λ (x : ℕ). is_declared devices x ≡ true) h b
-entered_declared devices d (entry.Said dev s) h b = subst (λ (x : ℕ). is_declared devices x ≡ true) h b.0
-entered_declared devices d (entry.Bus dev end.Back s) h b = subst (λ (x : ℕ). is_declared devices x ≡ true) h b
-entered_declared devices d (entry.Bus dev end.Front s) h b = absurd h
-entered_declared devices d (entry.Front dom a) h b = absurd h
-entered_declared devices d (entry.Wake dev) h b = absurd h
-entered_declared devices d (entry.Host dev e) h b = absurd h
-entered_declared devices d (entry.Refused dev why) h b = absurd h
-entered_declared devices d (entry.Node dev part key v) h b = absurd h
-entered_declared devices d (entry.Told dom t) h b = absurd h
 
 -- what is so of all devices is so of one that is declared
 pick : (P : DeviceSetup → Type 0) (ds : List DeviceSetup) (d : ℕ) → is_declared ds d ≡ true → AllByRecursion P ds → (s : DeviceSetup) × (s.dev.0 ≡ d) × P s
@@ -191,6 +163,6 @@ module _ (frames grants : ℕ → ℕ) (devices : List DeviceSetup) where
   pub same_made : (d : ℕ) (m : List Item) (i j : Item) → IsMade d i → IsMade d j → IsPlain (m ++ i ∷ []) → IsPlain (m ++ j ∷ []) → i ≡ j
   same_made d m (Idle x) (Idle y) made also h k = ap Idle (made ∙ sym also)
   same_made d m (Entered e) j made also h k =
-      same_declared d m (Entered e) j (entered_declared devices d e made (all_last (BelongsIn devices) m (Entered e) h.history.belongs)) made also h k
+      same_declared d m (Entered e) j (made_entry devices (record { 0 = d }) e made (all_last (BelongsIn devices) m (Entered e) h.history.belongs)).3 made also h k
   same_made d m (Idle x) (Entered e) made also h k =
-      same_declared d m (Idle x) (Entered e) (entered_declared devices d e also (all_last (BelongsIn devices) m (Entered e) k.history.belongs)) made also h k
+      same_declared d m (Idle x) (Entered e) (made_entry devices (record { 0 = d }) e also (all_last (BelongsIn devices) m (Entered e) k.history.belongs)).3 made also h k

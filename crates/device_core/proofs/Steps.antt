@@ -1,5 +1,6 @@
 -- What a step of an activity makes of a stand.
 use Rattle.std.proofs.Common.{◌≡◌, Bool, true, false, List, [], ◌∷◌, Option, Some, None, if◌then◌else◌, refl, sym, subst, ◌∙◌, ap}
+use Rattle.std.proofs.lemmas.Option.{same_Some}
 use Rattle.pv_words.specs.declared.access.Access.{Access}
 use Rattle.pv_words.specs.declared.access.Access.TheVariants as access
 use Rattle.pv_words.specs.declared.device.Said.{Said}
@@ -52,12 +53,9 @@ module _ {W O : Type 0} (r : Rules W O) where
   went_rides w (Finished o) said new h = h.0 ∙ due_ended w o (r.said_at w o)
   went_rides w (Make want note more) said new h = h.0
 
-  some_same : {A : Type 0} (x y : A) → Some x ≡ Some y → x ≡ y
-  some_same x y e = cc
-
   -- on the access that was made
   rides_on : (old : Stand W O) (a : Access) (said : Option Said) → said ≡ due_at (next r old (Did a)) → (b : Access) → Some a ≡ Some b → said ≡ due_at (next r old (Did b))
-  rides_on old a said e b same = e ∙ ap (λ (x : Access). due_at (next r old (Did x))) (some_same a b same)
+  rides_on old a said e b same = e ∙ ap (λ (x : Access). due_at (next r old (Did x))) (same_Some a b same)
 
   steps_from : (old : Stand W O) (a : Access) (said : Option Said) (new mid : Stand W O) → May r old (Did a) → next r old (Did a) ≡ mid → Along (next r) (May r) mid (rest_of said) × (new ≡ after (next r) mid (rest_of said)) → said ≡ due_at mid → due_at new ≡ None → Steps r old (Some a) said new
   unfolding rest_of

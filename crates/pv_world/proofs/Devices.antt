@@ -1,7 +1,7 @@
 -- One device among others.
 use Rattle.std.proofs.Common.{◌≡◌, ℕ, zero, suc, ◌<◌, ◌==◌, ◌||◌, Bool, true, false, cond, List, [], ◌∷◌, ◌++◌, Some, length, drop, set, get_or, refl, sym, subst, ◌∙◌, ap, arith, eq-eqb}
 use Rattle.std.proofs.lemmas.Bool.Decides.{nat_tests}
-use Rattle.std.proofs.lemmas.Option.{slice_get_read, get_or_from_slice_get}
+use Rattle.std.proofs.lemmas.Option.{same_Some, slice_get_read, get_or_from_slice_get}
 use Rattle.std.specs.List.{AllByRecursion, slice_get}
 use Rattle.pv_words.specs.declared.device.HostEvent.{HostEvent}
 use Rattle.pv_words.specs.declared.place.DevId.{DevId}
@@ -10,10 +10,8 @@ use Rattle.pv_world.specs.declared.world.Placed.{Placed}
 use Rattle.backend_core.specs.History.{AreApart, due_by, is_declared, site_of, takes_by}
 use Rattle.backend_core.specs.Kinds.{due_after, takes_event}
 use Rattle.backend_core.specs.Marked.{Item, own}
+use Rattle.backend_core.proofs.Items.{dev_same}
 use Rattle.pv_world.specs.World.{AreDeclaredAs, IsAt, IsDeclaredAs, setups}
-
-some_same : {A : Type 0} (x y : A) → Some x ≡ Some y → x ≡ y
-some_same x y e = cc
 
 neither : (a b : Bool) → (a || b) ≡ false → (a ≡ false) × (b ≡ false)
 neither false false e = (refl, refl)
@@ -36,7 +34,7 @@ all_apart P Q d (q ∷ qs) n f h = (f q (turned_round q.setup.dev.0 d n.0) h.0, 
 pub at_index : (P : Placed → Type 0) (ps : List Placed) (i : ℕ) (p : Placed) → slice_get ps i ≡ Some p → AllByRecursion P ps → P p
 at_index P [] zero p e h = let wrong : ⊥ = cc in absurd wrong
 at_index P [] (suc i) p e h = let wrong : ⊥ = cc in absurd wrong
-at_index P (q ∷ qs) zero p e h = subst P (some_same q p e) h.0
+at_index P (q ∷ qs) zero p e h = subst P (same_Some q p e) h.0
 at_index P (q ∷ qs) (suc i) p e h = at_index P qs i p e h.1
 
 -- a device that is declared isn't one of those that aren't
@@ -48,7 +46,7 @@ pub all_step : (P Q : Placed → Type 0) (ps : List Placed) (i : ℕ) (p r : Pla
 all_step P Q [] zero p r a e f g h = let wrong : ⊥ = cc in absurd wrong
 all_step P Q [] (suc i) p r a e f g h = let wrong : ⊥ = cc in absurd wrong
 all_step P Q (q ∷ qs) zero p r a e f g h =
-    let same : q ≡ p = some_same q p e in (
+    let same : q ≡ p = same_Some q p e in (
       g (subst P same h.0),
       all_apart P Q p.setup.dev.0 qs (subst (λ (x : Placed). AllByRecursion (λ t. (t.setup.dev.0 == x.setup.dev.0) ≡ false) qs) same (others q.setup.dev.0 qs a.0)) f h.1,
     )
@@ -64,7 +62,7 @@ all_setups P Q (p ∷ ps) f h = (f p h.0, all_setups P Q ps f h.1)
 pub setups_set : (ps : List Placed) (i : ℕ) (p r : Placed) → slice_get ps i ≡ Some p → r.setup ≡ p.setup → setups (set ps i r) ≡ setups ps
 setups_set [] zero p r e s = let wrong : ⊥ = cc in absurd wrong
 setups_set [] (suc i) p r e s = let wrong : ⊥ = cc in absurd wrong
-setups_set (q ∷ qs) zero p r e s = ap (λ (x : DeviceSetup). x ∷ setups qs) (s ∙ sym (ap (λ (x : Placed). x.setup) (some_same q p e)))
+setups_set (q ∷ qs) zero p r e s = ap (λ (x : DeviceSetup). x ∷ setups qs) (s ∙ sym (ap (λ (x : Placed). x.setup) (same_Some q p e)))
 setups_set (q ∷ qs) (suc i) p r e s = ap (λ (xs : List DeviceSetup). q.setup ∷ xs) (setups_set qs i p r e s)
 
 either_true : (a b : Bool) → b ≡ true → (a || b) ≡ true
@@ -75,7 +73,7 @@ pub declared_at : (ps : List Placed) (i : ℕ) (p : Placed) → slice_get ps i �
 declared_at [] zero p e = let wrong : ⊥ = cc in absurd wrong
 declared_at [] (suc i) p e = let wrong : ⊥ = cc in absurd wrong
 declared_at (q ∷ qs) zero p e =
-    subst (λ (x : Placed). is_declared (q.setup ∷ setups qs) x.setup.dev.0 ≡ true) (some_same q p e) (ap (λ (b : Bool). b || is_declared (setups qs) q.setup.dev.0) (eq-eqb q.setup.dev.0 q.setup.dev.0 refl))
+    subst (λ (x : Placed). is_declared (q.setup ∷ setups qs) x.setup.dev.0 ≡ true) (same_Some q p e) (ap (λ (b : Bool). b || is_declared (setups qs) q.setup.dev.0) (eq-eqb q.setup.dev.0 q.setup.dev.0 refl))
 declared_at (q ∷ qs) (suc i) p e = either_true (q.setup.dev.0 == p.setup.dev.0) (is_declared (setups qs) p.setup.dev.0) (declared_at qs i p e)
 
 -- the device that an index reads
@@ -94,9 +92,6 @@ declared_within [] zero d e = let wrong : ⊥ = cc in absurd wrong
 declared_within [] (suc i) d e = let wrong : ⊥ = cc in absurd wrong
 declared_within (p ∷ ps) zero d e = omega arith
 declared_within (p ∷ ps) (suc i) d e = let l = declared_within ps i d e in omega (arith, l)
-
-pub dev_same : (a b : DevId) → a.0 ≡ b.0 → a ≡ b
-dev_same a b e = ap (λ n. record { 0 = n }) e
 
 pub found_at : (ps : List Placed) (i : ℕ) (p : Placed) (dev : DevId) → is_declared (setups (drop i ps)) dev.0 ≡ true → p ≡ get_or ps i p → p.setup.dev.0 ≡ dev.0 → IsAt ps i dev
 found_at ps i p dev e read same =
@@ -121,7 +116,7 @@ pub takes_at : (ps : List Placed) (i : ℕ) (p : Placed) (e : HostEvent) → Are
 takes_at [] zero p e a at = let wrong : ⊥ = cc in absurd wrong
 takes_at [] (suc i) p e a at = let wrong : ⊥ = cc in absurd wrong
 takes_at (q ∷ qs) zero p e a at =
-    let same : q ≡ p = some_same q p at in
+    let same : q ≡ p = same_Some q p at in
     subst (λ (x : Placed). takes_by (setups (x ∷ qs)) p.setup.dev.0 e ≡ takes_event p.setup.kind e) (sym same)
     (ap (λ (b : Bool). cond b (takes_event p.setup.kind e) (takes_by (setups qs) p.setup.dev.0 e)) (eq-eqb p.setup.dev.0 p.setup.dev.0 refl))
 takes_at (q ∷ qs) (suc i) p e a at =
@@ -133,7 +128,7 @@ pub due_is : (frames grants : ℕ → ℕ) (ps : List Placed) (i : ℕ) (p : Pla
 due_is frames grants [] zero p m a at = let wrong : ⊥ = cc in absurd wrong
 due_is frames grants [] (suc i) p m a at = let wrong : ⊥ = cc in absurd wrong
 due_is frames grants (q ∷ qs) zero p m a at =
-    let same : q ≡ p = some_same q p at in
+    let same : q ≡ p = same_Some q p at in
     let due = due_after p.setup.kind (site_of frames grants p.setup) (own p.setup.dev.0 m) in
     subst (λ (x : Placed). due_by frames grants (setups (x ∷ qs)) p.setup.dev.0 m ≡ due) (sym same)
     (ap (λ (b : Bool). cond b due (due_by frames grants (setups qs) p.setup.dev.0 m)) (eq-eqb p.setup.dev.0 p.setup.dev.0 refl))

@@ -6,9 +6,10 @@ use Rattle.pv_words.specs.declared.access.Access.{Access}
 use Rattle.pv_words.specs.declared.entry.Entry.{Entry}
 use Rattle.pv_words.specs.declared.entry.Entry.TheVariants as entry
 use Rattle.pv_words.specs.declared.journal.Stop.{Stop}
-use Rattle.pv_words.specs.declared.journal.Stop.TheVariants.{OutOfMemory}
+use Rattle.pv_words.specs.declared.journal.Stop.TheVariants.{JournalFull, OutOfMemory}
 use Rattle.pv_words.specs.declared.place.DevId.{DevId}
 use Rattle.pv_words.specs.declared.device.Said.{Said}
+use Rattle.pv_words.specs.declared.setup.DeviceSetup.{DeviceSetup}
 use Rattle.pv_world.specs.declared.world.Placed.{Placed}
 use Rattle.backend_core.specs.History.{due_by}
 use Rattle.backend_core.specs.Marked.{Item, Entered, Idle, entries, items_of, accesses_in, AreSteps, progress}
@@ -44,12 +45,15 @@ module _ {W : Type 0} (g : Sight W) (frames grants : ℕ → ℕ) where
         within = omega (arith, all, few);
         stands = subst (λ (x : List Item). Stands g frames grants memory devices (m ++ x)) r.split st;
         entered = entries_append m r.done ∙ (ap (λ (x : List Entry). x ++ entries r.done) e ∙ sym r.entered);
-        cause = subst (λ (x : Stop). Lacks x (Entered r.due ∷ r.rest) new) (sym r.full) (r.limit, (r.due, r.rest, refl));
+        cause = subst (λ (x : Stop). Lacks (λ y. due_by frames grants (setups devices) dev.0 (m ++ y)) x dev r.done (Entered r.due ∷ r.rest) new) (sym r.full) (
+          r.limit,
+          record { before = []; front = r.done; access = a; said = s; behind = refl; one_step = r.split; ride = d; further = r.due; later = r.rest; due_is = refl },
+        );
       }
 
   -- memory was wanting before it
-  pub wanting : (memory : W) (devices : List Placed) (d : ℕ) (stop : Stop) (old new : List Entry) (m : List Item) → Stands g frames grants memory devices m → entries m ≡ old → new ≡ old → stop ≡ OutOfMemory → length new < 8388608 → StopsIn g frames grants memory devices d (Some 1) stop m new
-  wanting memory devices d stop old new m st e same why below =
+  pub wanting : (memory : W) (devices : List Placed) (dev : DevId) (stop : Stop) (old new : List Entry) (m : List Item) → Stands g frames grants memory devices m → entries m ≡ old → new ≡ old → stop ≡ OutOfMemory → length new < 8388608 → StopsIn g frames grants memory devices dev (Some 1) stop m new
+  wanting memory devices dev stop old new m st e same why below =
       record {
         here = [];
         due = [];
@@ -57,7 +61,7 @@ module _ {W : Type 0} (g : Sight W) (frames grants : ℕ → ℕ) where
         within = omega arith;
         stands = subst (λ (x : List Item). Stands g frames grants memory devices x) (sym (append-nil m)) st;
         entered = ap entries (append-nil m) ∙ (e ∙ sym same);
-        cause = subst (λ (x : Stop). Lacks x [] new) (sym why) (below, refl);
+        cause = subst (λ (x : Stop). Lacks (λ y. due_by frames grants (setups devices) dev.0 (m ++ y)) x dev [] [] new) (sym why) (below, refl);
       }
 
   -- steps of a device, with so many accesses, led here
@@ -125,8 +129,30 @@ module _ {W : Type 0} (g : Sight W) (frames grants : ℕ → ℕ) where
   within_most None n k f h = tt
   within_most (Some j) n k f h = let l = f j refl in omega (arith, l, h)
 
+  -- what was cut behind some items was cut behind those before it, too
+  lacks_later : (devices : List DeviceSetup) (dev : DevId) (stop : Stop) (m first here due : List Item) (es : List Entry) → Lacks (λ y. due_by frames grants devices dev.0 ((m ++ first) ++ y)) stop dev here due es → Lacks (λ y. due_by frames grants devices dev.0 (m ++ y)) stop dev (first ++ here) due es
+  lacks_later devices dev JournalFull m first here due es h =
+      let cut = h.1 in (
+        h.0,
+        record {
+          before = first ++ cut.before;
+          front = cut.front;
+          access = cut.access;
+          said = cut.said;
+          behind = ap (λ (y : List Item). first ++ y) cut.behind ∙ sym (append_assoc first cut.before cut.front);
+          one_step = cut.one_step;
+          ride = λ a made.
+              let last : List Item = Entered (entry.Back dev a) ∷ [] in
+              cut.ride a made ∙ ap (due_by frames grants devices dev.0) (append_assoc m first (cut.before ++ last) ∙ ap (λ (y : List Item). m ++ y) (sym (append_assoc first cut.before last)));
+          further = cut.further;
+          later = cut.later;
+          due_is = cut.due_is;
+        },
+      )
+  lacks_later devices dev OutOfMemory m first here due es h = h
+
   -- it was stopped, after some steps that weren't
-  pub stopped : (memory later : W) (devices then : List Placed) (dev : DevId) (most : Option ℕ) (made : ℕ) (stop : Stop) (es new : List Entry) (m : List Item) → ((n : ℕ) → most ≡ Some n → made < n) → HasStepped memory devices dev.0 made es m → ((n : List Item) → Stands g frames grants memory devices n → entries n ≡ es → StopsIn g frames grants later then dev.0 (Some 1) stop n new) → StopsIn g frames grants later then dev.0 most stop m new
+  pub stopped : (memory later : W) (devices then : List Placed) (dev : DevId) (most : Option ℕ) (made : ℕ) (stop : Stop) (es new : List Entry) (m : List Item) → ((n : ℕ) → most ≡ Some n → made < n) → HasStepped memory devices dev.0 made es m → ((n : List Item) → Stands g frames grants memory devices n → entries n ≡ es → StopsIn g frames grants later then dev (Some 1) stop n new) → StopsIn g frames grants later then dev most stop m new
   stopped memory later devices then dev most made stop es new m fewer h f =
       let x = f (m ++ h.here) h.stands h.entered in
       let joined : (m ++ h.here) ++ x.here ≡ m ++ (h.here ++ x.here) = append_assoc m h.here x.here in
@@ -141,5 +167,5 @@ module _ {W : Type 0} (g : Sight W) (frames grants : ℕ → ℕ) where
         within = subst (λ (y : List Item). AtMost most (accesses_in y)) (sym all) (within_most most made (accesses_in (h.here ++ (x.here ++ x.due))) fewer (omega (arith, sum, so_far, one)));
         stands = subst (λ (y : List Item). Stands g frames grants later then y) (append_assoc m h.here (x.here ++ x.due) ∙ ap (λ (y : List Item). m ++ y) (sym all)) x.stands;
         entered = subst (λ (y : List Item). entries y ≡ new) joined x.entered;
-        cause = x.cause;
+        cause = lacks_later (setups then) dev stop m h.here x.here x.due new x.cause;
       }

@@ -6,7 +6,6 @@ use Rattle.pv_words.specs.declared.access.Access.{Access}
 use Rattle.pv_words.specs.declared.access.Access.TheVariants as access
 use Rattle.pv_words.specs.declared.device.HostRefusal.{HostRefusal}
 use Rattle.pv_words.specs.declared.device.Said.{Said}
-use Rattle.pv_words.specs.declared.device.Said.TheVariants as said
 use Rattle.pv_words.specs.declared.entry.Entry.TheVariants as entry
 use Rattle.pv_words.specs.declared.place.DevId.{DevId}
 use Rattle.pv_words.specs.declared.place.Half.TheVariants.{Flags, FrameNo}
@@ -29,7 +28,7 @@ use Rattle.backend_core.specs.Kinds.{Continues, due_after, owed_after, parts_of}
 use Rattle.backend_core.specs.Marked.{Item, Entered, Idle, entries, entry_of, items_of, nodes_in, own}
 use Rattle.backend_core.proofs.EachKind.{did_owes, dom_of_one, next_may, parts_of_one, quiet_holds, step_holds, told_due}
 use Rattle.backend_core.proofs.Histories.{IsDirectAt, IsTrueNext, aimed, in_range_from, memory_more, nodes_more, own_is}
-use Rattle.backend_core.proofs.Items.{nodes_step, own_other, own_step}
+use Rattle.backend_core.proofs.Items.{as_said, nodes_step, own_other, own_step}
 use Rattle.pv_world.specs.declared.world.Placed.{Placed}
 use Rattle.pv_world.specs.World.{IsPlaced, Rides, Sight, Stands, setups}
 use Rattle.pv_world.proofs.Devices.{at_index, declared_at, due_is}
@@ -55,32 +54,10 @@ holding_same f k e h note (access.Clear (Cell d p w) mask seen) = refl
 
 -- what a device says changes no word
 said_none : (dev : DevId) (s : Said) → access_of (entry_of dev s) ≡ None
-said_none dev (said.State s) = refl
-said_none dev (said.Request part id op) = refl
-said_none dev (said.Denied r) = refl
-said_none dev (said.Replied part id status n) = refl
-said_none dev (said.Raised part cookie) = refl
-said_none dev (said.Pos part position) = refl
-said_none dev (said.Full part) = refl
-said_none dev (said.Blank part) = refl
-said_none dev (said.Shown part pixels mark) = refl
-said_none dev (said.Moved part octets mark) = refl
-said_none dev (said.Published events) = refl
-said_none dev (said.Closed why) = refl
+said_none dev s = as_said (λ t e. access_of e ≡ None) dev (λ state. refl) (λ t no_state. refl) s
 
 said_belongs : (devices : List DeviceSetup) (dev : DevId) (s : Said) → is_declared devices dev.0 ≡ true → Belongs devices (entry_of dev s)
-said_belongs devices dev (said.State s) h = h
-said_belongs devices dev (said.Request part id op) h = (h, tt)
-said_belongs devices dev (said.Denied r) h = (h, tt)
-said_belongs devices dev (said.Replied part id status n) h = (h, tt)
-said_belongs devices dev (said.Raised part cookie) h = (h, tt)
-said_belongs devices dev (said.Pos part position) h = (h, tt)
-said_belongs devices dev (said.Full part) h = (h, tt)
-said_belongs devices dev (said.Blank part) h = (h, tt)
-said_belongs devices dev (said.Shown part pixels mark) h = (h, tt)
-said_belongs devices dev (said.Moved part octets mark) h = (h, tt)
-said_belongs devices dev (said.Published events) h = (h, tt)
-said_belongs devices dev (said.Closed why) h = (h, tt)
+said_belongs devices dev s h = as_said (λ t e. Belongs devices e) dev (λ state. h) (λ t no_state. (h, no_state)) s
 
 said_leaves : (m : Memory) (dev : DevId) (s : Said) (q : Place) → remembered m (entry_of dev s) q ≡ m q
 said_leaves m dev s q = subst (λ (o : Option Access). changed_by m o q ≡ m q) (sym (said_none dev s)) refl

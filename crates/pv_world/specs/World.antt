@@ -77,21 +77,36 @@ abbrev pub AtMost : Option ℕ → ℕ → Type 0
 AtMost None n = Unit {0}
 AtMost (Some most) n = n ≤ most
 
--- why a device was stopped: the journal is full, and this is due; or memory was wanting below that, and nothing is
-abbrev pub Lacks : Stop → (due : List Item) → List Entry → Type 0
-Lacks JournalFull due es = (length es ≡ 8388608) × ((e : Entry) × (rest : List Item) × (due ≡ Entered e ∷ rest))
-Lacks OutOfMemory due es = (length es < 8388608) × (due ≡ [])
+-- Behind what was entered of a device, this is the rest of one step of it: its one entry, or its access and what is said on
+-- it, or that alone, where the access was entered. What rides on the last of some items is `rides`.
+pub record IsCutAt (rides : List Item → Option Said) (dev : DevId) (here due : List Item) : Type 0 where
+  pub before : List Item
+  pub front : List Item
+  pub access : Option Access
+  pub said : Option Said
+  pub behind : here ≡ before ++ front
+  pub one_step : items_of dev access said ≡ front ++ due
+  pub ride : (a : Access) → access ≡ Some a → said ≡ rides (before ++ Entered (entry.Back dev a) ∷ [])
+  pub further : Entry
+  pub later : List Item
+  pub due_is : due ≡ Entered further ∷ later
+
+-- Why a device was stopped: the journal is full, and the rest of one step is due, beyond which the device didn't go; or memory
+-- was wanting below that, before a step, and nothing is due.
+abbrev pub Lacks : (rides : List Item → Option Said) → Stop → DevId → (here due : List Item) → List Entry → Type 0
+Lacks rides JournalFull dev here due es = (length es ≡ 8388608) × IsCutAt rides dev here due
+Lacks rides OutOfMemory dev here due es = (length es < 8388608) × (due ≡ [])
 
 -- The device was stopped after some of its steps. The world stands for what was entered, and, where the journal is full, for
 -- what of the last step found no room.
-pub record StopsIn {W : Type 0} (g : Sight W) (frames grants : ℕ → ℕ) (memory : W) (devices : List Placed) (d : ℕ) (most : Option ℕ) (stop : Stop) (m : List Item) (es : List Entry) : Type 0 where
+pub record StopsIn {W : Type 0} (g : Sight W) (frames grants : ℕ → ℕ) (memory : W) (devices : List Placed) (dev : DevId) (most : Option ℕ) (stop : Stop) (m : List Item) (es : List Entry) : Type 0 where
   pub here : List Item
   pub due : List Item
-  pub steps : AreSteps d (here ++ due)
+  pub steps : AreSteps dev.0 (here ++ due)
   pub within : AtMost most (accesses_in (here ++ due))
   pub stands : Stands g frames grants memory devices (m ++ (here ++ due))
   pub entered : entries (m ++ here) ≡ es
-  pub cause : Lacks stop due es
+  pub cause : Lacks (λ x. due_by frames grants (setups devices) dev.0 (m ++ x)) stop dev here due es
 
 -- With an access just the event is said that rides on it.
 abbrev pub Rides : (frames grants : ℕ → ℕ) → List DeviceSetup → DevId → List Item → Option Access → Option Said → Type 0
@@ -105,7 +120,7 @@ Advanced g frames grants memory devices dev es m (Ok did) =
     (a : Option Access) × (s : Option Said) × (did ≡ progress a s)
     × Stands g frames grants memory devices (m ++ items_of dev a s) × (entries (m ++ items_of dev a s) ≡ es)
     × Rides frames grants (setups devices) dev m a s
-Advanced g frames grants memory devices dev es m (Err stop) = StopsIn g frames grants memory devices dev.0 (Some 1) stop m es
+Advanced g frames grants memory devices dev es m (Err stop) = StopsIn g frames grants memory devices dev (Some 1) stop m es
 
 -- a device's steps until it was idle, with fewer accesses than were asked for
 pub record ComesToRest (d : ℕ) (most : Option ℕ) (here : List Item) : Type 0 where
@@ -133,7 +148,7 @@ IsStepped due dev most here = ComesToRest dev.0 most here ⊎ MakesAll due dev m
 abbrev pub SteppedBy : {W : Type 0} → Sight W → (frames grants : ℕ → ℕ) (memory : W) (devices : List Placed) (dev : DevId) (most : Option ℕ) (es : List Entry) (m : List Item) {A : Type 0} → Result A Stop → Type 0
 SteppedBy g frames grants memory devices dev most es m (Ok x) =
     (here : List Item) × IsStepped (λ x. due_by frames grants (setups devices) dev.0 (m ++ x)) dev most here × Stands g frames grants memory devices (m ++ here) × (entries (m ++ here) ≡ es)
-SteppedBy g frames grants memory devices dev most es m (Err stop) = StopsIn g frames grants memory devices dev.0 most stop m es
+SteppedBy g frames grants memory devices dev most es m (Err stop) = StopsIn g frames grants memory devices dev most stop m es
 
 -- a world's memory and its devices
 abbrev pub memory_of : {W : Type 0} → World W → W

@@ -446,7 +446,7 @@ impl<W: Machine> World<W> {
     }
 
     /// Steps a device until it is idle, or, where a number is given, until it has made so many accesses. After a Stop the
-    /// entries so far stand.
+    /// entries so far stand; at a full journal the device has gone no further than the one step that found no room.
     pub fn back(&mut self, dev: DevId, most: Option<u32>, journal: &mut Journal) -> Result<(), Stop>
         requires standing { StandingAt (sight W.word W.frames_of W.grants_of W.port W.whole W.knows_device W.knows_domain) self.old journal.old.entries }
         requires declared { is_declared (setups (devices_of self.old)) dev.0 ≡ true }

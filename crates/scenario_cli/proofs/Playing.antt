@@ -21,7 +21,7 @@ either_is_true octets es s reads (inr legal) = legal_to_is_true octets es s read
 
 to_some_statement : (octets : List ℕ) (es : List Entry) → WantsMemoryAt octets es → (es ≡ []) ⊎ IsTrueFor octets es
 to_some_statement octets es (inl p) = inl p.0
-to_some_statement octets es (inr p) = inr (legal_to_is_true octets es p.0 p.1 p.2)
+to_some_statement octets es (inr p) = inr (legal_to_is_true octets es p.0 p.1 p.2.legal)
 
 what_was_played : (octets : List ℕ) (old new : SinkTold) (es : List Entry) (s : Status) → EndsFor octets old new es s → (es ≡ []) ⊎ IsTrueFor octets es
 what_was_played octets old new es status.Ok p = inr (legal_is_true octets es p.0 p.1 p.2)

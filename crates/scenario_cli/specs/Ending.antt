@@ -1,5 +1,5 @@
 -- How a command ends.
-use Rattle.std.specs.Prelude.{◌≡◌, ◌<◌, ℕ, ◌≤◌, ◌⊎◌, Bool, true, false, List, [], ◌∷◌, length, codes, Option, Ok as ok, Err as err, String, string_bytes, bytes_eq}
+use Rattle.std.specs.Prelude.{◌≡◌, ℕ, ◌≤◌, ◌⊎◌, Bool, true, false, List, [], ◌∷◌, length, codes, Option, Ok as ok, Err as err, String, string_bytes, bytes_eq}
 use Rattle.pv_words.specs.declared.entry.Entry.{Entry}
 use Rattle.pv_ports.specs.Port.{Gave, IsAtEnd, Appended, AppendedPrefix, Rose}
 use Rattle.backend_core.specs.Marked.{Item}
@@ -8,7 +8,7 @@ use Rattle.scenario_text.specs.Scenario.{Scenario}
 use Rattle.scenario_text.specs.Lines.{lines}
 use Rattle.scenario_text.specs.Reading.{scenario_of, holds_item}
 use Rattle.scenario_io.specs.Script.{GaveAtMost, GaveBlocks, GaveMany}
-use Rattle.scenario_run.specs.Legal.{IsTrueJournal, IsLegal, IsLegalTo, IsFullFor}
+use Rattle.scenario_run.specs.Legal.{IsTrueJournal, IsLegal, IsLegalTo, IsFullFor, IsWantingFor}
 use Rattle.scenario_cli.specs.declared.status.Status.{Status}
 use Rattle.scenario_cli.specs.declared.status.Status.TheVariants as status
 
@@ -50,11 +50,11 @@ pub record IsJournalFor (octets : List ℕ) (es : List Entry) : Type 0 where
   pub reads : scenario_of octets ≡ ok scenario
   pub legal : IsLegal scenario es ⊎ (IsLegalTo scenario es × IsFullFor scenario es)
 
--- where memory was wanting for a script of these octets: for what a line of it holds, or at some place of its play
+-- where memory was wanting for a script of these octets: for what a line of it holds, or in its play, between two steps
 abbrev pub WantsMemoryAt : (octets : List ℕ) (es : List Entry) → Type 0
 WantsMemoryAt octets es =
     ((es ≡ []) × (holds_item (lines octets) ≡ true))
-    ⊎ ((s : Scenario) × (scenario_of octets ≡ ok s) × IsLegalTo s es × (length es < 8388608))
+    ⊎ ((s : Scenario) × (scenario_of octets ≡ ok s) × IsWantingFor s es)
 
 -- how a command ends that has read these octets: by status, with what became of the sink
 abbrev pub EndsFor : (octets : List ℕ) (old new : SinkTold) (es : List Entry) → Status → Type 0

@@ -5,6 +5,7 @@ use pv_words::{Access, DevId, DomId, Entry, Frame, JOURNAL_LIMIT, Place};
 use scenario_text::{FaultKind, ScriptFault};
 use std::alloc::AllocError;
 use std::mem::size_of;
+use std::process::Abort;
 use std::test::Fail;
 
 // A domain with two frames, and a display of one connector. Its ring page is frame 0: the device is to notify the frontend
@@ -98,6 +99,12 @@ fn accesses(journal: &Journal, dev: DevId) -> usize {
     made
 }
 
+// The script was played to its end, and the sink got this.
+fn expect(rt: &impl Abort, outcome: &Outcome, wanted: &[u8]) {
+    assert_eq!(rt; outcome.status, Status::Ok);
+    assert_eq!(rt; outcome.sink.as_slice(), wanted);
+}
+
 fn status_of(alloc: Global, script: &[u8]) -> Result<Status, AllocError> {
     Ok(run_over(alloc, script, Vec::new(alloc), Vec::new(alloc))?.status)
 }
@@ -109,8 +116,7 @@ fn fault_at(line: u32, column: u32, kind: FaultKind) -> Status {
 #[test]
 fn an_empty_script(rt: HostRuntime) -> Result<(), Fail> {
     let outcome = run_script(rt.alloc(), "")?;
-    assert_eq!(rt; outcome.status, Status::Ok);
-    assert_eq!(rt; outcome.sink.as_slice(), b"".as_slice());
+    expect(&rt, &outcome, b"");
     assert!(rt; outcome.journal.is_empty());
     Ok(())
 }
@@ -119,15 +125,14 @@ fn an_empty_script(rt: HostRuntime) -> Result<(), Fail> {
 fn one_request(rt: HostRuntime) -> Result<(), Fail> {
     let alloc = rt.alloc();
     let outcome = run_connected(alloc, "")?;
-    assert_eq!(rt; outcome.status, Status::Ok);
-    assert_eq!(rt; outcome.sink.as_slice(), CONNECTED.as_bytes());
+    expect(&rt, &outcome, CONNECTED.as_bytes());
     assert_eq!(rt; accesses(&outcome.journal, DevId(1)), 11);
     let script = one_request_script(alloc)?;
     let outcome = run_script(alloc, script.as_str())?;
-    assert_eq!(rt; outcome.status, Status::Ok);
-    assert_eq!(rt;
-        outcome.sink.as_slice(),
-        b"bus 1 front 3\nbus 1 back 4\nrequest 1 0 1 4\nreply 1 0 1 0 notify\n".as_slice()
+    expect(
+        &rt,
+        &outcome,
+        b"bus 1 front 3\nbus 1 back 4\nrequest 1 0 1 4\nreply 1 0 1 0 notify\n",
     );
     assert_eq!(rt; accesses(&outcome.journal, DevId(1)), 11 + 38);
     Ok(())
@@ -152,8 +157,7 @@ fn what_a_connected_device_answers(rt: HostRuntime) -> Result<(), Fail> {
     ] {
         let outcome = run_connected(alloc, more)?;
         let wanted = joined(alloc, &[CONNECTED, lines])?;
-        assert_eq!(rt; outcome.status, Status::Ok);
-        assert_eq!(rt; outcome.sink.as_slice(), wanted.as_bytes());
+        expect(&rt, &outcome, wanted.as_bytes());
     }
     Ok(())
 }
@@ -169,8 +173,7 @@ fn as_many_requests_as_slots(rt: HostRuntime) -> Result<(), Fail> {
     for _ in 1..32 {
         wanted.push_str("request 1 0 0 0\nreply 1 0 0 -22\n")?;
     }
-    assert_eq!(rt; outcome.status, Status::Ok);
-    assert_eq!(rt; outcome.sink.as_slice(), wanted.as_bytes());
+    expect(&rt, &outcome, wanted.as_bytes());
     Ok(())
 }
 
@@ -191,8 +194,7 @@ fn indices_go_on_at_zero(rt: HostRuntime) -> Result<(), Fail> {
     let pair = "request 1 0 0 0\nreply 1 0 0 -22\n";
     let notified = "request 1 0 0 0\nreply 1 0 0 -22 notify\n";
     let wanted = joined(alloc, &[CONNECTED, pair, pair, notified, pair])?;
-    assert_eq!(rt; outcome.status, Status::Ok);
-    assert_eq!(rt; outcome.sink.as_slice(), wanted.as_bytes());
+    expect(&rt, &outcome, wanted.as_bytes());
     Ok(())
 }
 
@@ -231,8 +233,7 @@ fn a_buffer_is_made_and_destroyed(rt: HostRuntime) -> Result<(), Fail> {
             "request 1 0 2 1\nreply 1 0 2 0\ngrant 1 3 ended\n",
         ],
     )?;
-    assert_eq!(rt; outcome.status, Status::Ok);
-    assert_eq!(rt; outcome.sink.as_slice(), wanted.as_bytes());
+    expect(&rt, &outcome, wanted.as_bytes());
     Ok(())
 }
 
@@ -263,8 +264,7 @@ fn buffers_that_are_refused(rt: HostRuntime) -> Result<(), Fail> {
                 "\n",
             ],
         )?;
-        assert_eq!(rt; outcome.status, Status::Ok);
-        assert_eq!(rt; outcome.sink.as_slice(), wanted.as_bytes());
+        expect(&rt, &outcome, wanted.as_bytes());
     }
     Ok(())
 }
@@ -292,8 +292,7 @@ fn a_page_that_is_denied(rt: HostRuntime) -> Result<(), Fail> {
                 "\nreply 1 0 1 -13 notify\n",
             ],
         )?;
-        assert_eq!(rt; outcome.status, Status::Ok);
-        assert_eq!(rt; outcome.sink.as_slice(), wanted.as_bytes());
+        expect(&rt, &outcome, wanted.as_bytes());
         assert_eq!(rt; accesses(&outcome.journal, DevId(1)), made);
     }
     Ok(())
@@ -323,8 +322,7 @@ fn a_directory_without_a_further_page(rt: HostRuntime) -> Result<(), Fail> {
             "grant 1 0 busy 25\ngrant 1 1 busy 25\ngrant 1 2 ended\ngrant 1 3 ended\ngrant 1 1029 ended\n",
         ],
     )?;
-    assert_eq!(rt; outcome.status, Status::Ok);
-    assert_eq!(rt; outcome.sink.as_slice(), wanted.as_bytes());
+    expect(&rt, &outcome, wanted.as_bytes());
     assert_eq!(rt;
         accesses(&outcome.journal, DevId(1)),
         11 + 17 + 5120 + 18 + 3
@@ -360,8 +358,7 @@ fn a_walk_comes_to_its_end_before_a_close(rt: HostRuntime) -> Result<(), Fail> {
                 lines,
             ],
         )?;
-        assert_eq!(rt; outcome.status, Status::Ok);
-        assert_eq!(rt; outcome.sink.as_slice(), wanted.as_bytes());
+        expect(&rt, &outcome, wanted.as_bytes());
         assert_eq!(rt; accesses(&outcome.journal, DevId(1)), made);
     }
     Ok(())
@@ -390,8 +387,7 @@ fn nodes_that_are_faulty(rt: HostRuntime) -> Result<(), Fail> {
     ] {
         let outcome = run_parts(alloc, &[DECLARED, OPENED, nodes, CONNECTS])?;
         let wanted = joined(alloc, &["bus 1 front 3\n", lines, "bus 1 back 6\n"])?;
-        assert_eq!(rt; outcome.status, Status::Ok);
-        assert_eq!(rt; outcome.sink.as_slice(), wanted.as_bytes());
+        expect(&rt, &outcome, wanted.as_bytes());
         assert_eq!(rt; accesses(&outcome.journal, DevId(1)), 0);
     }
     Ok(())
@@ -410,10 +406,10 @@ fn nodes_are_seen_with_the_next_state(rt: HostRuntime) -> Result<(), Fail> {
             "serve 1\nbus 1 1\nserve 1\nbus 1 3\nserve 1\n",
         ],
     )?;
-    assert_eq!(rt; outcome.status, Status::Ok);
-    assert_eq!(rt;
-        outcome.sink.as_slice(),
-        b"bus 1 front 3\nclosed 1 node 0 0 missing\nbus 1 back 6\nbus 1 front 1\nbus 1 back 2\nbus 1 front 3\nbus 1 back 4\n".as_slice()
+    expect(
+        &rt,
+        &outcome,
+        b"bus 1 front 3\nclosed 1 node 0 0 missing\nbus 1 back 6\nbus 1 front 1\nbus 1 back 2\nbus 1 front 3\nbus 1 back 4\n",
     );
     Ok(())
 }
@@ -436,8 +432,7 @@ fn maps_that_are_refused(rt: HostRuntime) -> Result<(), Fail> {
             alloc,
             &["bus 1 front 3\nclosed 1 refused ", lines, "bus 1 back 6\n"],
         )?;
-        assert_eq!(rt; outcome.status, Status::Ok);
-        assert_eq!(rt; outcome.sink.as_slice(), wanted.as_bytes());
+        expect(&rt, &outcome, wanted.as_bytes());
         assert_eq!(rt; accesses(&outcome.journal, DevId(1)), made);
     }
     Ok(())
@@ -451,10 +446,10 @@ fn a_refused_connect_leaves_no_page_mapped(rt: HostRuntime) -> Result<(), Fail> 
         alloc,
         &[DECLARED, OPENED, NODES, changed, CONNECTS, "end 1 0 1\n"],
     )?;
-    assert_eq!(rt; outcome.status, Status::Ok);
-    assert_eq!(rt;
-        outcome.sink.as_slice(),
-        b"bus 1 front 3\nclosed 1 refused inuse 25\nbus 1 back 6\ngrant 1 0 ended\n".as_slice()
+    expect(
+        &rt,
+        &outcome,
+        b"bus 1 front 3\nclosed 1 refused inuse 25\nbus 1 back 6\ngrant 1 0 ended\n",
     );
     Ok(())
 }
@@ -474,8 +469,7 @@ fn a_connect_is_cut_and_goes_on(rt: HostRuntime) -> Result<(), Fail> {
     ] {
         let outcome = run_parts(alloc, &[DECLARED, OPENED, NODES, "bus 1 3\n", more])?;
         let wanted = joined(alloc, &["bus 1 front 3\n", lines])?;
-        assert_eq!(rt; outcome.status, Status::Ok);
-        assert_eq!(rt; outcome.sink.as_slice(), wanted.as_bytes());
+        expect(&rt, &outcome, wanted.as_bytes());
         assert_eq!(rt; accesses(&outcome.journal, DevId(1)), made);
     }
     Ok(())
@@ -492,8 +486,7 @@ fn each_word_of_a_slot_is_loaded_once(rt: HostRuntime) -> Result<(), Fail> {
         let more = joined(alloc, &[ASKS, "back 1 4\n", change, "serve 1\n"])?;
         let outcome = run_connected(alloc, more.as_str())?;
         let wanted = joined(alloc, &[CONNECTED, "request 1 0 1 4\n", reply])?;
-        assert_eq!(rt; outcome.status, Status::Ok);
-        assert_eq!(rt; outcome.sink.as_slice(), wanted.as_bytes());
+        expect(&rt, &outcome, wanted.as_bytes());
         assert_eq!(rt; accesses(&outcome.journal, DevId(1)), 11 + 38);
     }
     Ok(())
@@ -534,8 +527,7 @@ fn several_devices_connect(rt: HostRuntime) -> Result<(), Fail> {
     let alloc = rt.alloc();
     let script = three_devices(alloc)?;
     let outcome = run_script(alloc, script.as_str())?;
-    assert_eq!(rt; outcome.status, Status::Ok);
-    assert_eq!(rt; outcome.sink.as_slice(), ALL_CONNECTED.as_bytes());
+    expect(&rt, &outcome, ALL_CONNECTED.as_bytes());
     assert_eq!(rt; accesses(&outcome.journal, DevId(1)), 11);
     assert_eq!(rt; accesses(&outcome.journal, DevId(3)), 11);
     assert_eq!(rt; accesses(&outcome.journal, DevId(5)), 22);
@@ -559,8 +551,7 @@ fn a_round_goes_by_connectors(rt: HostRuntime) -> Result<(), Fail> {
             "request 5 1 7 4\nreply 5 1 7 0 notify\n",
         ],
     )?;
-    assert_eq!(rt; outcome.status, Status::Ok);
-    assert_eq!(rt; outcome.sink.as_slice(), wanted.as_bytes());
+    expect(&rt, &outcome, wanted.as_bytes());
     assert_eq!(rt; accesses(&outcome.journal, DevId(5)), 22 + 110);
     Ok(())
 }
@@ -584,8 +575,7 @@ fn a_device_closes_and_others_go_on(rt: HostRuntime) -> Result<(), Fail> {
             "request 1 0 0 0\nreply 1 0 0 -22\n",
         ],
     )?;
-    assert_eq!(rt; outcome.status, Status::Ok);
-    assert_eq!(rt; outcome.sink.as_slice(), wanted.as_bytes());
+    expect(&rt, &outcome, wanted.as_bytes());
     assert_eq!(rt; accesses(&outcome.journal, DevId(3)), 11 + 2);
     Ok(())
 }
@@ -596,10 +586,10 @@ fn grants_are_opened_and_ended(rt: HostRuntime) -> Result<(), Fail> {
         rt.alloc(),
         "domain 1 wild 2 2\nopen 1 0 0 rw 1\nopen 1 0 1 ro 1\nend 1 0 1\nputg 1 0 flags 9\nend 1 0 1\n",
     )?;
-    assert_eq!(rt; outcome.status, Status::Ok);
-    assert_eq!(rt;
-        outcome.sink.as_slice(),
-        b"grant 1 0 refused 1\ngrant 1 0 ended\ngrant 1 0 busy 9\n".as_slice()
+    expect(
+        &rt,
+        &outcome,
+        b"grant 1 0 refused 1\ngrant 1 0 ended\ngrant 1 0 busy 9\n",
     );
     Ok(())
 }
@@ -610,8 +600,7 @@ fn an_exchange_of_another_word_changes_nothing(rt: HostRuntime) -> Result<(), Fa
         rt.alloc(),
         "domain 1 wild 2 2\nopen 1 0 1 ro 1\nswap 1 0 5 0\nend 1 0 1\n",
     )?;
-    assert_eq!(rt; outcome.status, Status::Ok);
-    assert_eq!(rt; outcome.sink.as_slice(), b"grant 1 0 ended\n".as_slice());
+    expect(&rt, &outcome, b"grant 1 0 ended\n");
     Ok(())
 }
 
@@ -682,26 +671,15 @@ fn each_front_of_a_script_is_read(rt: HostRuntime) -> Result<(), Fail> {
 #[test]
 fn octets_and_numbers_that_are_refused(rt: HostRuntime) -> Result<(), Fail> {
     let alloc = rt.alloc();
-    assert_eq!(rt;
-        status_of(alloc, b"\0")?,
-        fault_at(1, 1, FaultKind::BadByte)
-    );
-    assert_eq!(rt;
-        status_of(alloc, b"# \x80\n \x80")?,
-        fault_at(2, 2, FaultKind::BadByte)
-    );
-    assert_eq!(rt;
-        status_of(alloc, b"serve 0x")?,
-        fault_at(1, 7, FaultKind::BadNumber)
-    );
-    assert_eq!(rt;
-        status_of(alloc, b"serve 0X10")?,
-        fault_at(1, 7, FaultKind::BadNumber)
-    );
-    assert_eq!(rt;
-        status_of(alloc, b"\n\nsoak 1")?,
-        fault_at(3, 1, FaultKind::UnknownStatement)
-    );
+    for (script, line, column, kind) in [
+        (b"\0".as_slice(), 1, 1, FaultKind::BadByte),
+        (b"# \x80\n \x80".as_slice(), 2, 2, FaultKind::BadByte),
+        (b"serve 0x".as_slice(), 1, 7, FaultKind::BadNumber),
+        (b"serve 0X10".as_slice(), 1, 7, FaultKind::BadNumber),
+        (b"\n\nsoak 1".as_slice(), 3, 1, FaultKind::UnknownStatement),
+    ] {
+        assert_eq!(rt; status_of(alloc, script)?, fault_at(line, column, kind));
+    }
     let mut digits = vec![in alloc; b'9'; 1006]?;
     digits[..6].copy_from_slice(b"serve ");
     assert_eq!(rt;
@@ -731,8 +709,7 @@ fn a_fill_goes_on_in_the_next_frame(rt: HostRuntime) -> Result<(), Fail> {
         stored(0, 1023, 1),
         stored(1, 0, 3),
     ];
-    assert_eq!(rt; outcome.status, Status::Ok);
-    assert_eq!(rt; outcome.sink.as_slice(), b"".as_slice());
+    expect(&rt, &outcome, b"");
     let played: Vec<Entry> = outcome.journal.entries().collect(alloc)?;
     assert_eq!(rt; played.as_slice(), entries.as_slice());
     Ok(())

@@ -13,9 +13,9 @@ use Rattle.pv_world.specs.declared.world.Placed.{Placed}
 use Rattle.backend_core.specs.Marked.{Item, entries}
 use Rattle.pv_world.specs.Record.{Shows}
 use Rattle.pv_world.specs.World.{Enters, Sight, Stands, front_store, setups}
-use Rattle.scenario_run.specs.Follows.{filling, stores_of, word_at}
+use Rattle.scenario_run.specs.Follows.{AreSettled, filling, stores_of, word_at}
 use Rattle.scenario_run.specs.Played.{HasCauseIn, IsPromptHistory, StopsAt}
-use Rattle.scenario_run.proofs.Wholes.{next_prompt, stands_prompt}
+use Rattle.scenario_run.proofs.Wholes.{next_prompt, settled_all, stands_prompt}
 
 -- the word of a number below that of all words lies in a frame
 pub word_in_range : (frames grants : ℕ → ℕ) (dom : DomId) (n : ℕ) → n < 1024 * frames dom.0 → InRange frames grants (word_at dom n)
@@ -39,15 +39,15 @@ module _ {W : Type 0} (g : Sight W) (frames grants : ℕ → ℕ) (f : Filling) 
       let whole : (m ++ stores_of f n) ++ filling f n ∷ [] ≡ m ++ stores_of f (n + 1) = joined ∙ ap (λ (k : ℕ). m ++ stores_of f k) next in
       (subst (λ (y : List Item). Stands g frames grants later then y) whole h.0, subst (λ (y : List Item). entries y ≡ new) whole h.1)
 
-  store_cause : (devices : List DeviceSetup) (n : ℕ) (stop : Stop) (m : List Item) (es : List Entry) → n < f.count → IsPromptHistory frames grants devices ((m ++ stores_of f n) ++ filling f n ∷ []) → Shows stop es → HasCauseIn frames grants devices (Fill f) m (stores_of f n) es stop
-  store_cause devices n JournalFull m es below h limit =
+  store_cause : (devices : List DeviceSetup) (n : ℕ) (stop : Stop) (m : List Item) (es : List Entry) → n < f.count → AreSettled frames grants devices (m ++ stores_of f n) → IsPromptHistory frames grants devices ((m ++ stores_of f n) ++ filling f n ∷ []) → Shows stop es → HasCauseIn frames grants devices (Fill f) m (stores_of f n) es stop
+  store_cause devices n JournalFull m es below whole h limit =
       record {
         length_is = limit;
         due = _;
         goes_on = subst (λ (y : List Item). IsPromptHistory frames grants devices y) (append_assoc m (stores_of f n) (filling f n ∷ [])) h;
         next = inl (suc n, below, refl);
       }
-  store_cause devices n OutOfMemory m es below h limit = limit
+  store_cause devices n OutOfMemory m es below whole h limit = (limit, whole)
 
   pub fill_stops : (later : W) (then : List Placed) (n : ℕ) (new : List Entry) (m : List Item) (stop : Stop) → n < f.count → Enters g frames grants later then (filling f n) new (m ++ stores_of f n) {A = Unit {0}} (Err stop) → StopsAt frames grants (setups then) (Fill f) stop m new
   fill_stops later then n new m stop below h =
@@ -56,5 +56,5 @@ module _ {W : Type 0} (g : Sight W) (frames grants : ℕ → ℕ) (f : Filling) 
         of = (n, omega (arith, below), refl);
         so_far = stands_prompt g frames grants later then (m ++ stores_of f n) h.0;
         entered = h.1;
-        cause = store_cause (setups then) n stop m new below (next_prompt g frames grants later then (m ++ stores_of f n) (filling f n) h.0 h.2) h.3;
+        cause = store_cause (setups then) n stop m new below (settled_all g frames grants later then (m ++ stores_of f n) h.0) (next_prompt g frames grants later then (m ++ stores_of f n) (filling f n) h.0 h.2) h.3;
       }

@@ -16,9 +16,9 @@ use Rattle.pv_world.specs.declared.world.Placed.{Placed}
 use Rattle.backend_core.specs.Marked.{Item, Entered, entries}
 use Rattle.pv_world.specs.Owner.{IsDone, IsUnderWay, HasCauseAt, Owns, StopsOwning}
 use Rattle.pv_world.specs.World.{Sight, Stands, setups}
-use Rattle.scenario_run.specs.Follows.{EachDone, EachTo, IsPartOf, IsRow, rides_in}
+use Rattle.scenario_run.specs.Follows.{AreSettled, EachDone, EachTo, IsPartOf, IsRow, rides_in}
 use Rattle.scenario_run.specs.Played.{HasCauseIn, IsPromptHistory, StopsAt}
-use Rattle.scenario_run.proofs.Wholes.{front_prompt, further_prompt, stands_prompt}
+use Rattle.scenario_run.proofs.Wholes.{front_prompt, further_prompt, settled_all, stands_prompt}
 
 -- the first n grants are done, and the world stands for it
 abbrev pub SoFar : {W : Type 0} (g : Sight W) (frames grants : ℕ → ℕ) (memory : W) (devices : List Placed) (dom : DomId) (gref : GrantRef) (plans : ℕ → Plan Owned) (n : ℕ) (es : List Entry) (m : List Item) → Type 0
@@ -55,7 +55,9 @@ module _ (frames grants : ℕ → ℕ) (dom : DomId) (gref : GrantRef) (plans : 
           goes_on = subst (λ (y : List Item). IsPromptHistory frames grants (setups devices) y) (append_assoc m front (part ++ one) ∙ ap (λ (y : List Item). m ++ y) joined) (further_prompt g frames grants memory devices (m ++ front) part due h.further st h.goes_on h.due_is);
           next = subst (λ (y : List Item). IsPartOf s y ⊎ IsRow (rides_in frames grants (setups devices) m) s y) joined (next_of (rides_in frames grants (setups devices) m) front (part ++ one) done h.next);
         }
-    each_cause memory devices OutOfMemory m front part due es done st h = h.0
+    each_cause memory devices OutOfMemory m front part due es done st h =
+        let none : (m ++ front) ++ (part ++ due) ≡ m ++ (front ++ part) = append_assoc m front (part ++ due) ∙ ap (λ (y : List Item). m ++ (front ++ y)) (ap (λ (y : List Item). part ++ y) h.1 ∙ append-nil part) in
+        (h.0, subst (λ (y : List Item). AreSettled frames grants (setups devices) y) none (settled_all g frames grants memory devices ((m ++ front) ++ (part ++ due)) st))
 
     pub each_stops : (memory later : W) (devices then : List Placed) (es new : List Entry) (m : List Item) (stop : Stop) → SoFar g frames grants memory devices dom gref plans n es m → ((k : List Item) → Stands g frames grants memory devices k → entries k ≡ es → StopsOwning g frames grants later then dom (record { 0 = gref.0 + n }) (plans n) stop k new) → StopsAt frames grants (setups then) s stop m new
     each_stops memory later devices then es new m stop a f =

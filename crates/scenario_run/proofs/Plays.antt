@@ -24,25 +24,25 @@ use Rattle.scenario_text.specs.Playable.{IsDevice, IsPlayed}
 use Rattle.scenario_text.specs.Scenario.{Scenario}
 use Rattle.pv_world.specs.declared.world.Placed.{Placed}
 use Rattle.backend_core.specs.Marked.{Item, Entered, entries, AreSteps, accesses_in}
-use Rattle.backend_core.specs.History.{IsExplainedIn, IsPromptIn, is_declared, parts_by, site_of}
+use Rattle.backend_core.specs.History.{IsExplainedIn, IsPromptIn, IsSettledIn, due_by, is_declared, parts_by, site_of}
 use Rattle.pv_world.specs.World.{AtMost, Enters, Exchanged, Lacks, Sight, StopsIn, SteppedBy, setups, front_store}
 use Rattle.pv_world.specs.Record.{Shows}
 use Rattle.backend_core.proofs.Consequences.{histories_are_runs}
-use Rattle.backend_core.proofs.EachKind.{first_explained}
+use Rattle.backend_core.proofs.EachKind.{first_explained, first_settled}
 use Rattle.backend_core.proofs.Histories.{all_of, in_range_from}
 use Rattle.backend_core.proofs.Items.{entries_append}
 use Rattle.scenario_run.specs.Follows.{AreSettled, Follows, FollowsTo, IsBegun, IsRow, IsPartOf, opening, closing, rides_in}
-use Rattle.scenario_run.specs.Legal.{IsFullFor, IsLegalTo, IsTrueJournal}
+use Rattle.scenario_run.specs.Legal.{IsFullFor, IsLegalTo, IsTrueJournal, IsWantingFor}
 use Rattle.scenario_run.specs.Played.{CanPlay, HasCauseIn, IsFullIn, IsPromptHistory, Played, StopsAt}
 use Rattle.scenario_run.proofs.Devices.{same_parts_by, few_parts}
-use Rattle.scenario_run.proofs.Wholes.{at_most_front, front_prompt, next_prompt, stands_prompt, steps_front}
+use Rattle.scenario_run.proofs.Wholes.{at_most_front, front_prompt, next_prompt, settled_all, stands_prompt, steps_front}
 
 -- a statement that enters one item
 module _ {W : Type 0} (g : Sight W) (frames grants : ℕ → ℕ) (s : Statement) (due : Entry)
     (none_of : IsPartOf s []) (row : (rides : DevId → List Item → Option Said) → IsRow rides s (Entered due ∷ [])) where
-  entered_cause : (devices : List DeviceSetup) (stop : Stop) (m : List Item) (es : List Entry) → IsPromptHistory frames grants devices (m ++ Entered due ∷ []) → Shows stop es → HasCauseIn frames grants devices s m [] es stop
-  entered_cause devices JournalFull m es h limit = record { length_is = limit; due = due; goes_on = h; next = inr (row (rides_in frames grants devices m)) }
-  entered_cause devices OutOfMemory m es h limit = limit
+  entered_cause : (devices : List DeviceSetup) (stop : Stop) (m : List Item) (es : List Entry) → AreSettled frames grants devices m → IsPromptHistory frames grants devices (m ++ Entered due ∷ []) → Shows stop es → HasCauseIn frames grants devices s m [] es stop
+  entered_cause devices JournalFull m es whole h limit = record { length_is = limit; due = due; goes_on = h; next = inr (row (rides_in frames grants devices m)) }
+  entered_cause devices OutOfMemory m es whole h limit = (limit, subst (λ (x : List Item). AreSettled frames grants devices x) (sym (append-nil m)) whole)
 
   pub entered : {A : Type 0} (memory : W) (devices : List Placed) (es : List Entry) (m : List Item) (r : Result A Stop) → Enters g frames grants memory devices (Entered due) es m r → Played g frames grants memory devices s es m r
   entered memory devices es m (Ok x) h = (Entered due ∷ [], row (rides_in frames grants (setups devices) m), h.0, h.1)
@@ -52,18 +52,18 @@ module _ {W : Type 0} (g : Sight W) (frames grants : ℕ → ℕ) (s : Statement
         of = none_of;
         so_far = subst (λ (x : List Item). IsPromptHistory frames grants (setups devices) x) (sym (append-nil m)) (stands_prompt g frames grants memory devices m h.0);
         entered = ap entries (append-nil m) ∙ h.1;
-        cause = entered_cause (setups devices) stop m es (next_prompt g frames grants memory devices m (Entered due) h.0 h.2) h.3;
+        cause = entered_cause (setups devices) stop m es (settled_all g frames grants memory devices m h.0) (next_prompt g frames grants memory devices m (Entered due) h.0 h.2) h.3;
       }
 
 -- a statement that steps a device
 module _ {W : Type 0} (g : Sight W) (frames grants : ℕ → ℕ) (s : Statement) (dev : DevId) (most : Option ℕ)
     (part_of : (h : List Item) → AreSteps dev.0 h → AtMost most (accesses_in h) → IsPartOf s h) where
-  stepped_cause : (devices : List DeviceSetup) (stop : Stop) (m here due : List Item) (es : List Entry) → AreSteps dev.0 (here ++ due) → AtMost most (accesses_in (here ++ due)) → IsPromptHistory frames grants devices (m ++ (here ++ due)) → Lacks stop due es → HasCauseIn frames grants devices s m here es stop
-  stepped_cause devices JournalFull m here due es steps within h lacks =
-      let further = lacks.1.0 in
-      let rest = lacks.1.1 in
+  stepped_cause : (rides : List Item → Option Said) (devices : List DeviceSetup) (stop : Stop) (m here due : List Item) (es : List Entry) → AreSteps dev.0 (here ++ due) → AtMost most (accesses_in (here ++ due)) → AreSettled frames grants devices (m ++ (here ++ due)) → IsPromptHistory frames grants devices (m ++ (here ++ due)) → Lacks rides stop dev here due es → HasCauseIn frames grants devices s m here es stop
+  stepped_cause rides devices JournalFull m here due es steps within whole h lacks =
+      let further = lacks.1.further in
+      let rest = lacks.1.later in
       let next : List Item = here ++ Entered further ∷ [] in
-      let split : here ++ due ≡ next ++ rest = ap (λ (y : List Item). here ++ y) lacks.1.2 ∙ sym (append_assoc here (Entered further ∷ []) rest) in
+      let split : here ++ due ≡ next ++ rest = ap (λ (y : List Item). here ++ y) lacks.1.due_is ∙ sym (append_assoc here (Entered further ∷ []) rest) in
       let all : m ++ (here ++ due) ≡ (m ++ next) ++ rest = ap (λ (y : List Item). m ++ y) split ∙ sym (append_assoc m next rest) in
       record {
         length_is = lacks.0;
@@ -74,9 +74,10 @@ module _ {W : Type 0} (g : Sight W) (frames grants : ℕ → ℕ) (s : Statement
             (at_most_front most next rest (subst (λ (y : List Item). AtMost most (accesses_in y)) split within))
             );
       }
-  stepped_cause devices OutOfMemory m here due es steps within h lacks = lacks.0
+  stepped_cause rides devices OutOfMemory m here due es steps within whole h lacks =
+      (lacks.0, subst (λ (y : List Item). AreSettled frames grants devices (m ++ y)) (ap (λ (y : List Item). here ++ y) lacks.1 ∙ append-nil here) whole)
 
-  pub stops : (memory : W) (devices : List Placed) (stop : Stop) (m : List Item) (es : List Entry) → StopsIn g frames grants memory devices dev.0 most stop m es → StopsAt frames grants (setups devices) s stop m es
+  pub stops : (memory : W) (devices : List Placed) (stop : Stop) (m : List Item) (es : List Entry) → StopsIn g frames grants memory devices dev most stop m es → StopsAt frames grants (setups devices) s stop m es
   stops memory devices stop m es h =
       let whole = stands_prompt g frames grants memory devices (m ++ (h.here ++ h.due)) h.stands in
       let parts : m ++ (h.here ++ h.due) ≡ (m ++ h.here) ++ h.due = sym (append_assoc m h.here h.due) in
@@ -85,7 +86,7 @@ module _ {W : Type 0} (g : Sight W) (frames grants : ℕ → ℕ) (s : Statement
         of = part_of h.here (steps_front dev.0 h.here h.due h.steps) (at_most_front most h.here h.due h.within);
         so_far = front_prompt frames grants (setups devices) (m ++ h.here) h.due (subst (λ (y : List Item). IsPromptHistory frames grants (setups devices) y) parts whole);
         entered = h.entered;
-        cause = stepped_cause (setups devices) stop m h.here h.due es h.steps h.within whole h.cause;
+        cause = stepped_cause (λ x. due_by frames grants (setups devices) dev.0 (m ++ x)) (setups devices) stop m h.here h.due es h.steps h.within (settled_all g frames grants memory devices (m ++ (h.here ++ h.due)) h.stands) whole h.cause;
       }
 
 module _ {W : Type 0} (g : Sight W) (frames grants : ℕ → ℕ) where
@@ -181,6 +182,16 @@ nothing_played s es e =
       follows = record { done = []; left = s.statements; followed = []; part = []; statements = refl; items = refl; follows = refl; begun = none_begun _ s.statements };
     }
 
+-- which is whole
+pub nothing_wanting : (s : Scenario) (es : List Entry) → es ≡ [] → IsWantingFor s es
+unfolding nothing_played
+nothing_wanting s es e =
+    record {
+      below = subst (λ (x : List Entry). length x < 8388608) (sym e) (omega arith);
+      legal = nothing_played s es e;
+      whole = all_of (IsSettledIn (frames_by s.sizes) (grants_by s.sizes) []) (λ d. first_settled d.kind (site_of (frames_by s.sizes) (grants_by s.sizes) d)) s.devices;
+    }
+
 module _ (s : Scenario) (i : ℕ) (x : Statement) (inside : i < length s.statements) (item : x ≡ get_or s.statements i x) where
   rest_is : drop i s.statements ≡ x ∷ drop (i + 1) s.statements
   rest_is = drop_more s.statements i x inside ∙ ap (λ (y : Statement). y ∷ drop (i + 1) s.statements) (sym item)
@@ -201,7 +212,7 @@ module _ (s : Scenario) (i : ℕ) (x : Statement) (inside : i < length s.stateme
         begun = subst (λ (ss : List Statement). IsBegun (rides_in (frames_by s.sizes) (grants_by s.sizes) s.devices followed) ss more) (sym rest_is) begun;
       }
 
-  pub stops_legal : (stop : Stop) (followed : List Item) (es : List Entry) → Follows (frames_by s.sizes) (grants_by s.sizes) s.devices (take i s.statements) [] followed → StopsAt (frames_by s.sizes) (grants_by s.sizes) s.devices x stop followed es → IsLegalTo s es
+  stops_legal : (stop : Stop) (followed : List Item) (es : List Entry) → Follows (frames_by s.sizes) (grants_by s.sizes) s.devices (take i s.statements) [] followed → StopsAt (frames_by s.sizes) (grants_by s.sizes) s.devices x stop followed es → IsLegalTo s es
   stops_legal stop followed es f h =
       record {
         marked = followed ++ h.part;
@@ -223,14 +234,20 @@ module _ (s : Scenario) (i : ℕ) (x : Statement) (inside : i < length s.stateme
         };
       }
 
-  pub stops_full : (stop : Stop) (followed : List Item) (es : List Entry) → stop ≡ JournalFull → Follows (frames_by s.sizes) (grants_by s.sizes) s.devices (take i s.statements) [] followed → StopsAt (frames_by s.sizes) (grants_by s.sizes) s.devices x stop followed es → IsFullFor s es
+  stops_full : (stop : Stop) (followed : List Item) (es : List Entry) → stop ≡ JournalFull → Follows (frames_by s.sizes) (grants_by s.sizes) s.devices (take i s.statements) [] followed → StopsAt (frames_by s.sizes) (grants_by s.sizes) s.devices x stop followed es → IsFullFor s es
   stops_full stop followed es full f h =
       full_in followed h.part es f h.entered (subst (λ (y : Stop). HasCauseIn (frames_by s.sizes) (grants_by s.sizes) s.devices x followed h.part es y) full h.cause)
 
-  -- or memory was wanting below the limit
-  pub stops_below : (stop : Stop) (followed : List Item) (es : List Entry) → stop ≡ OutOfMemory → StopsAt (frames_by s.sizes) (grants_by s.sizes) s.devices x stop followed es → length es < 8388608
-  stops_below stop followed es wanting h =
-      subst (λ (y : Stop). HasCauseIn (frames_by s.sizes) (grants_by s.sizes) s.devices x followed h.part es y) wanting h.cause
+  -- or memory was wanting below the limit, between steps
+  stops_wanting : (stop : Stop) (followed : List Item) (es : List Entry) → stop ≡ OutOfMemory → Follows (frames_by s.sizes) (grants_by s.sizes) s.devices (take i s.statements) [] followed → StopsAt (frames_by s.sizes) (grants_by s.sizes) s.devices x stop followed es → IsWantingFor s es
+  unfolding stops_legal
+  stops_wanting stop followed es wanting f h =
+      let cause = subst (λ (y : Stop). HasCauseIn (frames_by s.sizes) (grants_by s.sizes) s.devices x followed h.part es y) wanting h.cause in
+      record { below = cause.0; legal = stops_legal stop followed es f h; whole = cause.1 }
+
+  -- all that a stop shows of the whole play
+  pub stops_play : (stop : Stop) (followed : List Item) (es : List Entry) → Follows (frames_by s.sizes) (grants_by s.sizes) s.devices (take i s.statements) [] followed → StopsAt (frames_by s.sizes) (grants_by s.sizes) s.devices x stop followed es → IsLegalTo s es × (stop ≡ JournalFull → IsFullFor s es) × (stop ≡ OutOfMemory → IsWantingFor s es)
+  stops_play stop followed es f h = (stops_legal stop followed es f h, λ full. stops_full stop followed es full f h, λ wanting. stops_wanting stop followed es wanting f h)
 
 -- what a scenario that was read keeps, at one of its statements
 pub all_at : {X : Type 0} (P : X → Type 0) (xs : List X) (i : ℕ) (d : X) → AllByRecursion P xs → i < length xs → P (get_or xs i d)

@@ -1,12 +1,12 @@
 -- Legal journals.
-use Rattle.std.specs.Prelude.{◌≡◌, List, [], ◌∷◌, ◌++◌, length}
+use Rattle.std.specs.Prelude.{◌≡◌, ◌<◌, List, [], ◌∷◌, ◌++◌, length}
 use Rattle.std.specs.List.{AllByRecursion}
 use Rattle.pv_words.specs.declared.entry.Entry.{Entry}
 use Rattle.pv_words.specs.Sizes.{frames_by, grants_by}
 use Rattle.scenario_text.specs.Scenario.{Scenario}
 use Rattle.backend_core.specs.Marked.{Item, entries}
 use Rattle.backend_core.specs.History.{AnswersIn, IsHistory, IsMachineRunIn, IsPromptIn, KeepsIn}
-use Rattle.scenario_run.specs.Follows.{Follows, FollowsTo}
+use Rattle.scenario_run.specs.Follows.{AreSettled, Follows, FollowsTo}
 
 -- Whatever was played: the journal is lawful and explained; what each device says and hears is a run of the display
 -- machine, whose accepted requests are answered, and its accesses stay in the pages that it mapped and hasn't unmapped.
@@ -37,3 +37,10 @@ pub record IsFullFor (s : Scenario) (es : List Entry) : Type 0 where
   pub length_is : length es ≡ 8388608
   pub due : Entry
   pub goes_on : IsLegalTo s (es ++ due ∷ [])
+
+-- the journal has room for further entries, and is whole: no step of a device is cut in two, and no event of a host waits
+-- for its refusal
+pub record IsWantingFor (s : Scenario) (es : List Entry) : Type 0 where
+  pub below : length es < 8388608
+  pub legal : IsLegalTo s es
+  pub whole : AreSettled (frames_by s.sizes) (grants_by s.sizes) s.devices legal.marked

@@ -14,7 +14,7 @@ use Rattle.pv_words.specs.Port.{IsUnkept, Port}
 use Rattle.scenario_text.specs.declared.statement.Statement.TheVariants.{Put, Fill, Swap, Open, End, Node, Bus, Wake, Back, Serve}
 use Rattle.backend_core.specs.History.{IsHistory, IsPromptIn, is_declared, parts_by}
 use Rattle.pv_world.specs.World.{FromEach, Sight, Stands, devices_of, memory_of, setups}
-use Rattle.scenario_run.specs.Follows.{IsRow, IsPartOf, rides_in}
+use Rattle.scenario_run.specs.Follows.{AreSettled, IsRow, IsPartOf, rides_in}
 
 -- a history in which devices say and refuse without delay
 abbrev pub IsPromptHistory : (frames grants : ℕ → ℕ) → List DeviceSetup → List Item → Type 0
@@ -27,9 +27,10 @@ pub record IsFullIn (frames grants : ℕ → ℕ) (devices : List DeviceSetup) (
   pub goes_on : IsPromptHistory frames grants devices (m ++ (part ++ Entered due ∷ []))
   pub next : IsPartOf s (part ++ Entered due ∷ []) ⊎ IsRow (rides_in frames grants devices m) s (part ++ Entered due ∷ [])
 
+-- or memory was wanting below its limit, and the journal stands at whole steps: no device owes the rest of one
 abbrev pub HasCauseIn : (frames grants : ℕ → ℕ) (devices : List DeviceSetup) (s : Statement) (m part : List Item) (es : List Entry) → Stop → Type 0
 HasCauseIn frames grants devices s m part es JournalFull = IsFullIn frames grants devices s m part es
-HasCauseIn frames grants devices s m part es OutOfMemory = length es < 8388608
+HasCauseIn frames grants devices s m part es OutOfMemory = (length es < 8388608) × AreSettled frames grants devices (m ++ part)
 
 -- the statement was played in part
 pub record StopsAt (frames grants : ℕ → ℕ) (devices : List DeviceSetup) (s : Statement) (stop : Stop) (m : List Item) (es : List Entry) : Type 0 where

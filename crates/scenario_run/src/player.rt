@@ -1,13 +1,13 @@
 //! Plays the statements of a scenario, one after another.
 
-ghost use Rattle.std.specs.Prelude.{◌≡◌, ◌<◌, [], length, OnOk, OnErr, Err};
+ghost use Rattle.std.specs.Prelude.{◌≡◌, [], OnOk, OnErr, Err};
 ghost use Rattle.pv_words.specs.declared.journal.Stop.TheVariants as stop;
 ghost use Rattle.pv_words.specs.Port.{KeepsNone, KeepsSame};
 ghost use Rattle.pv_words.specs.Sizes.{frames_by, grants_by};
 ghost use Rattle.scenario_text.specs.Playable.{IsPlayable};
 ghost use Rattle.scenario_text.specs.declared.statement.Statement.TheVariants as statement;
 ghost use Rattle.pv_world.specs.World.{StandingAt, Stands, devices_of, memory_of, setups, sight};
-ghost use Rattle.scenario_run.specs.Legal.{IsLegal, IsLegalTo, IsFullFor};
+ghost use Rattle.scenario_run.specs.Legal.{IsFullFor, IsLegal, IsLegalTo, IsWantingFor};
 ghost use Rattle.scenario_run.specs.Played.{CanPlayIn, PlaysFrom};
 
 use pv_words::{Frame, GrantRef, Journal, ListWords, Machine, Place, Stop};
@@ -118,7 +118,7 @@ fn play_all<W: Machine>(
     ensures ok { OnOk result (IsLegal script.now journal.new.entries) }
     ensures stopped { OnErr result (IsLegalTo script.now journal.new.entries) }
     ensures full { result ≡ Err stop.JournalFull → IsFullFor script.now journal.new.entries }
-    ensures wanting { result ≡ Err stop.OutOfMemory → length journal.new.entries < 8388608 }
+    ensures wanting { result ≡ Err stop.OutOfMemory → IsWantingFor script.now journal.new.entries }
 {
     let statements = script.statements();
     for statement in statements {
@@ -128,13 +128,13 @@ fn play_all<W: Machine>(
 }
 
 /// Plays a script over a list of words, all 0 at the beginning; a script can always be played. After a Stop the entries
-/// so far stand.
+/// so far stand; where memory was wanting, no step of a device among them is cut in two.
 pub fn play(alloc: Global, script: &Script, journal: &mut Journal) -> Result<(), Stop>
     requires { journal.old.entries ≡ [] }
     ensures ok { OnOk result (IsLegal script.now journal.new.entries) }
     ensures stopped { OnErr result (IsLegalTo script.now journal.new.entries) }
     ensures full { result ≡ Err stop.JournalFull → IsFullFor script.now journal.new.entries }
-    ensures wanting { result ≡ Err stop.OutOfMemory → length journal.new.entries < 8388608 }
+    ensures wanting { result ≡ Err stop.OutOfMemory → IsWantingFor script.now journal.new.entries }
 {
     let setup = script.setup();
     let Ok(memory) = ListWords::new(alloc, &setup.sizes) else {

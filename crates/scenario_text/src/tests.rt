@@ -1,8 +1,12 @@
 use super::*;
+use crate::FaultKind::{
+    BadNumber, BadWord, ExtraWord, Late, MissingWord, OutOfRange, Twice, Undeclared,
+};
 use pv_words::{
     DevId, DeviceKind, DeviceSetup, DomId, DomainSize, Frame, GrantRef, Half, Kind, Mode,
     NodeValue, Place, State,
 };
+use std::alloc::Global;
 use std::process::Abort;
 use std::test::*;
 
@@ -11,6 +15,24 @@ fn fault_of(rt: &impl Abort, parsed: Result<Script, ParseFault>) -> (u32, u32, F
         Err(ParseFault::Fault(ScriptFault { line, column, kind })) => (line, column, kind),
         _ => panic!(rt; "the text has a fault"),
     }
+}
+
+// Behind this head each of these ends has its first fault at this line and column of the whole text.
+fn expect_faults(
+    rt: &impl Abort,
+    alloc: Global,
+    head: &str,
+    rows: &[(&str, u32, u32, FaultKind)],
+) -> Result<(), Fail> {
+    for (end, line, column, kind) in rows {
+        let mut text = Vec::new(alloc);
+        text.extend_from_slice(head.as_bytes())?;
+        text.extend_from_slice(end.as_bytes())?;
+        assert!(rt; text.len() < 200);
+        let parsed = Script::parse(alloc, &text);
+        assert_eq!(rt; fault_of(rt, parsed), (*line, *column, *kind));
+    }
+    Ok(())
 }
 
 #[test]
@@ -166,213 +188,69 @@ fn faults(rt: HostRuntime) {
 }
 
 #[test]
-fn faults_of_grants(rt: HostRuntime) {
-    let no_half = Script::parse(rt.alloc(), b"domain 1 wild 1 2\nputg 1 0 flag 1");
-    assert_eq!(rt; fault_of(&rt, no_half), (2, 10, FaultKind::BadWord));
-    let short = Script::parse(rt.alloc(), b"domain 1 wild 1 2\nputg 1 0 flags");
-    assert_eq!(rt; fault_of(&rt, short), (2, 15, FaultKind::MissingWord));
-    let no_grant = Script::parse(rt.alloc(), b"domain 1 wild 1 2\nswap 1 5 0 0");
-    assert_eq!(rt; fault_of(&rt, no_grant), (2, 8, FaultKind::OutOfRange));
-    let no_mode = Script::parse(rt.alloc(), b"domain 1 wild 1 2\nopen 1 0 0 rx 1");
-    assert_eq!(rt; fault_of(&rt, no_mode), (2, 12, FaultKind::BadWord));
-    let beyond = Script::parse(rt.alloc(), b"domain 1 wild 1 2\nopen 1 1 0 rw 2");
-    assert_eq!(rt; fault_of(&rt, beyond), (2, 15, FaultKind::OutOfRange));
-    let none = Script::parse(rt.alloc(), b"domain 1 wild 1 2\nend 1 0 0");
-    assert_eq!(rt; fault_of(&rt, none), (2, 9, FaultKind::OutOfRange));
+fn faults_of_grants(rt: HostRuntime) -> Result<(), Fail> {
+    let rows = [
+        ("putg 1 0 flag 1", 2, 10, BadWord),
+        ("putg 1 0 flags", 2, 15, MissingWord),
+        ("swap 1 5 0 0", 2, 8, OutOfRange),
+        ("open 1 0 0 rx 1", 2, 12, BadWord),
+        ("open 1 1 0 rw 2", 2, 15, OutOfRange),
+        ("end 1 0 0", 2, 9, OutOfRange),
+    ];
+    expect_faults(&rt, rt.alloc(), "domain 1 wild 1 2\n", &rows)
 }
 
 #[test]
-fn faults_of_fills(rt: HostRuntime) {
-    for (text, column, kind) in [
-        (
-            b"domain 1 wild 2 0\nfill 1 2 1024 0 x".as_slice(),
-            8,
-            FaultKind::OutOfRange,
-        ),
-        (
-            b"domain 1 wild 2 0\nfill 1 1 1024 0 x".as_slice(),
-            10,
-            FaultKind::OutOfRange,
-        ),
-        (
-            b"domain 1 wild 2 0\nfill 1 1 1023 0 x".as_slice(),
-            15,
-            FaultKind::OutOfRange,
-        ),
-        (
-            b"domain 1 wild 2 0\nfill 1 1 1023 2 x".as_slice(),
-            15,
-            FaultKind::OutOfRange,
-        ),
-        (
-            b"domain 1 wild 2 0\nfill 1 1 1023 1 x".as_slice(),
-            17,
-            FaultKind::BadNumber,
-        ),
-        (
-            b"domain 1 wild 2 0\nfill 1 0 1 2047 4294967296 0".as_slice(),
-            17,
-            FaultKind::OutOfRange,
-        ),
-        (
-            b"domain 1 wild 2 0\nfill 1 0 1 2047 0 4294967296".as_slice(),
-            19,
-            FaultKind::OutOfRange,
-        ),
-        (
-            b"domain 1 wild 2 0\nfill 1 0 1 2047 0".as_slice(),
-            18,
-            FaultKind::MissingWord,
-        ),
-        (
-            b"domain 1 wild 2 0\nfill 1 0 1 2048 0 0 0".as_slice(),
-            12,
-            FaultKind::OutOfRange,
-        ),
-        (
-            b"domain 1 wild 2 0\nfill 1 0 1 2047 0 0 0".as_slice(),
-            21,
-            FaultKind::ExtraWord,
-        ),
-    ] {
-        let parsed = Script::parse(rt.alloc(), text);
-        assert_eq!(rt; fault_of(&rt, parsed), (2, column, kind), "at {column}");
-    }
+fn faults_of_fills(rt: HostRuntime) -> Result<(), Fail> {
+    let rows = [
+        ("fill 1 2 1024 0 x", 2, 8, OutOfRange),
+        ("fill 1 1 1024 0 x", 2, 10, OutOfRange),
+        ("fill 1 1 1023 0 x", 2, 15, OutOfRange),
+        ("fill 1 1 1023 2 x", 2, 15, OutOfRange),
+        ("fill 1 1 1023 1 x", 2, 17, BadNumber),
+        ("fill 1 0 1 2047 4294967296 0", 2, 17, OutOfRange),
+        ("fill 1 0 1 2047 0 4294967296", 2, 19, OutOfRange),
+        ("fill 1 0 1 2047 0", 2, 18, MissingWord),
+        ("fill 1 0 1 2048 0 0 0", 2, 12, OutOfRange),
+        ("fill 1 0 1 2047 0 0 0", 2, 21, ExtraWord),
+    ];
+    expect_faults(&rt, rt.alloc(), "domain 1 wild 2 0\n", &rows)
 }
 
 #[test]
-fn faults_of_devices(rt: HostRuntime) {
-    for (text, line, column, kind) in [
-        (
-            b"domain 1 wild 1 0\ndisplay 1 1 1\ndisplay 1 1 1".as_slice(),
-            3,
-            9,
-            FaultKind::Twice,
-        ),
-        (
-            b"domain 1 wild 1 0\ndisplay 0 1 1".as_slice(),
-            2,
-            9,
-            FaultKind::OutOfRange,
-        ),
-        (
-            b"domain 1 wild 1 0\ndisplay 17 2 1".as_slice(),
-            2,
-            9,
-            FaultKind::OutOfRange,
-        ),
-        (
-            b"domain 1 wild 1 0\ndisplay 1 2 5".as_slice(),
-            2,
-            11,
-            FaultKind::Undeclared,
-        ),
-        (
-            b"domain 1 wild 1 0\ndisplay 1 1 0".as_slice(),
-            2,
-            13,
-            FaultKind::OutOfRange,
-        ),
-        (
-            b"domain 1 wild 1 0\ndisplay 1 1 5".as_slice(),
-            2,
-            13,
-            FaultKind::OutOfRange,
-        ),
-        (
-            b"domain 1 wild 1 0\ndisplay 1 1 1\nwake 1\ndisplay 2 1 1".as_slice(),
-            4,
-            1,
-            FaultKind::Late,
-        ),
-    ] {
-        let parsed = Script::parse(rt.alloc(), text);
-        assert_eq!(rt; fault_of(&rt, parsed), (line, column, kind), "at {column}");
-    }
+fn faults_of_devices(rt: HostRuntime) -> Result<(), Fail> {
+    let rows = [
+        ("display 1 1 1\ndisplay 1 1 1", 3, 9, Twice),
+        ("display 0 1 1", 2, 9, OutOfRange),
+        ("display 17 2 1", 2, 9, OutOfRange),
+        ("display 1 2 5", 2, 11, Undeclared),
+        ("display 1 1 0", 2, 13, OutOfRange),
+        ("display 1 1 5", 2, 13, OutOfRange),
+        ("display 1 1 1\nwake 1\ndisplay 2 1 1", 4, 1, Late),
+    ];
+    expect_faults(&rt, rt.alloc(), "domain 1 wild 1 0\n", &rows)
 }
 
 #[test]
-fn faults_of_statements_of_devices(rt: HostRuntime) {
-    for (text, column, kind) in [
-        (
-            b"domain 4 wild 1 0\ndisplay 1 4 4\nnode 1 4 version 1".as_slice(),
-            8,
-            FaultKind::OutOfRange,
-        ),
-        (
-            b"domain 4 wild 1 0\ndisplay 1 4 4\nnode 17 4 version 1".as_slice(),
-            6,
-            FaultKind::OutOfRange,
-        ),
-        (
-            b"domain 4 wild 1 0\ndisplay 1 4 4\nnode 2 4 version 1".as_slice(),
-            6,
-            FaultKind::Undeclared,
-        ),
-        (
-            b"domain 4 wild 1 0\ndisplay 1 4 4\nnode 1 0x4 version 1".as_slice(),
-            8,
-            FaultKind::OutOfRange,
-        ),
-        (
-            b"domain 4 wild 1 0\ndisplay 1 4 4\nnode 1 0 version 1".as_slice(),
-            10,
-            FaultKind::BadWord,
-        ),
-        (
-            b"domain 4 wild 1 0\ndisplay 1 4 4\nnode 1 0 req-ring-ref".as_slice(),
-            22,
-            FaultKind::MissingWord,
-        ),
-        (
-            b"domain 4 wild 1 0\ndisplay 1 4 4\nnode 1 0 req-ring-ref 1 2".as_slice(),
-            25,
-            FaultKind::ExtraWord,
-        ),
-        (
-            b"domain 4 wild 1 0\ndisplay 1 4 4\nbus 1 9".as_slice(),
-            7,
-            FaultKind::OutOfRange,
-        ),
-        (
-            b"domain 4 wild 1 0\ndisplay 1 4 4\nbus 1 4294967296".as_slice(),
-            7,
-            FaultKind::OutOfRange,
-        ),
-        (
-            b"domain 4 wild 1 0\ndisplay 1 4 4\nbus 1 x".as_slice(),
-            7,
-            FaultKind::BadNumber,
-        ),
-        (
-            b"domain 4 wild 1 0\ndisplay 1 4 4\nwake 0".as_slice(),
-            6,
-            FaultKind::OutOfRange,
-        ),
-        (
-            b"domain 4 wild 1 0\ndisplay 1 4 4\nwake 16".as_slice(),
-            6,
-            FaultKind::Undeclared,
-        ),
-        (
-            b"domain 4 wild 1 0\ndisplay 1 4 4\nback 1".as_slice(),
-            7,
-            FaultKind::MissingWord,
-        ),
-        (
-            b"domain 4 wild 1 0\ndisplay 1 4 4\nback 1 0".as_slice(),
-            8,
-            FaultKind::OutOfRange,
-        ),
-        (
-            b"domain 4 wild 1 0\ndisplay 1 4 4\nback 1 4294967296".as_slice(),
-            8,
-            FaultKind::OutOfRange,
-        ),
-    ] {
-        let parsed = Script::parse(rt.alloc(), text);
-        assert_eq!(rt; fault_of(&rt, parsed), (3, column, kind), "at {column}");
-    }
+fn faults_of_statements_of_devices(rt: HostRuntime) -> Result<(), Fail> {
+    let rows = [
+        ("node 1 4 version 1", 3, 8, OutOfRange),
+        ("node 17 4 version 1", 3, 6, OutOfRange),
+        ("node 2 4 version 1", 3, 6, Undeclared),
+        ("node 1 0x4 version 1", 3, 8, OutOfRange),
+        ("node 1 0 version 1", 3, 10, BadWord),
+        ("node 1 0 req-ring-ref", 3, 22, MissingWord),
+        ("node 1 0 req-ring-ref 1 2", 3, 25, ExtraWord),
+        ("bus 1 9", 3, 7, OutOfRange),
+        ("bus 1 4294967296", 3, 7, OutOfRange),
+        ("bus 1 x", 3, 7, BadNumber),
+        ("wake 0", 3, 6, OutOfRange),
+        ("wake 16", 3, 6, Undeclared),
+        ("back 1", 3, 7, MissingWord),
+        ("back 1 0", 3, 8, OutOfRange),
+        ("back 1 4294967296", 3, 8, OutOfRange),
+    ];
+    expect_faults(&rt, rt.alloc(), "domain 4 wild 1 0\ndisplay 1 4 4\n", &rows)
 }
 
 #[test]

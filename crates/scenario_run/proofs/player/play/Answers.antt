@@ -6,7 +6,7 @@ use Rattle.pv_words.specs.Sizes.{frames_by, grants_by}
 use Rattle.backend_core.specs.History.{AreApart}
 use Rattle.pv_world.specs.World.{HasParts}
 use Rattle.scenario_run.proofs.Devices.{all_known, apart, have_parts}
-use Rattle.scenario_run.proofs.Plays.{nothing_played}
+use Rattle.scenario_run.proofs.Plays.{nothing_played, nothing_wanting}
 use Rattle.scenario_run.proofs.player.play.Goals as goal
 
 pub new-requires-2 : goal.new-requires-2
@@ -34,3 +34,9 @@ returns-in_default-clause-stopped c = nothing_played c.args.script.now c.args.jo
 
 pub returns-in-Err-clause-stopped : goal.returns-in-Err-clause-stopped
 returns-in-Err-clause-stopped c = nothing_played c.args.script.now c.args.journal.now.entries c.requires
+
+pub returns-in_default-clause-wanting : goal.returns-in_default-clause-wanting
+returns-in_default-clause-wanting c = λ wanting. nothing_wanting c.args.script.now c.args.journal.now.entries c.requires
+
+pub returns-in-Err-clause-wanting : goal.returns-in-Err-clause-wanting
+returns-in-Err-clause-wanting c = λ wanting. nothing_wanting c.args.script.now c.args.journal.now.entries c.requires

@@ -10,9 +10,12 @@ use Rattle.scenario_text.specs.declared.statement.Statement.TheVariants.{Put}
 use Rattle.scenario_text.specs.Playable.{IsPlayed}
 use Rattle.pv_world.specs.World.{setups, devices_of, memory_of}
 use Rattle.scenario_run.specs.Follows.{AreSettled, Follows, IsRow, rides_in}
+use Rattle.scenario_run.specs.Legal.{IsFullFor, IsLegalTo, IsWantingFor}
 use Rattle.scenario_run.specs.Played.{IsPromptHistory, StopsAt}
-use Rattle.scenario_run.proofs.Plays.{all_at, can_play, stops_legal, stops_full, stops_below, follows_push, front_is, true_journal}
+use Rattle.scenario_run.proofs.Plays.{all_at, can_play, follows_push, front_is, stops_play, true_journal}
 use Rattle.scenario_run.proofs.Wholes.{settled_all}
+use Rattle.scenario_run.proofs.player.play_all.Given.{Over}
+use Rattle.scenario_run.proofs.player.play_all.Goals.{In_err-play_statement}
 use Rattle.scenario_run.proofs.player.play_all.Goals as goal
 
 -- a statement that no list has at a place beyond its end
@@ -32,46 +35,35 @@ play_statement-requires-clause-playable g c =
     let played = all_at (IsPlayed s) s.statements i beyond c.requires.playable.statements inside in
     rw c.statements-statements.ensures (can_play s (g.W.Words.frames_of (memory_of c.loop-statement.world)) (g.W.Words.grants_of (memory_of c.loop-statement.world)) (g.W.Words.port (memory_of c.loop-statement.world)) (setups (devices_of c.loop-statement.world)) (get_or s.statements i beyond) inv.2.frames_are inv.2.grants_are inv.5 inv.4 c.requires.playable.sizes c.requires.playable.devices played)
 
-pub returns-in_err-play_statement-clause-stopped : goal.returns-in_err-play_statement-clause-stopped
-returns-in_err-play_statement-clause-stopped g c =
-    let p = err_from_is_err_and c.from_residual.result c.from_residual.ensures.1 in
+-- what the statement that was stopped shows of the play
+stopped : (g : Over) (c : In_err-play_statement g) → IsLegalTo c.args.script.now c.play_statement.new.journal.entries × (c.in_err-play_statement.field-0.0 ≡ JournalFull → IsFullFor c.args.script.now c.play_statement.new.journal.entries) × (c.in_err-play_statement.field-0.0 ≡ OutOfMemory → IsWantingFor c.args.script.now c.play_statement.new.journal.entries)
+stopped g c =
     let s = c.args.script.now in
     let i = c.loop-statement.statement-index in
     let inv = c.loop-statement.invariant in
-    let xs = c.statements-statements.result.now in
+    let x = get_or c.statements-statements.result.now i beyond in
     let inside : i < length s.statements = omega (arith, ap length c.statements-statements.ensures) in
     let es = c.play_statement.new.journal.entries in
     let stop = c.in_err-play_statement.field-0.0 in
-    let stopped = subst (λ (ds : List DeviceSetup). StopsAt (frames_by s.sizes) (grants_by s.sizes) ds (get_or xs i beyond) stop inv.0 es) (c.play_statement.ensures.devices ∙ inv.4) (c.in_err-play_statement.ensures.played (frames_by s.sizes) (grants_by s.sizes) inv.0 inv.2 inv.3) in
-    rw p.1 (stops_legal s i (get_or xs i beyond) inside (turn xs s.statements i c.statements-statements.ensures inside) stop inv.0 es inv.1 stopped)
+    let at = subst (λ (ds : List DeviceSetup). StopsAt (frames_by s.sizes) (grants_by s.sizes) ds x stop inv.0 es) (c.play_statement.ensures.devices ∙ inv.4) (c.in_err-play_statement.ensures.played (frames_by s.sizes) (grants_by s.sizes) inv.0 inv.2 inv.3) in
+    stops_play s i x inside (turn c.statements-statements.result.now s.statements i c.statements-statements.ensures inside) stop inv.0 es inv.1 at
+
+pub returns-in_err-play_statement-clause-stopped : goal.returns-in_err-play_statement-clause-stopped
+returns-in_err-play_statement-clause-stopped g c =
+    let p = err_from_is_err_and c.from_residual.result c.from_residual.ensures.1 in
+    rw p.1 (stopped g (goal.at.returns-in_err-play_statement-clause-stopped g c).In_err-play_statement).0
 
 pub returns-in_err-play_statement-clause-full : goal.returns-in_err-play_statement-clause-full
 returns-in_err-play_statement-clause-full g c = λ full.
     let p = err_from_is_err_and c.from_residual.result c.from_residual.ensures.1 in
-    let s = c.args.script.now in
-    let i = c.loop-statement.statement-index in
-    let inv = c.loop-statement.invariant in
-    let xs = c.statements-statements.result.now in
-    let inside : i < length s.statements = omega (arith, ap length c.statements-statements.ensures) in
-    let es = c.play_statement.new.journal.entries in
-    let stop = c.in_err-play_statement.field-0.0 in
-    let is_full : stop ≡ JournalFull = cc (p.1, p.2, full) in
-    let stopped = subst (λ (ds : List DeviceSetup). StopsAt (frames_by s.sizes) (grants_by s.sizes) ds (get_or xs i beyond) stop inv.0 es) (c.play_statement.ensures.devices ∙ inv.4) (c.in_err-play_statement.ensures.played (frames_by s.sizes) (grants_by s.sizes) inv.0 inv.2 inv.3) in
-    stops_full s i (get_or xs i beyond) inside (turn xs s.statements i c.statements-statements.ensures inside) stop inv.0 es is_full inv.1 stopped
+    let is_full : c.in_err-play_statement.field-0.0 ≡ JournalFull = cc (p.1, p.2, full) in
+    (stopped g (goal.at.returns-in_err-play_statement-clause-full g c).In_err-play_statement).1 is_full
 
 pub returns-in_err-play_statement-clause-wanting : goal.returns-in_err-play_statement-clause-wanting
 returns-in_err-play_statement-clause-wanting g c = λ below.
     let p = err_from_is_err_and c.from_residual.result c.from_residual.ensures.1 in
-    let s = c.args.script.now in
-    let i = c.loop-statement.statement-index in
-    let inv = c.loop-statement.invariant in
-    let xs = c.statements-statements.result.now in
-    let inside : i < length s.statements = omega (arith, ap length c.statements-statements.ensures) in
-    let es = c.play_statement.new.journal.entries in
-    let stop = c.in_err-play_statement.field-0.0 in
-    let wanting : stop ≡ OutOfMemory = cc (p.1, p.2, below) in
-    let stopped = subst (λ (ds : List DeviceSetup). StopsAt (frames_by s.sizes) (grants_by s.sizes) ds (get_or xs i beyond) stop inv.0 es) (c.play_statement.ensures.devices ∙ inv.4) (c.in_err-play_statement.ensures.played (frames_by s.sizes) (grants_by s.sizes) inv.0 inv.2 inv.3) in
-    stops_below s i (get_or xs i beyond) inside (turn xs s.statements i c.statements-statements.ensures inside) stop inv.0 es wanting stopped
+    let wanting : c.in_err-play_statement.field-0.0 ≡ OutOfMemory = cc (p.1, p.2, below) in
+    (stopped g (goal.at.returns-in_err-play_statement-clause-wanting g c).In_err-play_statement).2 wanting
 
 pub loop-statement-preserved : goal.loop-statement-preserved
 loop-statement-preserved g c =

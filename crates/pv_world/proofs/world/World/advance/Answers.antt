@@ -18,7 +18,7 @@ returns-in_err-make_room-clause-advanced g c = λ frames grants m st e.
     let sees = sight g.W.Machine.word g.W.Words.frames_of g.W.Words.grants_of g.W.Words.port g.W.Machine.whole g.W.Machine.knows_device g.W.Machine.knows_domain in
     let w = c.args.self.now in
     let p = err_from_is_err_and c.from_residual.result c.from_residual.ensures.1 in
-    rw (p.1, p.2) (wanting sees frames grants w.memory w.devices.items c.args.dev.0 c.in_err-make_room.field-0.0 c.args.journal.now.entries c.make_room.new.journal.entries m st e c.make_room.ensures.same c.in_err-make_room.ensures.err.0 c.in_err-make_room.ensures.err.1)
+    rw (p.1, p.2) (wanting sees frames grants w.memory w.devices.items c.args.dev c.in_err-make_room.field-0.0 c.args.journal.now.entries c.make_room.new.journal.entries m st e c.make_room.ensures.same c.in_err-make_room.ensures.err.0 c.in_err-make_room.ensures.err.1)
 
 pub step-step-requires : goal.step-step-requires
 step-step-requires g c =

@@ -11,7 +11,8 @@ use Rattle.backend_core.specs.History.{IsHistory}
 use Rattle.pv_world.specs.World.{Stands, setups, sight}
 use Rattle.pv_world.proofs.Entering.{entered_one, refused_one}
 use Rattle.pv_world.proofs.News.{bus_history, bus_stands}
-use Rattle.pv_world.proofs.Devices.{declared_found, dev_same, read_is, setups_set}
+use Rattle.backend_core.proofs.Items.{dev_same}
+use Rattle.pv_world.proofs.Devices.{declared_found, read_is, setups_set}
 use Rattle.pv_world.proofs.world.World.bus.Goals as goal
 
 pub returns-in_err-admit-clause-heard : goal.returns-in_err-admit-clause-heard

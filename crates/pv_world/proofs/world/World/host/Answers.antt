@@ -15,7 +15,8 @@ use Rattle.pv_world.specs.Record.{EntersHost}
 use Rattle.pv_world.specs.World.{IsPlaced, Stands, setups, sight}
 use Rattle.pv_world.proofs.Entering.{refused_one}
 use Rattle.pv_world.proofs.News.{event_history, host_stands, hosted_as}
-use Rattle.pv_world.proofs.Devices.{at_index, declared_found, dev_same, read_is, setups_set, takes_at}
+use Rattle.backend_core.proofs.Items.{dev_same}
+use Rattle.pv_world.proofs.Devices.{at_index, declared_found, read_is, setups_set, takes_at}
 use Rattle.pv_world.proofs.world.World.host.Goals as goal
 
 pub returns-in_err-admit-clause-hosted : goal.returns-in_err-admit-clause-hosted

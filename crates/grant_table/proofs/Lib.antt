@@ -5,4 +5,5 @@ pub mod Maps
 pub mod Outcomes
 pub mod Owns
 pub mod Plans
+pub mod Refusing
 pub mod Shown

@@ -8,3 +8,4 @@ pub mod Readings
 pub mod Transitions
 pub mod WalkAlong
 pub mod Shown
+pub mod Remaining

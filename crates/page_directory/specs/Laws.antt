@@ -1,5 +1,5 @@
 -- What a walk comes to.
-use Rattle.std.specs.Prelude.{◌≡◌, ◌⊎◌, ℕ, List, ◌++◌, length, Some}
+use Rattle.std.specs.Prelude.{◌≡◌, ◌⊎◌, ℕ, false, List, [], ◌++◌, length, Some}
 use Rattle.std.specs.List.{AllByRecursion}
 use Rattle.pv_words.specs.declared.grant.Hold.{Hold}
 use Rattle.pv_words.specs.declared.grant.Mode.{Mode}
@@ -13,6 +13,8 @@ use Rattle.pv_words.specs.Plan.{FitsFrom, IsUntouched}
 use Rattle.pv_words.specs.Held.{Holds, IsProper, holding, holds_of}
 use Rattle.grant_table.specs.Laws.{IsHold, IsShown}
 use Rattle.page_directory.specs.Same.{AreSame}
+use Rattle.page_directory.specs.declared.walk.Walk.{Walk}
+use Rattle.page_directory.specs.WalkLeft.{dom_of, held_by, is_over, walk_left}
 use Rattle.page_directory.specs.Walking.{walk_plan}
 
 -- a page of the domain's, held for this mode
@@ -56,3 +58,17 @@ WalksExactly =
     (frames grants : ℕ → ℕ) (dom gref : ℕ) (mode : Mode) (count : ℕ) (others : List Hold)
     → FitsFrom (IsProper frames grants dom) (holding frames) (Leaves (frames dom) (grants dom) dom mode count others)
     (holds_of others) (walk_plan (frames dom) (grants dom) dom gref mode count)
+
+-- the pages that a walk comes to
+abbrev pub pages_in : Walked → List Hold
+pages_in (Pages ps) = ps
+pages_in (Refused r) = []
+
+-- While a walk is under way, whatever words were found so far, a device that held some pages before holds beside them just the
+-- pages that the walk tells, each as often.
+abbrev pub HoldsThroughout : Type 0
+HoldsThroughout =
+    (frames grants : ℕ → ℕ) (w : Walk) (others : List Hold) (now : Holds)
+    → is_over w ≡ false
+    → FitsFrom (IsProper frames grants (dom_of w)) (holding frames) (λ h came. AreSame h.held (others ++ pages_in came)) now (walk_left (frames (dom_of w)) (grants (dom_of w)) w)
+    → AreSame now.held (others ++ held_by w)

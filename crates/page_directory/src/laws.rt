@@ -1,15 +1,17 @@
 //! What walks come to.
 
-ghost use Rattle.page_directory.specs.Laws.{WalksExactly, WalksShow};
+ghost use Rattle.page_directory.specs.Laws.{HoldsThroughout, WalksExactly, WalksShow};
 ghost use Rattle.page_directory.specs.Reading.{ReadsExactly};
 
 /// Whatever words a walk finds, a device that held some pages before holds beside them, where the walk ends with its
 /// pages, just these, which are as many of the domain's as were asked for; and just what it held before where the walk is
-/// refused. Each access is in range and lies in a page that the device holds then, or in a grant entry of the domain. The
+/// refused. While it is under way it tells what the device holds beside the others. Each access is in range and lies in a
+/// page that the device holds then, or in a grant entry of the domain. The
 /// refusal is the one that the words show which were found last: NoNext where the reference of a next directory page was 0,
 /// and else that of the last map.
 pub fn walks_exactly()
     ensures holds { WalksExactly }
+    ensures throughout { HoldsThroughout }
     ensures shown { WalksShow }
 {}
 

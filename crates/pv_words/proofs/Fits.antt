@@ -12,6 +12,11 @@ module _ {S : Type 0} (May : S → Want → Note → Type 0) (after : S → Note
   fits_joined f Q s (Finished x) h = h
   fits_joined f Q s (Make want note more) h = (h.0, λ v. fits_joined f Q (after s note (found want v)) (more v) (h.1 v))
 
+  -- a joined plan that fits, as its first part
+  pub fits_first : {A B : Type 0} (f : A → Plan B) (Q : S → B → Type 0) (s : S) (p : Plan A) → FitsFrom May after Q s (joined p f) → FitsFrom May after (λ t x. FitsFrom May after Q t (f x)) s p
+  fits_first f Q s (Finished x) h = h
+  fits_first f Q s (Make want note more) h = (h.0, λ v. fits_first f Q (after s note (found want v)) (more v) (h.1 v))
+
   -- an end that is so is also otherwise
   pub fits_so : {A : Type 0} (P Q : S → A → Type 0) → ((t : S) (x : A) → P t x → Q t x) → (s : S) (p : Plan A) → FitsFrom May after P s p → FitsFrom May after Q s p
   fits_so P Q so s (Finished x) h = so s x h

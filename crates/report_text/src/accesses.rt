@@ -29,7 +29,7 @@ fn push_place(out: &mut Line, place: Place)
 }
 
 /// Adds what was done to a word, where, and the numbers of it.
-#[inline]
+#[inline(always)]
 fn push_parts(out: &mut Line, done: &[u8], place: Place, numbers: &[u32])
     requires { length out.old + length done.now + 38 + 11 * length numbers.now ≤ MAX_LINE_LEN }
     ensures text { out.new

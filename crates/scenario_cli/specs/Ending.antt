@@ -97,7 +97,7 @@ RunEnds with_words was is old new es status.WriteFault = EndsBy with_words was i
 RunEnds with_words was is old new es status.JournalFull = EndsBy with_words was is old new es status.JournalFull
 RunEnds with_words was is old new es (status.NotLegal l) = ⊥
 
--- how the program's words end: by their command; without a command nothing is read, played or written
+-- how a call ends that was asked for this command; where its words are none, nothing is read, played or written
 abbrev pub Ends : Option Command → (was is : SourceTold) (old new : SinkTold) (es : List Entry) → Status → Type 0
 Ends None was is old new es s = (s ≡ status.Usage) × (is ≡ was) × NothingDone old new es
 Ends (Some (Run with_words)) was is old new es s = RunEnds with_words was is old new es s

@@ -1,5 +1,5 @@
 -- The lines of a journal.
-use Rattle.std.specs.Prelude.{ℕ, Bool, true, false, List, [], ◌∷◌, codes, if◌then◌else◌, ◌||◌, not}
+use Rattle.std.specs.Prelude.{◌≡◌, ℕ, Bool, true, false, List, [], ◌∷◌, codes, if◌then◌else◌, ◌||◌, not, filter}
 use Rattle.std.specs.Fmt.{decimal}
 use Rattle.std.specs.List.{flat_map}
 use Rattle.pv_words.specs.declared.entry.Entry.{Entry}
@@ -46,3 +46,7 @@ line e with_words = if has_line e with_words then line_of_fields (entry_fields e
 -- the lines of the entries, one after another
 abbrev pub text : List Entry → Bool → List ℕ
 text entries with_words = flat_map (λ e. line e with_words) entries
+
+-- a report without words has the lines of the report with words that belong to entries which have one without words
+abbrev pub PlainIsPart : Type 0
+PlainIsPart = (entries : List Entry) → text entries false ≡ text (filter (λ e. has_line e false) entries) true

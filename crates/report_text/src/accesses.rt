@@ -1,6 +1,7 @@
 //! Accesses to single words.
 
-ghost use Rattle.std.specs.Prelude.{◌≡◌, ◌+◌, ◌≤◌, length};
+ghost use Rattle.std.specs.Prelude.{◌≡◌, ◌+◌, ◌*◌, ◌≤◌, ◌++◌, length, map};
+ghost use Rattle.std.specs.Fmt.{decimal};
 ghost use Rattle.report_text.specs.Accesses.{access_fields, place_fields};
 ghost use Rattle.report_text.specs.Fields.{with_fields};
 
@@ -27,6 +28,20 @@ fn push_place(out: &mut Line, place: Place)
     }
 }
 
+/// Adds what was done to a word, where, and the numbers of it.
+#[inline(always)]
+fn push_parts(out: &mut Line, done: &[u8], place: Place, numbers: &[u32])
+    requires { length out.old + length done.now + 38 + 11 * length numbers.now ≤ MAX_LINE_LEN }
+    ensures text { out.new
+        ≡ with_fields (with_fields (out.old ++ done.now) (place_fields place)) (map decimal numbers.now) }
+    ensures length { length out.new
+        ≤ length out.old + length done.now + 38 + 11 * length numbers.now }
+{
+    out.push_text(done);
+    push_place(out, place);
+    out.push_numbers(numbers);
+}
+
 /// Adds what was done to a word, and where.
 pub(crate) fn push_access(out: &mut Line, access: Access)
     requires { length out.old + 76 ≤ MAX_LINE_LEN }
@@ -34,25 +49,9 @@ pub(crate) fn push_access(out: &mut Line, access: Access)
     ensures length { length out.new ≤ length out.old + 76 }
 {
     match access {
-        Access::Load(place, value) => {
-            out.push_text(b" load");
-            push_place(out, place);
-            out.push_number(value);
-        }
-        Access::Store(place, value) => {
-            out.push_text(b" store");
-            push_place(out, place);
-            out.push_number(value);
-        }
-        Access::Cas(place, old, new, seen) => {
-            out.push_text(b" swap");
-            push_place(out, place);
-            out.push_numbers(&[old, new, seen]);
-        }
-        Access::Clear(place, mask, seen) => {
-            out.push_text(b" clear");
-            push_place(out, place);
-            out.push_numbers(&[mask, seen]);
-        }
+        Access::Load(place, value) => push_parts(out, b" load", place, &[value]),
+        Access::Store(place, value) => push_parts(out, b" store", place, &[value]),
+        Access::Cas(place, old, new, seen) => push_parts(out, b" swap", place, &[old, new, seen]),
+        Access::Clear(place, mask, seen) => push_parts(out, b" clear", place, &[mask, seen]),
     }
 }

@@ -29,7 +29,7 @@ impl Model for Line {
 }
 
 /// Copies the text to the octets from `at` on.
-#[inline]
+#[inline(always)]
 fn copy_to(octets: &mut [u8], at: usize, text: &[u8])
     requires { at + length text.now ≤ length octets.old }
     ensures { take (at + length text.now) octets.new ≡ take at octets.old ++ text.now }
@@ -67,7 +67,7 @@ fn copy_digits(octets: &mut [u8], at: usize, n: u64) -> usize
 impl Line {
     /// The empty line.
     #[inline]
-    pub(crate) fn new() -> Line
+    pub fn new() -> Line
         ensures { result ≡ [] }
     {
         Line {
@@ -93,8 +93,16 @@ impl Line {
         self.end == 0
     }
 
-    /// Adds a text at the end.
+    /// Takes everything away.
     #[inline]
+    pub(crate) fn clear(&mut self)
+        ensures { self.new ≡ [] }
+    {
+        self.end = 0;
+    }
+
+    /// Adds a text at the end.
+    #[inline(always)]
     pub(crate) fn push_text(&mut self, text: &[u8])
         requires { length self.old + length text.now ≤ MAX_LINE_LEN }
         ensures text { self.new ≡ self.old ++ text.now }
@@ -167,7 +175,7 @@ impl Line {
     }
 
     /// Adds a text, and each of the numbers after a space.
-    #[inline]
+    #[inline(always)]
     pub(crate) fn push(&mut self, text: &[u8], numbers: &[u32])
         requires { length self.old + length text.now + 11 * length numbers.now ≤ MAX_LINE_LEN }
         ensures text { self.new ≡ with_fields (self.old ++ text.now) (map decimal numbers.now) }
@@ -179,13 +187,13 @@ impl Line {
     }
 
     /// Begins the line anew with a word, and each of the numbers after a space.
-    #[inline]
+    #[inline(always)]
     pub(crate) fn start(&mut self, word: &[u8], numbers: &[u32])
         requires { length word.now + 11 * length numbers.now ≤ MAX_LINE_LEN }
         ensures text { self.new ≡ with_fields word.now (map decimal numbers.now) }
         ensures length { length self.new ≤ length word.now + 11 * length numbers.now }
     {
-        self.end = 0;
+        self.clear();
         self.push(word, numbers);
     }
 }

@@ -7,7 +7,12 @@ mod builder;
 mod devices;
 mod grants;
 mod hosts;
+mod laws;
 mod report;
 
 pub use builder::{Line, MAX_LINE_LEN};
-pub use report::{has_line, line_of};
+pub use laws::plain_reports_are_parts;
+pub use report::{has_line, line_of, write_line};
+
+#[cfg(test)]
+mod tests;

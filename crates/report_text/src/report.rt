@@ -67,62 +67,27 @@ pub fn has_line(e: &Entry, with_words: bool) -> bool
     with_words || !is_with_words_only(e)
 }
 
-/// The line of an entry, with its line feed. It is empty where the entry has none: an access, a
-/// wake-up, a host's event and a set node have a line only where `with_words` is true.
+/// Makes `out` the line of an entry, with its line feed. It is empty where the entry has none: an access, a wake-up, a
+/// host's event and a set node have a line only where `with_words` is true.
 #[tactic(auto, unfolding(crate::specs::Report::line))]
+pub fn write_line(out: &mut Line, e: &Entry, with_words: bool)
+    ensures text { out.new ≡ line e.now with_words }
+    ensures length { length out.new ≤ MAX_LINE_LEN }
+{
+    if has_line(e, with_words) {
+        write_entry(out, e);
+        out.push_text(b"\n");
+    } else {
+        out.clear();
+    }
+}
+
+/// The line of an entry, as `write_line` writes it.
 pub fn line_of(e: &Entry, with_words: bool) -> Line
     ensures text { result ≡ line e.now with_words }
     ensures length { length result ≤ MAX_LINE_LEN }
 {
     let mut out = Line::new();
-    if has_line(e, with_words) {
-        write_entry(&mut out, e);
-        out.push_text(b"\n");
-    }
+    write_line(&mut out, e, with_words);
     out
-}
-
-#[cfg(test)]
-mod tests {
-    use super::*;
-    use pv_words::{Access, DevId, DomId, End, Frame, Place, Reason, Said, State};
-
-    #[test]
-    fn lines_of_entries(rt: HostRuntime) {
-        let dev = DevId(1);
-        let store = Access::Store(Place::Cell(DomId(1), Frame(0), 2), 7);
-        let lines: [(Entry, bool, &[u8]); 6] = [
-            (
-                Entry::Said(dev, Said::Request(0, 1, 4)),
-                false,
-                b"request 1 0 1 4\n",
-            ),
-            (
-                Entry::Said(dev, Said::Replied(0, 1, -95, true)),
-                false,
-                b"reply 1 0 1 -95 notify\n",
-            ),
-            (
-                Entry::Said(dev, Said::Closed(Reason::Overrun(33, 0))),
-                false,
-                b"closed 1 overrun 33 0\n",
-            ),
-            (
-                Entry::Bus(dev, End::Back, State::Closed),
-                false,
-                b"bus 1 back 6\n",
-            ),
-            (
-                Entry::Back(dev, store),
-                true,
-                b"back 1 store cell 1 0 2 7\n",
-            ),
-            (Entry::Back(dev, store), false, b""),
-        ];
-        for (entry, with_words, wanted) in lines {
-            let line = line_of(&entry, with_words);
-            assert_eq!(rt; line.as_bytes(), wanted);
-            assert_eq!(rt; line.is_empty(), wanted.is_empty());
-        }
-    }
 }

@@ -1,5 +1,5 @@
 -- Whatever the status, what was played is true.
-use Rattle.std.specs.Prelude.{◌≡◌, ℕ, ◌⊎◌, List, [], Option, Ok as ok}
+use Rattle.std.specs.Prelude.{◌≡◌, ℕ, ◌⊎◌, Bool, List, [], Option, Ok as ok}
 use Rattle.std.proofs.Common.{inl, inr}
 use Rattle.pv_words.specs.declared.entry.Entry.{Entry}
 use Rattle.scenario_text.specs.Scenario.{Scenario}
@@ -23,22 +23,22 @@ to_some_statement : (octets : List ℕ) (es : List Entry) → WantsMemoryAt octe
 to_some_statement octets es (inl p) = inl p.0
 to_some_statement octets es (inr p) = inr (legal_to_is_true octets es p.0 p.1 p.2.legal)
 
-what_was_played : (octets : List ℕ) (old new : SinkTold) (es : List Entry) (s : Status) → EndsFor octets old new es s → (es ≡ []) ⊎ IsTrueFor octets es
-what_was_played octets old new es status.Ok p = inr (legal_is_true octets es p.0 p.1 p.2)
-what_was_played octets old new es (status.Script f) p = inl p.1.not_played
-what_was_played octets old new es status.WriteFault p =
+what_was_played : (with_words : Bool) (octets : List ℕ) (old new : SinkTold) (es : List Entry) (s : Status) → EndsFor with_words octets old new es s → (es ≡ []) ⊎ IsTrueFor octets es
+what_was_played with_words octets old new es status.Ok p = inr (legal_is_true octets es p.0 p.1 p.2)
+what_was_played with_words octets old new es (status.Script f) p = inl p.1.not_played
+what_was_played with_words octets old new es status.WriteFault p =
     inr (either_is_true octets es p.1.scenario p.1.reads p.1.legal)
-what_was_played octets old new es status.OutOfMemory p = to_some_statement octets es p.0
-what_was_played octets old new es status.JournalFull p = inr (legal_to_is_true octets es p.0 p.1 p.3)
-what_was_played octets old new es status.Usage p = elim p [ ]
-what_was_played octets old new es status.ReadFault p = elim p [ ]
-what_was_played octets old new es status.TooLong p = elim p [ ]
-what_was_played octets old new es (status.NotLegal l) p = elim p [ ]
+what_was_played with_words octets old new es status.OutOfMemory p = to_some_statement octets es p.0
+what_was_played with_words octets old new es status.JournalFull p = inr (legal_to_is_true octets es p.0 p.1 p.3)
+what_was_played with_words octets old new es status.Usage p = elim p [ ]
+what_was_played with_words octets old new es status.ReadFault p = elim p [ ]
+what_was_played with_words octets old new es status.TooLong p = elim p [ ]
+what_was_played with_words octets old new es (status.NotLegal l) p = elim p [ ]
 
 of_read : (old new : Option (List ℕ)) (octets : List ℕ) (es : List Entry) → IsRead old new octets → ((es ≡ []) ⊎ IsTrueFor octets es) → HasPlayed old new es
 of_read old new octets es is_read (inl none) = inl none
 of_read old new octets es is_read (inr p) = inr (octets, is_read, p)
 
 -- however it ended after the source was read
-pub has_played : (was is : Option (List ℕ)) (octets : List ℕ) (old new : SinkTold) (es : List Entry) (s : Status) → IsRead was is octets → EndsFor octets old new es s → HasPlayed was is es
-has_played was is octets old new es s is_read ends = of_read was is octets es is_read (what_was_played octets old new es s ends)
+pub has_played : (with_words : Bool) (was is : Option (List ℕ)) (octets : List ℕ) (old new : SinkTold) (es : List Entry) (s : Status) → IsRead was is octets → EndsFor with_words octets old new es s → HasPlayed was is es
+has_played with_words was is octets old new es s is_read ends = of_read was is octets es is_read (what_was_played with_words octets old new es s ends)

@@ -1,5 +1,5 @@
 -- How a command ends.
-use Rattle.std.specs.Prelude.{◌≡◌, ℕ, ◌≤◌, ◌⊎◌, Bool, true, false, List, [], ◌∷◌, length, codes, Option, Ok as ok, Err as err, String, string_bytes, bytes_eq}
+use Rattle.std.specs.Prelude.{◌≡◌, ℕ, ◌≤◌, ◌⊎◌, Bool, true, List, [], length, Option, Some, None, Ok as ok, Err as err}
 use Rattle.pv_words.specs.declared.entry.Entry.{Entry}
 use Rattle.pv_ports.specs.Port.{Gave, IsAtEnd, Appended, AppendedPrefix, Rose}
 use Rattle.backend_core.specs.Marked.{Item}
@@ -9,14 +9,10 @@ use Rattle.scenario_text.specs.Lines.{lines}
 use Rattle.scenario_text.specs.Reading.{scenario_of, holds_item}
 use Rattle.scenario_io.specs.Script.{GaveAtMost, GaveBlocks, GaveMany}
 use Rattle.scenario_run.specs.Legal.{IsTrueJournal, IsLegal, IsLegalTo, IsFullFor, IsWantingFor}
+use Rattle.scenario_cli.specs.declared.command.Command.{Command}
+use Rattle.scenario_cli.specs.declared.command.Command.TheVariants.{Run}
 use Rattle.scenario_cli.specs.declared.status.Status.{Status}
 use Rattle.scenario_cli.specs.declared.status.Status.TheVariants as status
-
--- the words of the one command: `run` alone
-abbrev pub is_run : {A : Type 0} → List (String A) → Bool
-is_run (word ∷ []) = bytes_eq (string_bytes word) (codes "run")
-is_run [] = false
-is_run (a ∷ b ∷ c) = false
 
 -- what a source tells: what is still to be read, and how often it failed
 pub record SourceTold : Type 0 where
@@ -56,26 +52,28 @@ WantsMemoryAt octets es =
     ((es ≡ []) × (holds_item (lines octets) ≡ true))
     ⊎ ((s : Scenario) × (scenario_of octets ≡ ok s) × IsWantingFor s es)
 
--- how a command ends that has read these octets: by status, with what became of the sink
-abbrev pub EndsFor : (octets : List ℕ) (old new : SinkTold) (es : List Entry) → Status → Type 0
-EndsFor octets old new es status.Ok = (s : Scenario) × (scenario_of octets ≡ ok s) × IsLegal s es × IsWritten old new (text es false)
-EndsFor octets old new es (status.Script f) = (scenario_of octets ≡ err f) × NothingDone old new es
-EndsFor octets old new es status.WriteFault =
-    Rose old.faults new.faults × IsJournalFor octets es × AppendedPrefix old.bytes new.bytes (text es false)
-EndsFor octets old new es status.OutOfMemory = WantsMemoryAt octets es × (new ≡ old)
-EndsFor octets old new es status.JournalFull =
-    (s : Scenario) × (scenario_of octets ≡ ok s) × IsFullFor s es × IsLegalTo s es × IsWritten old new (text es false)
-EndsFor octets old new es status.Usage = ⊥
-EndsFor octets old new es status.ReadFault = ⊥
-EndsFor octets old new es status.TooLong = ⊥
-EndsFor octets old new es (status.NotLegal l) = ⊥
+-- how a run ends that has read these octets: by status, with what became of the sink; the report is the text of the journal,
+-- with a line for every entry where `with_words` is true
+abbrev pub EndsFor : (with_words : Bool) (octets : List ℕ) (old new : SinkTold) (es : List Entry) → Status → Type 0
+EndsFor with_words octets old new es status.Ok =
+    (s : Scenario) × (scenario_of octets ≡ ok s) × IsLegal s es × IsWritten old new (text es with_words)
+EndsFor with_words octets old new es (status.Script f) = (scenario_of octets ≡ err f) × NothingDone old new es
+EndsFor with_words octets old new es status.WriteFault =
+    Rose old.faults new.faults × IsJournalFor octets es × AppendedPrefix old.bytes new.bytes (text es with_words)
+EndsFor with_words octets old new es status.OutOfMemory = WantsMemoryAt octets es × (new ≡ old)
+EndsFor with_words octets old new es status.JournalFull =
+    (s : Scenario) × (scenario_of octets ≡ ok s) × IsFullFor s es × IsLegalTo s es × IsWritten old new (text es with_words)
+EndsFor with_words octets old new es status.Usage = ⊥
+EndsFor with_words octets old new es status.ReadFault = ⊥
+EndsFor with_words octets old new es status.TooLong = ⊥
+EndsFor with_words octets old new es (status.NotLegal l) = ⊥
 
--- the script was read without a fault, and the command ended by it
-pub record EndsBy (was is : SourceTold) (old new : SinkTold) (es : List Entry) (s : Status) : Type 0 where
+-- the script was read without a fault, and the run ended by it
+pub record EndsBy (with_words : Bool) (was is : SourceTold) (old new : SinkTold) (es : List Entry) (s : Status) : Type 0 where
   pub octets : List ℕ
   pub is_read : IsRead was.rest is.rest octets
   pub no_fault : is.faults ≡ was.faults
-  pub ends : EndsFor octets old new es s
+  pub ends : EndsFor with_words octets old new es s
 
 -- memory was wanting for a script that wasn't read to its end: the source never failed, and gave whole blocks of octets, or
 -- none, and no octet that makes the script too long
@@ -84,17 +82,25 @@ pub record EndsUnread (was is : SourceTold) (old new : SinkTold) (es : List Entr
   pub no_fault : is.faults ≡ was.faults
   pub nothing_done : NothingDone old new es
 
--- how a command ends: by status, with what the source was and is, and what the sink was and is
-abbrev pub Ends : (was is : SourceTold) (old new : SinkTold) (es : List Entry) → Status → Type 0
-Ends was is old new es status.Usage = (is ≡ was) × NothingDone old new es
-Ends was is old new es status.ReadFault = GaveAtMost was.rest is.rest 4194304 × Rose was.faults is.faults × NothingDone old new es
-Ends was is old new es status.TooLong = GaveMany was.rest is.rest 4194305 × (is.faults ≡ was.faults) × NothingDone old new es
-Ends was is old new es status.OutOfMemory = EndsUnread was is old new es ⊎ EndsBy was is old new es status.OutOfMemory
-Ends was is old new es status.Ok = EndsBy was is old new es status.Ok
-Ends was is old new es (status.Script f) = EndsBy was is old new es (status.Script f)
-Ends was is old new es status.WriteFault = EndsBy was is old new es status.WriteFault
-Ends was is old new es status.JournalFull = EndsBy was is old new es status.JournalFull
-Ends was is old new es (status.NotLegal l) = ⊥
+-- how a run ends: by status, with what the source was and is, and what the sink was and is
+abbrev pub RunEnds : (with_words : Bool) (was is : SourceTold) (old new : SinkTold) (es : List Entry) → Status → Type 0
+RunEnds with_words was is old new es status.Usage = ⊥
+RunEnds with_words was is old new es status.ReadFault =
+    GaveAtMost was.rest is.rest 4194304 × Rose was.faults is.faults × NothingDone old new es
+RunEnds with_words was is old new es status.TooLong =
+    GaveMany was.rest is.rest 4194305 × (is.faults ≡ was.faults) × NothingDone old new es
+RunEnds with_words was is old new es status.OutOfMemory =
+    EndsUnread was is old new es ⊎ EndsBy with_words was is old new es status.OutOfMemory
+RunEnds with_words was is old new es status.Ok = EndsBy with_words was is old new es status.Ok
+RunEnds with_words was is old new es (status.Script f) = EndsBy with_words was is old new es (status.Script f)
+RunEnds with_words was is old new es status.WriteFault = EndsBy with_words was is old new es status.WriteFault
+RunEnds with_words was is old new es status.JournalFull = EndsBy with_words was is old new es status.JournalFull
+RunEnds with_words was is old new es (status.NotLegal l) = ⊥
+
+-- how a call ends that was asked for this command; where its words are none, nothing is read, played or written
+abbrev pub Ends : Option Command → (was is : SourceTold) (old new : SinkTold) (es : List Entry) → Status → Type 0
+Ends None was is old new es s = (s ≡ status.Usage) × (is ≡ was) × NothingDone old new es
+Ends (Some (Run with_words)) was is old new es s = RunEnds with_words was is old new es s
 
 -- the journal is a true one of the scenario that was read
 pub record IsTrueFor (octets : List ℕ) (es : List Entry) : Type 0 where

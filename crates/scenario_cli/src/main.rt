@@ -1,9 +1,11 @@
 //! Plays a scenario that is read from the standard input, and writes its report to the standard output.
 #![tactic(auto)]
 
+mod command;
 mod status;
 mod top;
 
+pub use command::Command;
 use pv_ports::{StdSink, StdSource};
 use pv_words::Journal;
 pub use status::Status;

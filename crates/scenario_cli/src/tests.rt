@@ -32,9 +32,10 @@ struct Outcome {
     journal: Journal,
 }
 
-// Runs `run` over this script, with ports whose calls of these numbers fail.
-fn run_over(
+// Runs `run` with these words over this script, with ports whose calls of these numbers fail.
+fn run_words(
     alloc: Global,
+    text: &str,
     script: &[u8],
     reads: Vec<u64>,
     writes: Vec<u64>,
@@ -45,7 +46,9 @@ fn run_over(
     let mut sink = ListSink::new(alloc, writes);
     sink.reserve(10000)?;
     let mut words = Vec::new(alloc);
-    words.push(String::from_str(alloc, "run")?)?;
+    for word in text.split_whitespace() {
+        words.push(String::from_str(alloc, word)?)?;
+    }
     let mut journal = Journal::new(alloc);
     let status = run(alloc, &words, &mut source, &mut sink, &mut journal);
     Ok(Outcome {
@@ -53,6 +56,16 @@ fn run_over(
         sink,
         journal,
     })
+}
+
+// Runs the word `run` over this script, with ports whose calls of these numbers fail.
+fn run_over(
+    alloc: Global,
+    script: &[u8],
+    reads: Vec<u64>,
+    writes: Vec<u64>,
+) -> Result<Outcome, AllocError> {
+    run_words(alloc, "run", script, reads, writes)
 }
 
 fn run_script(alloc: Global, script: &str) -> Result<Outcome, AllocError> {
@@ -607,18 +620,19 @@ fn an_exchange_of_another_word_changes_nothing(rt: HostRuntime) -> Result<(), Fa
 #[test]
 fn words_that_are_no_command(rt: HostRuntime) -> Result<(), Fail> {
     let alloc = rt.alloc();
-    for text in ["", "run run", "soak 0", "walk"] {
-        let mut words = Vec::new(alloc);
-        for word in text.split_whitespace() {
-            words.push(String::from_str(alloc, word)?)?;
-        }
-        let mut source = ListSource::new(Vec::new(alloc), Vec::new(alloc));
-        let mut sink = ListSink::new(alloc, Vec::new(alloc));
-        let mut journal = Journal::new(alloc);
-        assert_eq!(rt;
-            run(alloc, &words, &mut source, &mut sink, &mut journal),
-            Status::Usage
-        );
+    for text in [
+        "",
+        "run run",
+        "soak 0",
+        "walk",
+        "--words",
+        "--words run",
+        "run -words",
+        "run --word",
+        "run --words --words",
+    ] {
+        let outcome = run_words(alloc, text, b"", Vec::new(alloc), Vec::new(alloc))?;
+        assert_eq!(rt; outcome.status, Status::Usage);
     }
     Ok(())
 }
@@ -631,6 +645,101 @@ fn a_sink_that_fails_keeps_what_it_got(rt: HostRuntime) -> Result<(), Fail> {
     let outcome = run_over(alloc, script.as_bytes(), Vec::new(alloc), writes)?;
     assert_eq!(rt; outcome.status, Status::WriteFault);
     assert_eq!(rt; outcome.sink.as_slice(), b"bus 1 front 3\n".as_slice());
+    Ok(())
+}
+
+// Each access that `one_request_script` leads to, what is said on it, and each node.
+const WORD_BY_WORD: &str = "front 1 store cell 1 0 1 1
+front 1 store cell 1 0 3 1
+front 1 load grant 1 0 flags 0
+front 1 store grant 1 0 frame 0
+front 1 swap grant 1 0 flags 0 1 0
+front 1 load grant 1 1 flags 0
+front 1 store grant 1 1 frame 1
+front 1 swap grant 1 1 flags 0 1 0
+node 1 0 0 0
+node 1 0 1 1
+node 1 0 2 1
+node 1 0 3 2
+bus 1 front 3
+back 1 load grant 1 0 flags 1
+back 1 swap grant 1 0 flags 1 25 1
+back 1 load grant 1 0 frame 0
+back 1 load cell 1 0 2 0
+back 1 load grant 1 1 flags 1
+back 1 swap grant 1 1 flags 1 25 1
+back 1 load grant 1 1 frame 1
+back 1 load cell 1 1 1 0
+bus 1 back 4
+back 1 load cell 1 0 0 0
+back 1 store cell 1 0 1 1
+back 1 load cell 1 0 0 0
+front 1 store cell 1 0 16 262145
+front 1 store cell 1 0 0 1
+back 1 load cell 1 0 0 1
+back 1 load cell 1 0 16 262145
+back 1 load cell 1 0 17 0
+back 1 load cell 1 0 18 0
+back 1 load cell 1 0 19 0
+back 1 load cell 1 0 20 0
+back 1 load cell 1 0 21 0
+back 1 load cell 1 0 22 0
+back 1 load cell 1 0 23 0
+back 1 load cell 1 0 24 0
+back 1 load cell 1 0 25 0
+back 1 load cell 1 0 26 0
+back 1 load cell 1 0 27 0
+back 1 load cell 1 0 28 0
+back 1 load cell 1 0 29 0
+back 1 load cell 1 0 30 0
+back 1 load cell 1 0 31 0
+request 1 0 1 4
+back 1 store cell 1 0 16 262145
+back 1 store cell 1 0 17 0
+back 1 store cell 1 0 18 0
+back 1 store cell 1 0 19 0
+back 1 store cell 1 0 20 0
+back 1 store cell 1 0 21 0
+back 1 store cell 1 0 22 0
+back 1 store cell 1 0 23 0
+back 1 store cell 1 0 24 0
+back 1 store cell 1 0 25 0
+back 1 store cell 1 0 26 0
+back 1 store cell 1 0 27 0
+back 1 store cell 1 0 28 0
+back 1 store cell 1 0 29 0
+back 1 store cell 1 0 30 0
+back 1 store cell 1 0 31 0
+back 1 store cell 1 0 2 1
+back 1 load cell 1 0 3 1
+reply 1 0 1 0 notify
+back 1 load cell 1 0 0 1
+back 1 store cell 1 0 1 2
+back 1 load cell 1 0 0 1
+";
+
+#[test]
+fn every_access_has_its_line(rt: HostRuntime) -> Result<(), Fail> {
+    let alloc = rt.alloc();
+    let script = one_request_script(alloc)?;
+    for (writes, status, text) in [
+        (Vec::new(alloc), Status::Ok, WORD_BY_WORD),
+        (
+            vec![in alloc; 1u64]?,
+            Status::WriteFault,
+            "front 1 store cell 1 0 1 1\n",
+        ),
+    ] {
+        let outcome = run_words(
+            alloc,
+            "run --words",
+            script.as_bytes(),
+            Vec::new(alloc),
+            writes,
+        )?;
+        assert_eq!(rt; outcome.status, status);
+        assert_eq!(rt; outcome.sink.as_slice(), text.as_bytes());
+    }
     Ok(())
 }
 

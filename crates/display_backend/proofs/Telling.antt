@@ -29,7 +29,7 @@ none_decided w m (asked.Destroy cookie) true = none_gone (numbers (names_under c
 none_decided w m (asked.Destroy cookie) false = refl
 none_decided w m (asked.Create c) accepted = refl
 none_decided w m (asked.Config c) accepted = refl
-none_decided w m asked.Other accepted = refl
+none_decided w m asks accepted = refl
 
 none_progress : (w : Work) (m : Naming) (h : Hand) (at : Progress) → told_by told_of (begins_progress w m h at) ≡ []
 none_progress w m h progress.Decided = none_decided w m h.request.asked (is_accepted (verdict w.stock.buffers h.request.asked))

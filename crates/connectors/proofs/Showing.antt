@@ -13,7 +13,7 @@ use Rattle.framebuffers.proofs.Found.{found_elsewhere, found_still}
 use Rattle.connectors.specs.declared.connector.Connector.{Connector}
 use Rattle.connectors.specs.declared.connector.Flip.{Flip}
 use Rattle.connectors.specs.declared.rectangle.Rectangle.{Rectangle}
-use Rattle.connectors.specs.Connectors.{blanked, config_check, configured, detached, flip_check, flipped, frame_check, has_area, is_shown_by, lies_in, other_than, pending_check, pending_of, rectangle_of, shown_after, unmarked, unmarked_at}
+use Rattle.connectors.specs.Connectors.{after_blank, config_check, after_config, after_detach, flip_check, after_flip, frame_check, has_area, is_shown_by, lies_in, other_than, pending_check, pending_of, rectangle_of, shown_after, without_mark, without_mark_at}
 use Rattle.connectors.specs.Laws.{CanShow, IsSound}
 
 abbrev pub marked_flip : ℕ → Flip
@@ -23,10 +23,10 @@ abbrev accepted : Result (Unit {0}) Refused
 accepted = Ok tt
 
 -- a flip without its mark has none
-no_mark : {A : Type 0} (p : Flip) (fb : ℕ) → unmarked p ≡ marked_flip fb → A
+no_mark : {A : Type 0} (p : Flip) (fb : ℕ) → without_mark p ≡ marked_flip fb → A
 no_mark p fb e = let wrong : false ≡ true = ap (λ (q : Flip). q.marked) e in absurd (cc)
 
-none_marked : {A : Type 0} (o : Option Flip) (fb : ℕ) → option_map unmarked o ≡ Some (marked_flip fb) → A
+none_marked : {A : Type 0} (o : Option Flip) (fb : ℕ) → option_map without_mark o ≡ Some (marked_flip fb) → A
 none_marked None fb e = absurd (cc)
 none_marked (Some p) fb e = no_mark p fb (cc)
 
@@ -61,15 +61,15 @@ other_shown fb other (Some cookie) e = by_test (cookie == fb) refl e
         let same : cookie ≡ other = cc in
         (h, subst (λ n. n ≢ fb) same (apart_if fb cookie test))
 
-other_marked : (fb other : ℕ) (flip : Option Flip) → option_map (unmarked_at fb) flip ≡ Some (marked_flip other) → (flip ≡ Some (marked_flip other)) × (other ≢ fb)
+other_marked : (fb other : ℕ) (flip : Option Flip) → option_map (without_mark_at fb) flip ≡ Some (marked_flip other) → (flip ≡ Some (marked_flip other)) × (other ≢ fb)
 other_marked fb other None e = absurd (cc)
 other_marked fb other (Some p) e = by_test (p.fb == fb) refl (cc)
   where
-    by_test : (t : Bool) → (p.fb == fb) ≡ t → cond t (unmarked p) p ≡ marked_flip other → (Some p ≡ Some (marked_flip other)) × (other ≢ fb)
+    by_test : (t : Bool) → (p.fb == fb) ≡ t → cond t (without_mark p) p ≡ marked_flip other → (Some p ≡ Some (marked_flip other)) × (other ≢ fb)
     by_test true test h = no_mark p other h
     by_test false test h = (ap (λ q. Some q) h, subst (λ n. n ≢ fb) (ap (λ (q : Flip). q.fb) h) (apart_if fb p.fb test))
 
-pub detached_sound : (fs : List Framebuffer) (c : Connector) (fb : ℕ) → IsSound fs c → IsSound (without_frame fb fs) (detached fb c)
+pub detached_sound : (fs : List Framebuffer) (c : Connector) (fb : ℕ) → IsSound fs c → IsSound (without_frame fb fs) (after_detach fb c)
 detached_sound fs c fb s = record {
   has_pixels = s.has_pixels;
   shown = λ other e.
@@ -95,13 +95,13 @@ checked_frame asked (Some f) h =
     (is_valid (has_area (rectangle_of asked) && lies_in (rectangle_of asked) f) h)
 
 -- what is shown, and nothing marked
-bare : (fs : List Framebuffer) (o : Option Rectangle) (shown : Option ℕ) (flip : Option Flip) → ((r : Rectangle) → o ≡ Some r → has_area r ≡ true) → ((fb : ℕ) → shown ≡ Some fb → CanShow fs o fb) → IsSound fs (record { rectangle = o; shown = shown; flip = option_map unmarked flip })
+bare : (fs : List Framebuffer) (o : Option Rectangle) (shown : Option ℕ) (flip : Option Flip) → ((r : Rectangle) → o ≡ Some r → has_area r ≡ true) → ((fb : ℕ) → shown ≡ Some fb → CanShow fs o fb) → IsSound fs (record { rectangle = o; shown = shown; flip = option_map without_mark flip })
 bare fs o shown flip pixels can = record { has_pixels = pixels; shown = can; marked = λ fb e. none_marked flip fb e }
 
-pub configured_sound : (fs : List Framebuffer) (c : Connector) (asked : Config) → config_check asked (frame_of asked.fb_cookie fs) ≡ Ok tt → IsSound fs (configured c asked)
+pub configured_sound : (fs : List Framebuffer) (c : Connector) (asked : Config) → config_check asked (frame_of asked.fb_cookie fs) ≡ Ok tt → IsSound fs (after_config c asked)
 configured_sound fs c asked h = by_test (all_zero asked) h
   where
-    by_test : (t : Bool) → cond t accepted (frame_check asked (frame_of asked.fb_cookie fs)) ≡ accepted → IsSound fs (cond t (record { rectangle = None; shown = None; flip = option_map unmarked c.flip }) (record { rectangle = Some (rectangle_of asked); shown = Some asked.fb_cookie; flip = option_map unmarked c.flip }))
+    by_test : (t : Bool) → cond t accepted (frame_check asked (frame_of asked.fb_cookie fs)) ≡ accepted → IsSound fs (cond t (record { rectangle = None; shown = None; flip = option_map without_mark c.flip }) (record { rectangle = Some (rectangle_of asked); shown = Some asked.fb_cookie; flip = option_map without_mark c.flip }))
     by_test true g = bare fs None None c.flip (λ r e. absurd (cc)) (λ fb e. absurd (cc))
     by_test false g =
         let checked = checked_frame asked (frame_of asked.fb_cookie fs) g in
@@ -122,7 +122,7 @@ shown_by_flip c (Some f) h = inside (is_shown_by c.rectangle f) (pending_check c
     inside true r h = refl
     inside false r h = absurd (cc)
 
-pub flipped_sound : (fs : List Framebuffer) (c : Connector) (fb : ℕ) → IsSound fs c → flip_check c (frame_of fb fs) ≡ Ok tt → IsSound fs (flipped c fb)
+pub flipped_sound : (fs : List Framebuffer) (c : Connector) (fb : ℕ) → IsSound fs c → flip_check c (frame_of fb fs) ≡ Ok tt → IsSound fs (after_flip c fb)
 flipped_sound fs c fb s h = record {
   has_pixels = s.has_pixels;
   shown = s.shown;
@@ -143,7 +143,7 @@ shown_then A (Some p) shown is_shown is_marked fb e = by_test p.marked refl e
         subst A same (is_marked p.fb (ap (λ q. Some q) whole))
     by_test false mark h = is_shown fb h
 
-pub blanked_sound : (fs : List Framebuffer) (c : Connector) → IsSound fs c → IsSound fs (blanked c)
+pub blanked_sound : (fs : List Framebuffer) (c : Connector) → IsSound fs c → IsSound fs (after_blank c)
 blanked_sound fs c s = record {
   has_pixels = s.has_pixels;
   shown = shown_then (CanShow fs c.rectangle) c.flip c.shown s.shown s.marked;
@@ -160,21 +160,21 @@ flips_alone c (Some f) h = by_test (is_shown_by c.rectangle f) c.flip h
     by_test true None g = refl
     by_test true (Some p) g = absurd (cc)
 
-unmarked_pending : (flip : Option Flip) → option_map (λ (p : Flip). p.fb) (option_map unmarked flip) ≡ option_map (λ (p : Flip). p.fb) flip
+unmarked_pending : (flip : Option Flip) → option_map (λ (p : Flip). p.fb) (option_map without_mark flip) ≡ option_map (λ (p : Flip). p.fb) flip
 unmarked_pending None = refl
 unmarked_pending (Some p) = refl
 
-pub configured_pending : (c : Connector) (asked : Config) → pending_of (configured c asked) ≡ pending_of c
+pub configured_pending : (c : Connector) (asked : Config) → pending_of (after_config c asked) ≡ pending_of c
 configured_pending c asked = by_test (all_zero asked)
   where
-    by_test : (t : Bool) → pending_of (cond t (record { rectangle = None; shown = None; flip = option_map unmarked c.flip }) (record { rectangle = Some (rectangle_of asked); shown = Some asked.fb_cookie; flip = option_map unmarked c.flip })) ≡ pending_of c
+    by_test : (t : Bool) → pending_of (cond t (record { rectangle = None; shown = None; flip = option_map without_mark c.flip }) (record { rectangle = Some (rectangle_of asked); shown = Some asked.fb_cookie; flip = option_map without_mark c.flip })) ≡ pending_of c
     by_test true = unmarked_pending c.flip
     by_test false = unmarked_pending c.flip
 
-pub detached_pending : (fb : ℕ) (flip : Option Flip) → option_map (λ (p : Flip). p.fb) (option_map (unmarked_at fb) flip) ≡ option_map (λ (p : Flip). p.fb) flip
+pub detached_pending : (fb : ℕ) (flip : Option Flip) → option_map (λ (p : Flip). p.fb) (option_map (without_mark_at fb) flip) ≡ option_map (λ (p : Flip). p.fb) flip
 detached_pending fb None = refl
 detached_pending fb (Some p) = by_test (p.fb == fb)
   where
-    by_test : (t : Bool) → option_map (λ (q : Flip). q.fb) (Some (cond t (unmarked p) p)) ≡ Some p.fb
+    by_test : (t : Bool) → option_map (λ (q : Flip). q.fb) (Some (cond t (without_mark p) p)) ≡ Some p.fb
     by_test true = refl
     by_test false = refl

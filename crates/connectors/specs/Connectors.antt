@@ -32,8 +32,8 @@ abbrev pub first_connector : Connector
 first_connector = record { rectangle = None; shown = None; flip = None }
 
 -- what a pending flip is without its mark
-abbrev pub unmarked : Flip → Flip
-unmarked p = record p { marked = false }
+abbrev pub without_mark : Flip → Flip
+without_mark p = record p { marked = false }
 
 -- a configuration needs a live framebuffer in which its rectangle lies
 abbrev pub frame_check : Config → Option Framebuffer → Result (Unit {0}) Refused
@@ -46,14 +46,14 @@ abbrev pub config_check : Config → Option Framebuffer → Result (Unit {0}) Re
 config_check c f = if all_zero c then Ok tt else frame_check c f
 
 -- the connector after an accepted SET_CONFIG: a pending flip loses its mark
-abbrev pub configured : Connector → Config → Connector
-configured old c =
+abbrev pub after_config : Connector → Config → Connector
+after_config old c =
     if all_zero c
-    then record { rectangle = None; shown = None; flip = option_map unmarked old.flip }
+    then record { rectangle = None; shown = None; flip = option_map without_mark old.flip }
     else record {
       rectangle = Some (rectangle_of c);
       shown = Some c.fb_cookie;
-      flip = option_map unmarked old.flip;
+      flip = option_map without_mark old.flip;
     }
 
 -- the configuration's rectangle lies in a framebuffer
@@ -72,8 +72,8 @@ flip_check old None = Err Unknown
 flip_check old (Some f) = if is_shown_by old.rectangle f then pending_check old.flip else Err Invalid
 
 -- the connector after an accepted FLIP: it is pending, with its mark
-abbrev pub flipped : Connector → ℕ → Connector
-flipped old fb = record old { flip = Some (record { fb = fb; marked = true }) }
+abbrev pub after_flip : Connector → ℕ → Connector
+after_flip old fb = record old { flip = Some (record { fb = fb; marked = true }) }
 
 -- a cookie, unless it is this one
 abbrev pub other_than : ℕ → Option ℕ → Option ℕ
@@ -81,12 +81,12 @@ other_than fb None = None
 other_than fb (Some cookie) = if cookie == fb then None else Some cookie
 
 -- a pending flip after a DETACH: one to that framebuffer loses its mark
-abbrev pub unmarked_at : ℕ → Flip → Flip
-unmarked_at fb p = if p.fb == fb then unmarked p else p
+abbrev pub without_mark_at : ℕ → Flip → Flip
+without_mark_at fb p = if p.fb == fb then without_mark p else p
 
 -- the connector after a DETACH: it shows that framebuffer no longer
-abbrev pub detached : ℕ → Connector → Connector
-detached fb old = record old { shown = other_than fb old.shown; flip = option_map (unmarked_at fb) old.flip }
+abbrev pub after_detach : ℕ → Connector → Connector
+after_detach fb old = record old { shown = other_than fb old.shown; flip = option_map (without_mark_at fb) old.flip }
 
 -- the framebuffer of the pending flip
 abbrev pub pending_of : Connector → Option ℕ
@@ -98,8 +98,8 @@ shown_after None shown = shown
 shown_after (Some p) shown = if p.marked then Some p.fb else shown
 
 -- the connector after a blank with a pending flip
-abbrev pub blanked : Connector → Connector
-blanked old = record old { shown = shown_after old.flip old.shown; flip = None }
+abbrev pub after_blank : Connector → Connector
+after_blank old = record old { shown = shown_after old.flip old.shown; flip = None }
 
 -- what a connector shows: the rectangle in the shown framebuffer
 abbrev pub picture_in : Option Rectangle → Option ℕ → Option Picture

@@ -9,7 +9,7 @@ use Rattle.framebuffers.specs.Frames.{attach_check, frame_of, with_frame, withou
 use Rattle.connectors.specs.declared.connector.Connector.{Connector}
 use Rattle.connectors.specs.declared.connector.Picture.{Picture}
 use Rattle.connectors.specs.declared.rectangle.Rectangle.{Rectangle}
-use Rattle.connectors.specs.Connectors.{blanked, config_check, configured, detached, first_connector, flip_check, flipped, has_area, is_shown_by, pending_of, picture_of}
+use Rattle.connectors.specs.Connectors.{after_blank, config_check, after_config, after_detach, first_connector, flip_check, after_flip, has_area, is_shown_by, pending_of, picture_of}
 
 -- a cookie names a live framebuffer in which the rectangle lies, with as many bits a pixel
 abbrev pub CanShow : List Framebuffer → Option Rectangle → ℕ → Type 0
@@ -26,12 +26,12 @@ pub record StaysSound : Type 0 where
   pub first : (fs : List Framebuffer) → IsSound fs first_connector
   pub attaches : (fs : List Framebuffer) (c : Connector) (a : Attach) (buffer : Option Buffer) → IsSound fs c
       → attach_check fs a buffer ≡ Ok tt → IsSound (with_frame fs a buffer) c
-  pub detaches : (fs : List Framebuffer) (c : Connector) (fb : ℕ) → IsSound fs c → IsSound (without_frame fb fs) (detached fb c)
+  pub detaches : (fs : List Framebuffer) (c : Connector) (fb : ℕ) → IsSound fs c → IsSound (without_frame fb fs) (after_detach fb c)
   pub configures : (fs : List Framebuffer) (c : Connector) (asked : Config) → IsSound fs c
-      → config_check asked (frame_of asked.fb_cookie fs) ≡ Ok tt → IsSound fs (configured c asked)
+      → config_check asked (frame_of asked.fb_cookie fs) ≡ Ok tt → IsSound fs (after_config c asked)
   pub flips : (fs : List Framebuffer) (c : Connector) (fb : ℕ) → IsSound fs c → flip_check c (frame_of fb fs) ≡ Ok tt
-      → IsSound fs (flipped c fb)
-  pub blanks : (fs : List Framebuffer) (c : Connector) → IsSound fs c → IsSound fs (blanked c)
+      → IsSound fs (after_flip c fb)
+  pub blanks : (fs : List Framebuffer) (c : Connector) → IsSound fs c → IsSound fs (after_blank c)
 
 -- a picture has pixels, and lies in a framebuffer
 pub record Shows (p : Picture) (f : Framebuffer) : Type 0 where
@@ -49,7 +49,7 @@ PicturesInside =
 -- a flip is accepted only where none is pending; it is pending then, whatever is configured or detached, until its blank
 pub record FlipsWait : Type 0 where
   pub alone : (c : Connector) (f : Option Framebuffer) → flip_check c f ≡ Ok tt → pending_of c ≡ None
-  pub begins : (c : Connector) (fb : ℕ) → pending_of (flipped c fb) ≡ Some fb
-  pub configures : (c : Connector) (asked : Config) → pending_of (configured c asked) ≡ pending_of c
-  pub detaches : (c : Connector) (fb : ℕ) → pending_of (detached fb c) ≡ pending_of c
-  pub ends : (c : Connector) → pending_of (blanked c) ≡ None
+  pub begins : (c : Connector) (fb : ℕ) → pending_of (after_flip c fb) ≡ Some fb
+  pub configures : (c : Connector) (asked : Config) → pending_of (after_config c asked) ≡ pending_of c
+  pub detaches : (c : Connector) (fb : ℕ) → pending_of (after_detach fb c) ≡ pending_of c
+  pub ends : (c : Connector) → pending_of (after_blank c) ≡ None

@@ -1,7 +1,7 @@
 //! A connector.
 
 ghost use Rattle.std.specs.Prelude.{◌≡◌, IsSome, OnOk, OnErr, Some};
-ghost use Rattle.connectors.specs.Connectors.{blanked, config_check, configured, detached, first_connector, flip_check, flipped, is_shown_by, pending_of, picture_of, unmarked};
+ghost use Rattle.connectors.specs.Connectors.{after_blank, config_check, after_config, after_detach, first_connector, flip_check, after_flip, is_shown_by, pending_of, picture_of, without_mark};
 
 use crate::rectangle::Rectangle;
 use displ_wire::{Config, Refused, is_zero};
@@ -58,7 +58,7 @@ impl Connector {
     /// the framebuffer is shown. Either way a flip that is to come won't be shown. A refusal changes nothing.
     pub fn config(&mut self, c: &Config, f: Option<Framebuffer>) -> Result<(), Refused>
         ensures checked { result ≡ config_check c.now f }
-        ensures set { OnOk result (self.new ≡ configured self.old c.now) }
+        ensures set { OnOk result (self.new ≡ after_config self.old c.now) }
         ensures refused { OnErr result (self.new ≡ self.old) }
     {
         if is_zero(c) {
@@ -73,7 +73,7 @@ impl Connector {
             self.rectangle = Some(r);
             self.shown = Some(c.fb_cookie);
         }
-        self.flip = self.flip.map(without_mark);
+        self.flip = self.flip.map(unmark);
         Ok(())
     }
 
@@ -82,7 +82,7 @@ impl Connector {
     /// of another depth (Invalid), or where a flip is still to come (Pending). A refusal changes nothing.
     pub fn flip(&mut self, fb: u64, f: Option<Framebuffer>) -> Result<(), Refused>
         ensures checked { result ≡ flip_check self.old f }
-        ensures pending { OnOk result (self.new ≡ flipped self.old fb) }
+        ensures pending { OnOk result (self.new ≡ after_flip self.old fb) }
         ensures refused { OnErr result (self.new ≡ self.old) }
     {
         let f = f.ok_or(Refused::Unknown)?;
@@ -108,14 +108,14 @@ impl Connector {
 
     /// The framebuffer of this cookie was taken away: it is shown no longer, and a flip to it won't be shown.
     pub fn detached(&mut self, fb: u64)
-        ensures { self.new ≡ detached fb self.old }
+        ensures { self.new ≡ after_detach fb self.old }
     {
         if self.shown == Some(fb) {
             self.shown = None;
         }
         if let Some(flip) = self.flip {
             if flip.fb == fb {
-                self.flip = Some(without_mark(flip));
+                self.flip = Some(unmark(flip));
             }
         }
     }
@@ -132,7 +132,7 @@ impl Connector {
     pub fn blank(&mut self) -> u64
         requires { IsSome (pending_of self.old) }
         ensures event { pending_of self.old ≡ Some result }
-        ensures done { self.new ≡ blanked self.old }
+        ensures done { self.new ≡ after_blank self.old }
     {
         let Some(flip) = self.flip else {
             unreachable!();
@@ -161,8 +161,8 @@ impl Connector {
 }
 
 // A flip without its mark.
-fn without_mark(flip: Flip) -> Flip
-    ensures { result ≡ unmarked flip }
+fn unmark(flip: Flip) -> Flip
+    ensures { result ≡ without_mark flip }
 {
     Flip {
         fb: flip.fb,

@@ -145,12 +145,12 @@ event_of words = record {
 }
 
 -- XENDISPL_EVT_PG_FLIP
-abbrev pub flipped : ℕ
-flipped = 0
+abbrev pub flip_event : ℕ
+flip_event = 0
 
 -- the words of the event that a flip is done
 abbrev pub event_words : ℕ → ℕ → List ℕ
-event_words id value = head_of id flipped ∷ 0 ∷ cookie_words value
+event_words id value = head_of id flip_event ∷ 0 ∷ cookie_words value
 
 -- each field of a configuration is 0
 pub record IsZero (c : Config) : Type 0 where
@@ -222,4 +222,4 @@ RepliesReadBack =
 abbrev pub EventsReadBack : Type 0
 EventsReadBack =
     (id value : ℕ) → id < 2 ^ 16 → value < 2 ^ 64
-    → event_of (event_words id value) ≡ record { id = id; kind = flipped; value = value }
+    → event_of (event_words id value) ≡ record { id = id; kind = flip_event; value = value }

@@ -1,5 +1,5 @@
 -- Cookies name the live buffers: one comes with a CREATE, one goes with a DESTROY.
-use Rattle.std.proofs.Common.{◌≡◌, ◌≢◌, ℕ, true, List, Some, None, Ok}
+use Rattle.std.proofs.Common.{◌≡◌, ◌≢◌, ℕ, true, List, Some, Ok}
 use Rattle.cookie_table.specs.Cookies.{AreFew}
 use Rattle.cookie_table.proofs.Keys.{all_push}
 use Rattle.cookie_table.proofs.Names as table

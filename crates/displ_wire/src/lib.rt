@@ -1,10 +1,10 @@
-//! The requests and replies of Xen's paravirtual display, as `displif.h` of Xen's public headers lays
-//! them out (protocol 1). A message is sixteen words of 32 bits. Here words become values and values
+//! The requests, replies and events of Xen's paravirtual display, as `displif.h` of Xen's public headers
+//! lays them out (protocol 1). A message is sixteen words of 32 bits. Here words become values and values
 //! words; the shared pages in which they lie are read and written elsewhere.
 #![tactic(auto)]
 
 ghost use Rattle.std.specs.Prelude.{◌≡◌, ◌∷◌, ◌↔◌, IsTrue};
-ghost use Rattle.displ_wire.specs.Wire.{all_zero, asked_of, config_of, config_words, create_of, create_words, destroy_words, reply_of, reply_words, request_of, request_words, IsZero, RepliesReadBack, RequestsReadBack};
+ghost use Rattle.displ_wire.specs.Wire.{all_zero, asked_of, attach_of, attach_words, config_of, config_words, cookie_words, create_of, create_words, event_of, event_words, reply_of, reply_words, request_of, request_words, EventsReadBack, IsZero, RepliesReadBack, RequestsReadBack};
 
 mod buffer;
 mod fields;
@@ -18,8 +18,20 @@ pub const CREATE: u8 = 0;
 /// The operation that takes a display buffer away (`XENDISPL_OP_DBUF_DESTROY`).
 pub const DESTROY: u8 = 1;
 
+/// The operation that makes a framebuffer of a display buffer (`XENDISPL_OP_FB_ATTACH`).
+pub const ATTACH: u8 = 2;
+
+/// The operation that takes a framebuffer away (`XENDISPL_OP_FB_DETACH`).
+pub const DETACH: u8 = 3;
+
 /// The operation that sets or takes away a connector's configuration (`XENDISPL_OP_SET_CONFIG`).
 pub const SET_CONFIG: u8 = 4;
+
+/// The operation that asks for a framebuffer to be shown next (`XENDISPL_OP_PG_FLIP`).
+pub const FLIP: u8 = 5;
+
+/// The kind of the event that tells that a flip is done (`XENDISPL_EVT_PG_FLIP`).
+pub const FLIPPED: u8 = 0;
 
 /// A display buffer that is to be made of the frontend's pages (`xendispl_dbuf_create_req`).
 #[derive(Clone, Copy, Debug, PartialEq, Eq)]
@@ -38,6 +50,21 @@ pub struct Create {
     pub flags: u32,
     /// The grant of the first page of the directory, which lists the grants of the buffer's pages.
     pub gref_directory: u32,
+}
+
+/// A framebuffer that is to be made of a display buffer (`xendispl_fb_attach_req`).
+#[derive(Clone, Copy, Debug, PartialEq, Eq)]
+pub struct Attach {
+    /// The frontend's name for the display buffer.
+    pub dbuf_cookie: u64,
+    /// The frontend's name for the framebuffer.
+    pub fb_cookie: u64,
+    /// The width in pixels.
+    pub width: u32,
+    /// The height in pixels.
+    pub height: u32,
+    /// The format of the pixels, four letters (a FOURCC, as in `drm_fourcc.h`).
+    pub pixel_format: u32,
 }
 
 /// A connector's configuration: which framebuffer it shows, and where (`xendispl_set_config_req`).
@@ -64,8 +91,14 @@ pub enum Asked {
     Create(Create),
     /// To take the display buffer of this cookie away (`xendispl_dbuf_destroy_req`).
     Destroy(u64),
+    /// To make a framebuffer of a display buffer.
+    Attach(Attach),
+    /// To take the framebuffer of this cookie away (`xendispl_fb_detach_req`).
+    Detach(u64),
     /// To set the configuration, or to take it away (see [`is_zero`]).
     Config(Config),
+    /// To show the framebuffer of this cookie next (`xendispl_page_flip_req`).
+    Flip(u64),
     /// Something by an operation that is not known here.
     Other,
 }
@@ -92,6 +125,17 @@ pub struct Reply {
     pub status: i32,
 }
 
+/// An event of the backend (`xendispl_evt`).
+#[derive(Clone, Copy, Debug, PartialEq, Eq)]
+pub struct Event {
+    /// The backend's number for the event.
+    pub id: u16,
+    /// What happened: [`FLIPPED`].
+    pub kind: u8,
+    /// The cookie of the framebuffer that was flipped to.
+    pub value: u64,
+}
+
 /// The request in these words. The words that no field of its operation stands in are ignored.
 pub fn decode(w: &[u32; 16]) -> Request
     ensures { result ≡ request_of w.now }
@@ -111,7 +155,10 @@ fn decode_asked(op: u8, w: &[u32; 16]) -> Asked
     match op {
         CREATE => Asked::Create(decode_create(w)),
         DESTROY => Asked::Destroy(u64_of(w[2], w[3])),
+        ATTACH => Asked::Attach(decode_attach(w)),
+        DETACH => Asked::Detach(u64_of(w[2], w[3])),
         SET_CONFIG => Asked::Config(decode_config(w)),
+        FLIP => Asked::Flip(u64_of(w[2], w[3])),
         _ => Asked::Other,
     }
 }
@@ -128,6 +175,19 @@ fn decode_create(w: &[u32; 16]) -> Create
         buffer_sz: w[7],
         flags: w[8],
         gref_directory: w[9],
+    }
+}
+
+// The framebuffer in the words of a request.
+fn decode_attach(w: &[u32; 16]) -> Attach
+    ensures { result ≡ attach_of w.now }
+{
+    Attach {
+        dbuf_cookie: u64_of(w[2], w[3]),
+        fb_cookie: u64_of(w[4], w[5]),
+        width: w[6],
+        height: w[7],
+        pixel_format: w[8],
     }
 }
 
@@ -152,8 +212,11 @@ pub fn encode_request(r: &Request) -> [u32; 16]
     let head = head_word(r.id, r.op);
     match r.asked {
         Asked::Create(create) => encode_create(head, &create),
-        Asked::Destroy(cookie) => encode_destroy(head, cookie),
+        Asked::Attach(attach) => encode_attach(head, &attach),
         Asked::Config(config) => encode_config(head, &config),
+        Asked::Destroy(cookie) | Asked::Detach(cookie) | Asked::Flip(cookie) => {
+            encode_cookie(head, cookie)
+        }
         Asked::Other => [head, 0, 0, 0, 0, 0, 0, 0, 0, 0, 0, 0, 0, 0, 0, 0],
     }
 }
@@ -183,9 +246,35 @@ fn encode_create(head: u32, c: &Create) -> [u32; 16]
     ]
 }
 
-// The words of a request to take a display buffer away, the first of which is `head`.
-fn encode_destroy(head: u32, cookie: u64) -> [u32; 16]
-    ensures { result ≡ head ∷ 0 ∷ destroy_words cookie }
+// The words of a request for a framebuffer, the first of which is `head`.
+fn encode_attach(head: u32, a: &Attach) -> [u32; 16]
+    ensures { result ≡ head ∷ 0 ∷ attach_words a.now }
+{
+    let [dbuf_low, dbuf_high] = words_of_u64(a.dbuf_cookie);
+    let [fb_low, fb_high] = words_of_u64(a.fb_cookie);
+    [
+        head,
+        0,
+        dbuf_low,
+        dbuf_high,
+        fb_low,
+        fb_high,
+        a.width,
+        a.height,
+        a.pixel_format,
+        0,
+        0,
+        0,
+        0,
+        0,
+        0,
+        0,
+    ]
+}
+
+// The words of a message that has a cookie alone, the first of which is `head`.
+fn encode_cookie(head: u32, cookie: u64) -> [u32; 16]
+    ensures { result ≡ head ∷ 0 ∷ cookie_words cookie }
 {
     let [low, high] = words_of_u64(cookie);
     [head, 0, low, high, 0, 0, 0, 0, 0, 0, 0, 0, 0, 0, 0, 0]
@@ -223,6 +312,26 @@ pub fn decode_reply(w: &[u32; 16]) -> Reply
     }
 }
 
+/// The words of the event with this id which tells that the flip to the framebuffer of this cookie is
+/// done.
+pub fn encode_event(id: u16, value: u64) -> [u32; 16]
+    ensures { result ≡ event_words id value }
+{
+    encode_cookie(head_word(id, FLIPPED), value)
+}
+
+/// The event in these words, of which the second and those from the fifth on don't count.
+pub fn decode_event(w: &[u32; 16]) -> Event
+    ensures { result ≡ event_of w.now }
+{
+    let (id, kind) = head_fields(w[0]);
+    Event {
+        id,
+        kind,
+        value: u64_of(w[2], w[3]),
+    }
+}
+
 /// Whether each field is 0: such a request takes the configuration away.
 pub fn is_zero(c: &Config) -> bool
     ensures zero { IsTrue result ↔ IsZero c.now }
@@ -239,6 +348,11 @@ pub fn requests_read_back()
 /// A reply comes back from its words.
 pub fn replies_read_back()
     ensures { RepliesReadBack }
+{}
+
+/// An event comes back from its words.
+pub fn events_read_back()
+    ensures { EventsReadBack }
 {}
 
 #[cfg(test)]

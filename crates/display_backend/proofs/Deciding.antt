@@ -10,6 +10,7 @@ use Rattle.pv_words.specs.Plan.{Plan, Finished, Want, Goes, MayGo, mapped, joine
 use Rattle.grant_table.specs.Mapping.{flags_plan}
 use Rattle.displ_wire.specs.declared.Asked.{Asked}
 use Rattle.displ_wire.specs.declared.Asked.TheVariants as asked
+use Rattle.displ_wire.specs.declared.Attach.{Attach}
 use Rattle.displ_wire.specs.declared.Config.{Config}
 use Rattle.displ_wire.specs.declared.Create.{Create}
 use Rattle.displ_wire.specs.declared.Request.{Request}
@@ -94,11 +95,14 @@ pub decides_refused : (site : Site) (w : Work) (h : Hand) (asks : Asked) (b : Bo
 decides_refused site w h (asked.Create c) b e = ap (decides site w h (asked.Create c)) e
 decides_refused site w h (asked.Destroy cookie) b e = ap (decides site w h (asked.Destroy cookie)) e
 decides_refused site w h (asked.Config c) b e = refl
-decides_refused site w h asked.Other b e = refl
+decides_refused site w h asks b e = refl
 
-pub decides_plain : (site : Site) (w : Work) (h : Hand) (asks : Asked) (b : Bool) → ((x : Config) × (asks ≡ asked.Config x)) ⊎ (asks ≡ asked.Other) → decides site w h asks b ≡ answers w h (part_of w h)
+pub decides_plain : (site : Site) (w : Work) (h : Hand) (asks : Asked) (b : Bool) → ((x : Config) × (asks ≡ asked.Config x)) ⊎ (((x : Attach) × (asks ≡ asked.Attach x)) ⊎ (((x : ℕ) × (asks ≡ asked.Detach x)) ⊎ (((x : ℕ) × (asks ≡ asked.Flip x)) ⊎ (asks ≡ asked.Other)))) → decides site w h asks b ≡ answers w h (part_of w h)
 decides_plain site w h asks b (inl e) = ap (λ x. decides site w h x b) e.1
-decides_plain site w h asks b (inr e) = ap (λ x. decides site w h x b) e
+decides_plain site w h asks b (inr (inl e)) = ap (λ x. decides site w h x b) e.1
+decides_plain site w h asks b (inr (inr (inl e))) = ap (λ x. decides site w h x b) e.1
+decides_plain site w h asks b (inr (inr (inr (inl e)))) = ap (λ x. decides site w h x b) e.1
+decides_plain site w h asks b (inr (inr (inr (inr e)))) = ap (λ x. decides site w h x b) e
 
 pub decides_frees : (site : Site) (w : Work) (h : Hand) (asks : Asked) (cookie : ℕ) (b : Bool) (j : Joined) (s : Stock) → asks ≡ asked.Destroy cookie → b ≡ true → part_of w h ≡ Some j → w.stock ≡ s → decides site w h asks b ≡ Act (freeing w cookie) (freeing_plan cookie s)
 decides_frees site w h asks cookie b j s e f g i =

@@ -92,7 +92,7 @@ decides_busy site w h (asked.Create c) false j e = answers_busy w h (part_of w h
 decides_busy site w h (asked.Destroy cookie) true j e = frees_busy w cookie (part_of w h) j e
 decides_busy site w h (asked.Destroy cookie) false j e = answers_busy w h (part_of w h) j e
 decides_busy site w h (asked.Config c) b j e = answers_busy w h (part_of w h) j e
-decides_busy site w h asked.Other b j e = answers_busy w h (part_of w h) j e
+decides_busy site w h asks b j e = answers_busy w h (part_of w h) j e
 
 goes_busy : (site : Site) (w : Work) (h : Hand) (p : Progress) (j : Joined) → part_of w h ≡ Some j → true ≡ not (rests_next (goes_on site w h p))
 goes_busy site w h progress.Decided j e = decides_busy site w h h.request.asked (is_accepted (verdict w.stock.buffers h.request.asked)) j e

@@ -27,7 +27,7 @@ module _ (stock : Stock) where
   answer_same (asked.Destroy cookie) true distinct d = destroying_keeps stock cookie distinct d.0
   answer_same (asked.Destroy cookie) false distinct d = λ k. refl
   answer_same (asked.Config c) accepted distinct d = λ k. refl
-  answer_same asked.Other accepted distinct d = λ k. refl
+  answer_same asks accepted distinct d = λ k. refl
 
   pub answer_sound : (asks : Asked) (accepted : Bool) → AreSound stock.buffers → IsDone stock asks accepted → AreSound (stock_after stock asks accepted).buffers
   answer_sound (asked.Create c) true s d = sound_with stock.buffers c stock.mapped s d.0
@@ -35,7 +35,7 @@ module _ (stock : Stock) where
   answer_sound (asked.Destroy cookie) true s d = sound_without cookie stock.buffers s
   answer_sound (asked.Destroy cookie) false s d = s
   answer_sound (asked.Config c) accepted s d = s
-  answer_sound asked.Other accepted s d = s
+  answer_sound asks accepted s d = s
 
   pub answer_none : (asks : Asked) (accepted : Bool) → IsDone stock asks accepted → (stock_after stock asks accepted).mapped ≡ []
   answer_none (asked.Create c) true d = refl
@@ -43,7 +43,7 @@ module _ (stock : Stock) where
   answer_none (asked.Destroy cookie) true d = d.1
   answer_none (asked.Destroy cookie) false d = d
   answer_none (asked.Config c) accepted d = d
-  answer_none asked.Other accepted d = d
+  answer_none asks accepted d = d
 
   module _ (m : Naming) (named : AreAll stock.buffers m.ids) where
     -- each buffer has its number still
@@ -54,7 +54,7 @@ module _ (stock : Stock) where
     answer_all (asked.Destroy cookie) true = all_without cookie stock.buffers m.ids named
     answer_all (asked.Destroy cookie) false = named
     answer_all (asked.Config c) accepted = named
-    answer_all asked.Other accepted = named
+    answer_all asks accepted = named
 
     pub answer_rows : (asks : Asked) (accepted : Bool) → numbered (stock_after stock asks accepted).buffers (ids_after stock.buffers m asks accepted) ≡ replied_to (numbered stock.buffers m.ids) m.replies asks accepted
     answer_rows (asked.Create c) true =
@@ -63,7 +63,7 @@ module _ (stock : Stock) where
     answer_rows (asked.Destroy cookie) true = numbered_without cookie stock.buffers m.ids named
     answer_rows (asked.Destroy cookie) false = refl
     answer_rows (asked.Config c) accepted = refl
-    answer_rows asked.Other accepted = refl
+    answer_rows asks accepted = refl
 
     -- a CREATE that is accepted makes a name of the words of its pages
     pub answer_names : (asks : Asked) (accepted : Bool) (sight : Sight) → AreDistinct (cookies stock.buffers) → IsDone stock asks accepted → all_drawn sight (live_names (stock_after stock asks accepted).buffers (ids_after stock.buffers m asks accepted)) ≡ with_name (all_drawn sight (live_names stock.buffers m.ids)) (cond (is_creation asks && accepted) (Some m.replies) None) (words_in sight (cond (is_creation asks && accepted) (cells_of stock.mapped) []))
@@ -76,7 +76,7 @@ module _ (stock : Stock) where
         ap (all_drawn sight) (names_without cookie stock.buffers m.ids named distinct d.0)
     answer_names (asked.Destroy cookie) false sight distinct d = refl
     answer_names (asked.Config c) accepted sight distinct d = refl
-    answer_names asked.Other accepted sight distinct d = refl
+    answer_names asks accepted sight distinct d = refl
 
   pub done_as : (asks other : Asked) (b c : Bool) → asks ≡ other → b ≡ c → IsDone stock other c → IsDone stock asks b
   done_as asks other b c e f d = subst (λ (x : Asked). IsDone stock x b) (sym e) (subst (λ t. IsDone stock other t) (sym f) d)
@@ -85,7 +85,7 @@ module _ (stock : Stock) where
   refused_done (asked.Create c) none = none
   refused_done (asked.Destroy cookie) none = none
   refused_done (asked.Config c) none = none
-  refused_done asked.Other none = none
+  refused_done asks none = none
 
   module _ (h : Hand) where
     created_done : (c : Create) → IsCreating stock h c → 0 < length stock.mapped → IsDone stock h.request.asked (is_accepted (verdict stock.buffers h.request.asked))

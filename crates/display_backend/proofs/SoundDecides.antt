@@ -148,7 +148,7 @@ module _ (frames grants : ℕ → ℕ) (dom parts : ℕ) (w v : Work) (p : Plan 
           begins_release h cookie serving has decided (e, accepted_is (verdict w.stock.buffers h.request.asked) f) none (part_of w h) o
       begins_decides (asked.Destroy cookie) false e f x at o = begins_plain (asked.Destroy cookie) false e f (λ none. none) (part_of w h) refl o
       begins_decides (asked.Config c) b e f x at o = begins_plain (asked.Config c) b e f (λ none. none) (part_of w h) refl o
-      begins_decides asked.Other b e f x at o = begins_plain asked.Other b e f (λ none. none) (part_of w h) refl o
+      begins_decides asks b e f x at o = begins_plain asks b e f (λ none. none) (part_of w h) refl o
 
     pub begins_goes : (q : Progress) → w.progress ≡ q → Offers (goes_on (the_site frames grants dom parts) w h q) v p → BeginsSo frames grants dom parts w v p (λ m. begins_progress w m h q)
     begins_goes progress.Decided is o =

@@ -180,7 +180,7 @@ module _ (frames grants : ℕ → ℕ) (dom parts : ℕ) where
     found_decides none h has (asked.Destroy cookie) e true o = found_free none cookie (part_of w h) o
     found_decides none h has (asked.Destroy cookie) e false o = found_answers none h (part_of w h) o
     found_decides none h has (asked.Config c) e b o = found_answers none h (part_of w h) o
-    found_decides none h has asked.Other e b o = found_answers none h (part_of w h) o
+    found_decides none h has asks e b o = found_answers none h (part_of w h) o
 
     found_goes : w.kept ≡ None → (h : Hand) → w.hand ≡ Some h → (q : Progress) → Offers (goes_on (the_site frames grants dom parts) w h q) v p → FitsFound v f p
     found_goes none h has progress.Decided o = found_decides none h has h.request.asked refl (is_accepted (verdict w.stock.buffers h.request.asked)) o

@@ -46,7 +46,7 @@ pub same_verdict : (bs : List Held) (ns : List ℕ) (a : Asked) → verdict (num
 same_verdict bs ns (asked.Create c) = ap checked (same_check bs ns c)
 same_verdict bs ns (asked.Destroy cookie) = ap (λ t. cond t (pos 0) (status_of Unknown)) (same_live cookie bs ns)
 same_verdict bs ns (asked.Config c) = refl
-same_verdict bs ns asked.Other = refl
+same_verdict bs ns asks = refl
 
 pub same_status : (denied : Bool) (bs : List Held) (ns : List ℕ) (a : Asked) (status : ℤ) → IsStatus denied bs a status → IsStatus denied (numbered bs ns) a status
 same_status true bs ns a status h = h

@@ -246,7 +246,7 @@ module _ (w v : Work) where
     rests_decides h (asked.Destroy cookie) true e = rests_free cookie (part_of w h) e
     rests_decides h (asked.Destroy cookie) false e = rests_answer h (part_of w h) e
     rests_decides h (asked.Config c) b e = rests_answer h (part_of w h) e
-    rests_decides h asked.Other b e = rests_answer h (part_of w h) e
+    rests_decides h asks b e = rests_answer h (part_of w h) e
 
     rests_goes : (h : Hand) (q : Progress) → goes_on site w h q ≡ Rest v → IsPaused w v
     rests_goes h progress.Decided e = rests_decides h h.request.asked (is_accepted (verdict w.stock.buffers h.request.asked)) e

@@ -96,7 +96,7 @@ after_refused : (s : Stock) (asks : Asked) (b : Bool) → b ≡ false → stock_
 after_refused s (asked.Create c) b e = ap (stock_after s (asked.Create c)) e
 after_refused s (asked.Destroy cookie) b e = ap (stock_after s (asked.Destroy cookie)) e
 after_refused s (asked.Config c) b e = refl
-after_refused s asked.Other b e = refl
+after_refused s asks b e = refl
 
 settled_as : (s t : Stock) → t ≡ s → Settled s → Settled t
 settled_as s t e h = subst (λ (x : Stock). Settled x) (sym e) h
@@ -114,7 +114,7 @@ pub settled_after : (p : Progress) (asks : Asked) (s : Stock) (whole : Bool) (st
 settled_after progress.Decided (asked.Create c) s whole status h due told = refused s (asked.Create c) status (not_false (is_accepted status) due) h
 settled_after progress.Decided (asked.Destroy cookie) s whole status h due told = refused s (asked.Destroy cookie) status (not_false (is_accepted status) due) h
 settled_after progress.Decided (asked.Config c) s whole status h due told = h
-settled_after progress.Decided asked.Other s whole status h due told = h
+settled_after progress.Decided asks s whole status h due told = h
 settled_after progress.NoMemory asks s whole status h due told = refused s asks status (ap is_accepted told) h
 settled_after progress.Denied asks s whole status h due told = refused s asks status (ap is_accepted told) h
 settled_after progress.Mapped (asked.Create c) s whole status h due told =
@@ -123,13 +123,13 @@ settled_after progress.Mapped (asked.Create c) s whole status h due told =
     (refl, have_with s.buffers c s.mapped some h.1)
 settled_after progress.Mapped (asked.Destroy cookie) s whole status h due told = absurd h
 settled_after progress.Mapped (asked.Config c) s whole status h due told = absurd h
-settled_after progress.Mapped asked.Other s whole status h due told = absurd h
+settled_after progress.Mapped asks s whole status h due told = absurd h
 settled_after progress.Released (asked.Create c) s whole status h due told = absurd h
 settled_after progress.Released (asked.Destroy cookie) s whole status h due told =
     subst (λ b. Settled (stock_after s (asked.Destroy cookie) b)) (sym (accepted_destroy s.buffers cookie status h.1 told))
     (h.2, have_without cookie s.buffers h.3)
 settled_after progress.Released (asked.Config c) s whole status h due told = absurd h
-settled_after progress.Released asked.Other s whole status h due told = absurd h
+settled_after progress.Released asks s whole status h due told = absurd h
 
 not_due : {A : Type 0} (status : ℤ) → not (is_accepted status) ≡ true → status ≡ pos 0 → A
 not_due status due zero = absurd (false≢true (sym (not_false (is_accepted status) due) ∙ ap is_accepted zero))
@@ -138,17 +138,17 @@ pub ready_to : (p : Progress) (asks : Asked) (s : Stock) (whole : Bool) (status 
 ready_to progress.Decided (asked.Create c) s whole status h due told zero = not_due status due zero
 ready_to progress.Decided (asked.Destroy cookie) s whole status h due told zero = not_due status due zero
 ready_to progress.Decided (asked.Config c) s whole status h due told zero = tt
-ready_to progress.Decided asked.Other s whole status h due told zero = tt
+ready_to progress.Decided asks s whole status h due told zero = tt
 ready_to progress.NoMemory asks s whole status h due told zero = absurd (false≢true (sym (ap is_accepted told) ∙ ap is_accepted zero))
 ready_to progress.Denied asks s whole status h due told zero = absurd (false≢true (sym (ap is_accepted told) ∙ ap is_accepted zero))
 ready_to progress.Mapped (asked.Create c) s whole status h due told zero = h.0
 ready_to progress.Mapped (asked.Destroy cookie) s whole status h due told zero = absurd h
 ready_to progress.Mapped (asked.Config c) s whole status h due told zero = absurd h
-ready_to progress.Mapped asked.Other s whole status h due told zero = absurd h
+ready_to progress.Mapped asks s whole status h due told zero = absurd h
 ready_to progress.Released (asked.Create c) s whole status h due told zero = absurd h
 ready_to progress.Released (asked.Destroy cookie) s whole status h due told zero = h.0
 ready_to progress.Released (asked.Config c) s whole status h due told zero = absurd h
-ready_to progress.Released asked.Other s whole status h due told zero = absurd h
+ready_to progress.Released asks s whole status h due told zero = absurd h
 
 -- the verdict that a request was accepted by
 refused_status : (why : Refused) → is_accepted (status_of why) ≡ false

@@ -34,7 +34,7 @@ none_decided w m h (asked.Destroy cookie) true = none_freeing w m cookie (part_o
 none_decided w m h (asked.Destroy cookie) false = refl
 none_decided w m h (asked.Create c) accepted = refl
 none_decided w m h (asked.Config c) accepted = refl
-none_decided w m h asked.Other accepted = refl
+none_decided w m h asks accepted = refl
 
 none_progress : (w : Work) (m : Naming) (h : Hand) (at : Progress) → told_by told_of (begins_progress w m h at) ≡ []
 none_progress w m h progress.Decided = none_decided w m h h.request.asked (is_accepted (verdict w.stock.buffers h.request.asked))

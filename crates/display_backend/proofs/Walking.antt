@@ -81,13 +81,13 @@ pub creates_settled : (asks : Asked) (p : Progress) (s : Stock) (count : ℕ) �
 creates_settled (asked.Create c) p s count h = h.3
 creates_settled (asked.Destroy cookie) p s count h = absurd h
 creates_settled (asked.Config c) p s count h = absurd h
-creates_settled asked.Other p s count h = absurd h
+creates_settled asks p s count h = absurd h
 
 creates_decided : (asks : Asked) (p : Progress) (s : Stock) (count : ℕ) → Creates asks p s count → p ≡ progress.Decided
 creates_decided (asked.Create c) p s count h = h.0
 creates_decided (asked.Destroy cookie) p s count h = absurd h
 creates_decided (asked.Config c) p s count h = absurd h
-creates_decided asked.Other p s count h = absurd h
+creates_decided asks p s count h = absurd h
 
 -- a request is in hand between two activities
 pub stored_hand : (dom : ℕ) (o : Bool) (a : Activity) (q : Request) (hand : Option Request) (status : ℤ) (reply : List ℕ) (p : Progress) (k : Option Walk) (s : Stock) (whole : Bool) → o ≡ true → a ≡ activity.Between → hand ≡ Some q → reply ≡ reply_to q status → k ≡ None → status ≡ status_in p (verdict s.buffers q.asked) → ComesTo p q.asked s whole → Stored dom o a hand status reply p k s whole

@@ -21,13 +21,13 @@ mapped_prop : (asks : Asked) (s : Stock) (whole : Bool) → IsProp (IsMapped ask
 mapped_prop (asked.Create c) s whole = hlevel props
 mapped_prop (asked.Destroy cookie) s whole = hlevel props
 mapped_prop (asked.Config c) s whole = hlevel props
-mapped_prop asked.Other s whole = hlevel props
+mapped_prop asks s whole = hlevel props
 
 released_prop : (asks : Asked) (s : Stock) (whole : Bool) → IsProp (IsReleased asks s whole)
 released_prop (asked.Create c) s whole = hlevel props
 released_prop (asked.Destroy cookie) s whole = hlevel props
 released_prop (asked.Config c) s whole = hlevel props
-released_prop asked.Other s whole = hlevel props
+released_prop asks s whole = hlevel props
 
 comes_prop : (p : Progress) (asks : Asked) (s : Stock) (whole : Bool) → IsProp (ComesTo p asks s whole)
 comes_prop progress.Decided asks s whole = hlevel props
@@ -48,7 +48,7 @@ creates_prop : (asks : Asked) (p : Progress) (s : Stock) (count : ℕ) → IsPro
 creates_prop (asked.Create c) p s count = hlevel props
 creates_prop (asked.Destroy cookie) p s count = hlevel props
 creates_prop (asked.Config c) p s count = hlevel props
-creates_prop asked.Other p s count = hlevel props
+creates_prop asks p s count = hlevel props
 
 walks_prop : (dom : ℕ) (w : Walk) → IsProp (Walks dom w)
 walks_prop dom w = hlevel (props, further_prop)

@@ -43,12 +43,12 @@ checked (Err why) = status_of why
 
 -- The verdict on a request: CREATE by its checks; DESTROY of a live buffer (0), of another (ENOENT); SET_CONFIG of zeros takes
 -- the configuration away (0), with another field it names a framebuffer, of which none is live (ENOENT); no other operation
--- is known (EOPNOTSUPP).
+-- is met (EOPNOTSUPP).
 abbrev pub verdict : {P : Type 0} → List (Live P) → Asked → ℤ
 verdict bs (asked.Create c) = checked (check_of bs c)
 verdict bs (asked.Destroy cookie) = if is_some (buffer_of cookie bs) then pos 0 else status_of Unknown
 verdict bs (asked.Config c) = if all_zero c then pos 0 else status_of Unknown
-verdict bs asked.Other = status_of NotSupported
+verdict bs asks = status_of NotSupported
 
 -- want of memory (ENOMEM), and a page that is denied (EACCES)
 abbrev pub no_memory : ℤ

@@ -55,20 +55,20 @@ abbrev pub IsReady : Asked → Stock → Bool → Type 0
 IsReady (asked.Create c) s whole = (check_of s.buffers c ≡ Ok tt) × (length s.mapped ≡ page_count c.buffer_sz) × (whole ≡ true)
 IsReady (asked.Destroy cookie) s whole = pages_under cookie s.buffers ≡ []
 IsReady (asked.Config c) s whole = Unit {0}
-IsReady asked.Other s whole = Unit {0}
+IsReady asks s whole = Unit {0}
 
 abbrev pub IsMapped : Asked → Stock → Bool → Type 0
 IsMapped (asked.Create c) s whole = IsReady (asked.Create c) s whole × HavePages s.buffers
 IsMapped (asked.Destroy cookie) s whole = ⊥
 IsMapped (asked.Config c) s whole = ⊥
-IsMapped asked.Other s whole = ⊥
+IsMapped asks s whole = ⊥
 
 abbrev pub IsReleased : Asked → Stock → Bool → Type 0
 IsReleased (asked.Create c) s whole = ⊥
 IsReleased (asked.Destroy cookie) s whole =
     IsReady (asked.Destroy cookie) s whole × (is_some (buffer_of cookie s.buffers) ≡ true) × (s.mapped ≡ []) × HavePagesBut cookie s.buffers
 IsReleased (asked.Config c) s whole = ⊥
-IsReleased asked.Other s whole = ⊥
+IsReleased asks s whole = ⊥
 
 -- how far a request has come, and which pages are held then
 abbrev pub ComesTo : Progress → Asked → Stock → Bool → Type 0
@@ -87,7 +87,7 @@ abbrev pub is_due : Progress → Asked → ℤ → Bool
 is_due progress.Decided (asked.Create c) status = not (is_accepted status)
 is_due progress.Decided (asked.Destroy cookie) status = not (is_accepted status)
 is_due progress.Decided (asked.Config c) status = true
-is_due progress.Decided asked.Other status = true
+is_due progress.Decided asks status = true
 is_due progress.NoMemory asks status = true
 is_due progress.Denied asks status = true
 is_due progress.Mapped asks status = true
@@ -103,7 +103,7 @@ Creates (asked.Create c) p s count =
     (p ≡ progress.Decided) × (check_of s.buffers c ≡ Ok tt) × (count ≡ page_count c.buffer_sz) × Settled s
 Creates (asked.Destroy cookie) p s count = ⊥
 Creates (asked.Config c) p s count = ⊥
-Creates asked.Other p s count = ⊥
+Creates asks p s count = ⊥
 
 -- a walk over this domain's directory, of which an access is still to be made
 pub record Walks (dom : ℕ) (w : Walk) : Type 0 where

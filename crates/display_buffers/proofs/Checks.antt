@@ -5,8 +5,7 @@ use Rattle.displ_wire.specs.declared.Create.{Create}
 use Rattle.displ_wire.specs.declared.buffer.Refused.{Refused}
 use Rattle.displ_wire.specs.declared.buffer.Refused.TheVariants.{NotSupported, Exists, Full, Invalid}
 use Rattle.display_buffers.specs.declared.live.Live.{Live}
-use Rattle.display_buffers.specs.Buffers.{buffer_of, check_of, cookies, is_in_range, made_of, IsFresh}
-use Rattle.display_buffers.proofs.Rows.{fresh_cookie}
+use Rattle.display_buffers.specs.Buffers.{buffer_of, check_of, is_in_range, made_of}
 
 -- what is answered, by whether the flags are 0, the cookie is live, the table is full and the fields are in range
 abbrev pub answer_of : Bool → Bool → Bool → Bool → Result (Unit {0}) Refused
@@ -46,5 +45,5 @@ module _ {P : Type 0} (bs : List (Live P)) (c : Create) where
   pub leaves_room : check_of bs c ≡ Ok tt → length bs < 64
   leaves_room h = leb-false _ _ (passes h).1
 
-  pub leaves_cookie : check_of bs c ≡ Ok tt → IsFresh c.dbuf_cookie (cookies bs)
-  leaves_cookie h = fresh_cookie c.dbuf_cookie bs (none_of _ (passes h).0)
+  pub leaves_cookie : check_of bs c ≡ Ok tt → buffer_of c.dbuf_cookie bs ≡ None
+  leaves_cookie h = none_of _ (passes h).0

@@ -1,12 +1,18 @@
 -- Display buffers: the rows of CREATE and DESTROY (the operations of displif.h; the limits, the depths and which error
 -- answers which fault are this project's own). They know no page: what goes with a buffer is of any type.
-use Rattle.std.specs.Prelude.{◌≡◌, ◌≢◌, ℕ, ◌≤◌, ◌*◌, ◌/◌, Bool, true, not, ◌&&◌, ◌||◌, ◌==◌, nat_lt, nat_le, if◌then◌else◌, List, [], ◌∷◌, ◌++◌, length, map, Option, is_some, Result, Ok, Err}
-use Rattle.std.specs.List.{AllByRecursion, find, filter}
+use Rattle.std.specs.Prelude.{◌≡◌, ℕ, ◌≤◌, ◌*◌, ◌/◌, Bool, true, not, ◌&&◌, ◌||◌, ◌==◌, nat_lt, nat_le, if◌then◌else◌, List, [], ◌∷◌, ◌++◌, length, Option, is_some, Result, Ok, Err}
+use Rattle.std.specs.List.{AllByRecursion}
+use Rattle.cookie_table.specs.Cookies as table
+pub use Rattle.cookie_table.specs.Cookies.{AreDistinct, IsFresh}
 use Rattle.displ_wire.specs.declared.Create.{Create}
 use Rattle.displ_wire.specs.declared.buffer.Buffer.{Buffer}
 use Rattle.displ_wire.specs.declared.buffer.Refused.{Refused}
 use Rattle.displ_wire.specs.declared.buffer.Refused.TheVariants.{NotSupported, Exists, Full, Invalid}
 use Rattle.display_buffers.specs.declared.live.Live.{Live}
+
+-- the cookie of a buffer
+abbrev pub cookie_of : {P : Type 0} → Live P → ℕ
+cookie_of b = b.buffer.cookie
 
 -- whether a buffer has this cookie
 abbrev pub has_cookie : {P : Type 0} → ℕ → Live P → Bool
@@ -14,11 +20,11 @@ has_cookie cookie b = b.buffer.cookie == cookie
 
 -- the live buffer of a cookie
 abbrev pub buffer_of : {P : Type 0} → ℕ → List (Live P) → Option (Live P)
-buffer_of cookie bs = find (has_cookie cookie) bs
+buffer_of cookie bs = table.value_of cookie_of cookie bs
 
 -- the cookies of the live buffers
 abbrev pub cookies : {P : Type 0} → List (Live P) → List ℕ
-cookies bs = map (λ b. b.buffer.cookie) bs
+cookies bs = table.cookies cookie_of bs
 
 -- how many octets the pixels take
 abbrev pub picture_octets : Buffer → ℕ
@@ -63,15 +69,7 @@ with_buffer bs c pages = bs ++ record { buffer = made_of c; pages = pages } ∷ 
 
 -- the live buffers after a DESTROY
 abbrev pub without_buffer : {P : Type 0} → ℕ → List (Live P) → List (Live P)
-without_buffer cookie bs = filter (λ b. not (has_cookie cookie b)) bs
-
--- a number differs from each of these; each differs from those after it
-abbrev pub IsFresh : ℕ → List ℕ → Type 0
-IsFresh n ns = AllByRecursion (λ m. n ≢ m) ns
-
-abbrev pub AreDistinct : List ℕ → Type 0
-AreDistinct [] = Unit {0}
-AreDistinct (n ∷ ns) = IsFresh n ns × AreDistinct ns
+without_buffer cookie bs = table.without cookie_of cookie bs
 
 -- at most 64 buffers are live, under different cookies, each with its fields in range
 pub record AreSound {P : Type 0} (bs : List (Live P)) : Type 0 where

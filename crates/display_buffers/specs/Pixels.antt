@@ -1,7 +1,9 @@
 -- Where the pixels of a buffer stand in its octets, and its octets in its pages. A page has 4096 octets, which are 1024
 -- words.
-use Rattle.std.specs.Prelude.{ℕ, ◌+◌, ◌*◌, ◌/◌, ◌%◌, List, slice_get, Option, option_map}
+use Rattle.std.specs.Prelude.{◌≡◌, ℕ, ◌+◌, ◌*◌, ◌/◌, ◌%◌, true, List, length, slice_get, Option, option_map}
 use Rattle.displ_wire.specs.declared.buffer.Buffer.{Buffer}
+use Rattle.display_buffers.specs.declared.live.Live.{Live}
+use Rattle.display_buffers.specs.Buffers.{is_in_range}
 use Rattle.pv_words.specs.declared.grant.Hold.{Hold}
 use Rattle.pv_words.specs.declared.place.Place.{Place}
 use Rattle.pv_words.specs.declared.place.Place.TheVariants.{Cell}
@@ -18,3 +20,7 @@ page_count octets = (octets + 4095) / 4096
 -- o / 4096
 abbrev pub octet_place : List Hold → ℕ → Option Place
 octet_place pages octet = option_map (λ h. Cell h.dom h.frame (octet / 4 % 1024)) (slice_get pages (octet / 4096))
+
+-- a buffer's fields are in range, and it has a page for each 4096 octets that it begins
+abbrev pub IsWhole : {P : Type 0} → (P → List Hold) → Live P → Type 0
+IsWhole holds b = (is_in_range b.buffer ≡ true) × (length (holds b.pages) ≡ page_count b.buffer.buffer_sz)

@@ -7,7 +7,7 @@ ghost use Rattle.display_buffers.specs.Pixels.{octet_place, page_count};
 use crate::live::Live;
 use crate::pixels::place_of;
 use crate::range::is_valid;
-use crate::table::{BUFFER_LIMIT, Entries, find, position, put, ranked, take, unused_entries};
+use cookie_table::{TABLE_LIMIT, Table};
 use displ_wire::{Buffer, Create, Refused};
 use pv_words::{PageList, Place};
 use std::alloc::{AllocError, Global};
@@ -17,22 +17,20 @@ use std::marker::Model;
 /// made.
 #[derive(Drop)]
 pub struct Buffers<P: PageList + Drop> {
-    entries: Entries<P>,
-    // The keys of the live buffers, in order of creation, and the keys whose entries are empty.
-    order: Vec<usize>,
-    others: Vec<usize>,
+    table: Table<Live<P>>,
 }
 
 impl<P: PageList + Drop> Model for Buffers<P> {
-    ghost use Rattle.std.specs.Prelude.{List, ◌≤◌, vec_capacity};
+    ghost use Rattle.std.specs.Prelude.{List};
+    ghost use Rattle.std.specs.List.{AllByRecursion};
     ghost use Rattle.display_buffers.specs.declared.live.Live.{Live};
-    ghost use Rattle.display_buffers.specs.Table.{IsTable, rows};
+    ghost use Rattle.display_buffers.specs.Pixels.{IsWhole};
 
     ghost Value = { List (Live P) };
 
-    ghost view = { λ b. rows b.entries b.order.items };
+    ghost view = { λ b. b.table };
 
-    ghost invariant = { λ b. IsTable P.holds b.entries b.order.items b.others.items × (64 ≤ vec_capacity b.order) × (64 ≤ vec_capacity b.others) };
+    ghost invariant = { λ b. AllByRecursion (IsWhole P.holds) b.table };
 }
 
 impl<P: PageList + Drop> Buffers<P> {
@@ -40,13 +38,8 @@ impl<P: PageList + Drop> Buffers<P> {
     pub fn new(alloc: Global) -> Result<Buffers<P>, AllocError>
         ensures { IfOk result (λ bs. bs ≡ []) }
     {
-        let (entries, others) = unused_entries(alloc)?;
-        let order = Vec::with_capacity(alloc, BUFFER_LIMIT)?;
-        Ok(Buffers {
-            entries,
-            order,
-            others,
-        })
+        let table = Table::new(alloc)?;
+        Ok(Buffers { table })
     }
 
     /// How many buffers are live, at most 64.
@@ -54,7 +47,7 @@ impl<P: PageList + Drop> Buffers<P> {
         ensures count { result ≡ length self.now }
         ensures sound { AreSound self.now }
     {
-        self.order.len() as u32
+        self.table.len()
     }
 
     /// The first check of a CREATE that fails, of those that need no memory and no page: its flags ask for pages of the
@@ -66,10 +59,10 @@ impl<P: PageList + Drop> Buffers<P> {
         if c.flags != 0 {
             return Err(Refused::NotSupported);
         }
-        if find(&self.entries, &self.order, c.dbuf_cookie).is_some() {
+        if self.table.get(c.dbuf_cookie).is_some() {
             return Err(Refused::Exists);
         }
-        if self.order.len() >= BUFFER_LIMIT {
+        if self.table.len() >= TABLE_LIMIT {
             return Err(Refused::Full);
         }
         if !is_valid(c) {
@@ -84,9 +77,6 @@ impl<P: PageList + Drop> Buffers<P> {
         requires whole { length (P.holds pages) ≡ page_count c.now.buffer_sz }
         ensures { self.new ≡ with_buffer self.old c.now pages }
     {
-        let Some(key) = self.others.pop() else {
-            unreachable!();
-        };
         let buffer = Buffer {
             cookie: c.dbuf_cookie,
             width: c.width,
@@ -94,8 +84,7 @@ impl<P: PageList + Drop> Buffers<P> {
             bpp: c.bpp,
             buffer_sz: c.buffer_sz,
         };
-        put(&mut self.entries, key, Live { buffer, pages });
-        self.order.push_reserved(key);
+        self.table.push(Live { buffer, pages });
     }
 
     /// Takes a buffer away, and gives its pages back; None where the cookie isn't live.
@@ -103,10 +92,8 @@ impl<P: PageList + Drop> Buffers<P> {
         ensures pages { result ≡ option_map (λ b. b.pages) (buffer_of cookie self.old) }
         ensures rest { self.new ≡ without_buffer cookie self.old }
     {
-        let at = position(&self.entries, &self.order, cookie)?;
-        let key = self.order.remove(at);
-        self.others.push_reserved(key);
-        Some(take(&mut self.entries, key).pages)
+        let live = self.table.remove(cookie)?;
+        Some(live.pages)
     }
 
     /// The buffer of a cookie; None where the cookie isn't live.
@@ -114,7 +101,7 @@ impl<P: PageList + Drop> Buffers<P> {
         ensures value { result ≡ option_map (λ b. b.buffer) (buffer_of cookie self.now) }
         ensures in_range { IfSome result (λ b. is_in_range b ≡ true) }
     {
-        Some(find(&self.entries, &self.order, cookie)?.buffer)
+        Some(self.table.get(cookie)?.buffer)
     }
 
     /// The word that has this octet of a live buffer. The octet lies in the buffer.
@@ -122,7 +109,7 @@ impl<P: PageList + Drop> Buffers<P> {
         requires { IsSomeAnd (buffer_of cookie self.now) (λ b. octet < b.buffer.buffer_sz) }
         ensures { IsSomeAnd (buffer_of cookie self.now) (λ b. octet_place (P.holds b.pages) octet ≡ Some result) }
     {
-        let Some(live) = find(&self.entries, &self.order, cookie) else {
+        let Some(live) = self.table.get(cookie) else {
             unreachable!();
         };
         place_of(&live.pages, octet)
@@ -133,7 +120,7 @@ impl<P: PageList + Drop> Buffers<P> {
         requires { k < length self.now }
         ensures { option_map (λ b. b.buffer.cookie) (slice_get self.now k) ≡ Some result }
     {
-        ranked(&self.entries, &self.order, k as usize).buffer.cookie
+        self.table.nth(k).buffer.cookie
     }
 
     /// The pages of the `k`-th live buffer, in order of creation from 0.
@@ -141,6 +128,6 @@ impl<P: PageList + Drop> Buffers<P> {
         requires { k < length self.now }
         ensures { option_map (λ b. b.pages) (slice_get self.now k) ≡ Some result.now }
     {
-        &ranked(&self.entries, &self.order, k as usize).pages
+        &self.table.nth(k).pages
     }
 }

@@ -7,7 +7,6 @@ mod laws;
 mod live;
 mod pixels;
 mod range;
-mod table;
 
 pub use buffers::Buffers;
 pub use laws::{creates_one, destroys_one, pixels_inside, stays_sound};

@@ -44,7 +44,7 @@ fn verdict_on(store: &Store, asked: &Asked) -> i32
                 Refused::Unknown.status()
             }
         }
-        Asked::Other => Refused::NotSupported.status(),
+        _ => Refused::NotSupported.status(),
     }
 }
 
@@ -59,7 +59,7 @@ fn answered(store: &mut Store, asked: &Asked, status: i32)
     match asked {
         Asked::Create(create) => store.create(create),
         Asked::Destroy(cookie) => store.destroy(*cookie),
-        Asked::Config(_) | Asked::Other => {}
+        _ => {}
     }
 }
 
@@ -192,7 +192,11 @@ impl Display {
                 self.activity = Activity::Freeing(cookie);
                 self.free(words, cookie)
             }
-            Asked::Config(_) | Asked::Other => self.answer(words),
+            Asked::Config(_)
+            | Asked::Attach(_)
+            | Asked::Detach(_)
+            | Asked::Flip(_)
+            | Asked::Other => self.answer(words),
         }
     }
 

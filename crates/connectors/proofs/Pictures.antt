@@ -1,0 +1,35 @@
+-- A picture lies in the framebuffer that it is of.
+use Rattle.std.proofs.Common.{◌≡◌, ℕ, ◌+◌, true, ◌&&◌, ◌==◌, nat_lt, nat_le, List, Option, Some, None, IsSomeAnd, refl, subst}
+use Rattle.std.proofs.lemmas.Bool.{and_parts, leb-true, ltb-true}
+use Rattle.framebuffers.specs.declared.frame.Framebuffer.{Framebuffer}
+use Rattle.framebuffers.specs.Frames.{frame_of}
+use Rattle.connectors.specs.declared.connector.Picture.{Picture}
+use Rattle.connectors.specs.declared.rectangle.Rectangle.{Rectangle}
+use Rattle.connectors.specs.Connectors.{has_area, lies_in, picture_in}
+use Rattle.connectors.specs.Laws.{CanShow, Shows}
+
+abbrev part_of : ℕ → Rectangle → Picture
+part_of fb r = record { fb = fb; x = r.x; y = r.y; width = r.width; height = r.height }
+
+part_shown : (fb : ℕ) (r : Rectangle) (f : Framebuffer) → has_area r ≡ true → lies_in r f ≡ true → Shows (part_of fb r) f
+part_shown fb r f area inside =
+    let sides = and_parts (nat_lt 0 r.width) (nat_lt 0 r.height) area in
+    let across = and_parts (nat_le (r.x + r.width) f.width) (nat_le (r.y + r.height) f.height && (r.bpp == f.bpp)) inside in
+    let down = and_parts (nat_le (r.y + r.height) f.height) (r.bpp == f.bpp) across.1 in
+    record {
+      wide = ltb-true 0 r.width sides.0;
+      high = ltb-true 0 r.height sides.1;
+      across = leb-true (r.x + r.width) f.width across.0;
+      down = leb-true (r.y + r.height) f.height down.0;
+    }
+
+found_shown : (fb : ℕ) (r : Rectangle) (o : Option Framebuffer) → has_area r ≡ true → IsSomeAnd o (λ f. lies_in r f ≡ true) → IsSomeAnd o (Shows (part_of fb r))
+found_shown fb r None area h = absurd h
+found_shown fb r (Some f) area h = part_shown fb r f area h
+
+pub picture_shown : (fs : List Framebuffer) (o : Option Rectangle) (shown : Option ℕ) (p : Picture) → ((r : Rectangle) → o ≡ Some r → has_area r ≡ true) → ((fb : ℕ) → shown ≡ Some fb → CanShow fs o fb) → picture_in o shown ≡ Some p → IsSomeAnd (frame_of p.fb fs) (Shows p)
+picture_shown fs None shown p pixels can e = absurd (cc)
+picture_shown fs (Some r) None p pixels can e = absurd (cc)
+picture_shown fs (Some r) (Some fb) p pixels can e =
+    let same : part_of fb r ≡ p = cc in
+    subst (λ (q : Picture). IsSomeAnd (frame_of q.fb fs) (Shows q)) same (found_shown fb r (frame_of fb fs) (pixels r refl) (can fb refl))

@@ -1,0 +1,5 @@
+pub mod Changes
+pub mod Keys
+pub mod Names
+pub mod Rows
+pub mod Search

@@ -1,0 +1,3 @@
+pub mod Cookies
+pub mod Entries
+pub mod Laws

@@ -1,9 +1,0 @@
-use Rattle.std.proofs.Common.{rules, ◌∙◌, ◌≡◌, Some, slice_index}
-use Rattle.display_buffers.specs.Table.{entry_at}
-use Rattle.display_buffers.proofs.Rows.{row_at}
-use Rattle.display_buffers.proofs.table.ranked.Goals as goal
-
-pub returns : goal.returns
-returns g c =
-    let there : entry_at c.args.entries.now (slice_index c.args.order.now c.args.rank) ≡ Some c.in-Some.live.now = search rules in
-    row_at c.args.entries.now c.args.order.now c.args.rank c.requires.used c.requires.within ∙ there

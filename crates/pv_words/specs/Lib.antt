@@ -4,6 +4,7 @@ pub mod Keeping
 pub mod Layout
 pub mod ListPort
 pub mod ListWords
+pub mod Mark
 pub mod Memory
 pub mod Place
 pub mod Plan

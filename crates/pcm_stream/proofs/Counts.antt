@@ -11,7 +11,7 @@ use Rattle.pcm_params.specs.Format.{frame_of}
 use Rattle.pcm_stream.specs.declared.state.StreamState.{StreamState}
 use Rattle.pcm_stream.specs.declared.state.Trigger.{Trigger}
 use Rattle.pcm_stream.specs.declared.state.Trigger.TheVariants.{Start, Pause, Stop, Resume}
-use Rattle.pcm_stream.specs.Laws.{AllAreCounted, CountsAll, Deed, Tick, Push, Skip, Pull, Raise, after, after_all, all_moved, moves}
+use Rattle.pcm_stream.specs.Laws.{AllAreCounted, CountsAll, Deed, Tick, Push, Skip, Pull, Raise, after, after_all, all_of, moves}
 use Rattle.pcm_stream.specs.Line.{line_from}
 use Rattle.pcm_stream.specs.State.{is_running, leads, trigger_at}
 use Rattle.pcm_stream.specs.Stream.{Pcm, led, opened, popped, pulled, pushed, told, triggered}
@@ -61,14 +61,16 @@ counted-by s count none below =
     else record s { position = position; phase = (s.phase + count) % s.params.period_sz; owed = Some position }
 
 -- what counting makes of a stream
-record Counting (s t : Pcm) (count : ℕ) : Type 0 where
-  kind : t.kind ≡ s.kind
-  params : t.params ≡ s.params
-  position : t.position ≡ (s.position + count) % 2 ^ 64
-  phase : 0 < s.params.period_sz → t.phase ≡ (s.phase + count) % s.params.period_sz
-  captured : t.captured ≡ s.captured
+pub record Counting (s t : Pcm) (count : ℕ) : Type 0 where
+  pub kind : t.kind ≡ s.kind
+  pub params : t.params ≡ s.params
+  pub position : t.position ≡ (s.position + count) % 2 ^ 64
+  pub phase : 0 < s.params.period_sz → t.phase ≡ (s.phase + count) % s.params.period_sz
+  pub captured : t.captured ≡ s.captured
+  pub queue : t.queue ≡ s.queue
 
-counting-by : (s : Pcm) (count : ℕ) (none below : Bool) → nat_eq s.params.period_sz 0 ≡ none → nat_lt (s.phase + count) s.params.period_sz ≡ below
+counting-by : (s : Pcm) (count : ℕ) (none below : Bool)
+    → nat_eq s.params.period_sz 0 ≡ none → nat_lt (s.phase + count) s.params.period_sz ≡ below
     → Counting s (counted-by s count none below) count
 counting-by s count true below e f = record {
   kind = refl;
@@ -76,6 +78,7 @@ counting-by s count true below e f = record {
   position = refl;
   phase = λ positive. absurd (grind (arith, nat_tests));
   captured = refl;
+  queue = refl;
 }
 counting-by s count false true e f = record {
   kind = refl;
@@ -85,6 +88,7 @@ counting-by s count false true e f = record {
       let below : s.phase + count < s.params.period_sz = grind (arith, nat_tests) in
       sym (mod-eq_of_lt below);
   captured = refl;
+  queue = refl;
 }
 counting-by s count false false e f = record {
   kind = refl;
@@ -92,9 +96,10 @@ counting-by s count false false e f = record {
   position = refl;
   phase = λ positive. refl;
   captured = refl;
+  queue = refl;
 }
 
-counting : (s : Pcm) (count : ℕ) → Counting s (counted s count) count
+pub counting : (s : Pcm) (count : ℕ) → Counting s (counted s count) count
 counting s count = counting-by s count (nat_eq s.params.period_sz 0) (nat_lt (s.phase + count) s.params.period_sz) refl refl
 
 -- the octets that moved are counted to those before
@@ -174,11 +179,11 @@ step s octets (Pull trigger) c = kept s (triggered s trigger) octets (keeps-pull
 step s octets Raise c =
     kept s (told s) octets (record { kind = refl; params = refl; position = refl; phase = refl; captured = refl }) c
 
-steps : (s : Pcm) (octets : List ℕ) (ds : List Deed) → CountsAll s octets → CountsAll (after_all s ds) (octets ++ all_moved s ds)
+steps : (s : Pcm) (octets : List ℕ) (ds : List Deed) → CountsAll s octets → CountsAll (after_all s ds) (octets ++ all_of moves s ds)
 steps s octets [] c = kept s s octets (record { kind = refl; params = refl; position = refl; phase = refl; captured = refl }) c
 steps s octets (d ∷ ds) c =
     let P : List ℕ → Type 0 = λ xs. CountsAll (after_all (after s d) ds) xs in
-    subst P (append_assoc octets (moves s d) (all_moved (after s d) ds))
+    subst P (append_assoc octets (moves s d) (all_of moves (after s d) ds))
     (steps (after s d) (octets ++ moves s d) ds (step s octets d c))
 
 pub all-counted : AllAreCounted

@@ -7,7 +7,7 @@ mod line;
 mod state;
 mod stream;
 
-pub use laws::counts_all;
+pub use laws::{counts_all, goes_in_order};
 pub use state::{StreamRefusal, StreamState, Ticked, Trigger};
 pub use stream::{Queue, Stream, queue};
 

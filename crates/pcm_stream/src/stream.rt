@@ -58,7 +58,16 @@ impl Model for Stream {
 
     ghost Value = { Pcm };
 
-    ghost view = { λ s. record { kind = s.kind; state = s.state; params = s.params; queue = queued s.queue; position = s.position; phase = s.phase; captured = s.captured; owed = s.owed } };
+    ghost view = { λ s. record {
+      kind = s.kind;
+      state = s.state;
+      params = s.params;
+      queue = queued s.queue;
+      position = s.position;
+      phase = s.phase;
+      captured = s.captured;
+      owed = s.owed;
+    } };
 
     ghost invariant = { λ s. HasRoom s.state s.params s.queue × (s.captured < 251) };
 }

@@ -222,6 +222,7 @@ fn checks_at_bounds(rt: HostRuntime) -> Result<(), Fail> {
     };
     assert_eq!(rt; closed.can_begin(&odd), invalid);
     counts_all();
+    goes_in_order();
     Ok(())
 }
 

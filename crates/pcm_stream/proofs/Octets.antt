@@ -96,7 +96,8 @@ pub captures-more : (before : List ℕ) (capacity first count left next mark siz
     → size ≤ left
     → piece ≡ line_from next size
     → room ≡ min (length piece) (queue.capacity - length queue.items)
-    → Captured before capacity first count (left - size) ((next + size) % 251) (fold mark_after mark piece) (buffer (queue.items ++ take room piece) queue.capacity)
+    → Captured before capacity first count (left - size) ((next + size) % 251) (fold mark_after mark piece)
+    (buffer (queue.items ++ take room piece) queue.capacity)
 captures-more before capacity first count left next mark size room queue piece c fits some is_piece is_room =
     let more : count - (left - size) ≡ (count - left) + size = omega (arith, c.within) in
     let same : next % 251 ≡ (first + (count - left)) % 251 = omega (arith, c.place) in
@@ -106,7 +107,9 @@ captures-more before capacity first count left next mark size room queue piece c
     let items : queue.items ≡ before ++ line_from first (count - left) = ap (λ (q : Buffer ℕ). q.items) c.holds in
     let capacity_is : queue.capacity ≡ capacity = ap (λ (q : Buffer ℕ). q.capacity) c.holds in
     let items_length : length queue.items ≡ length before + (count - left) =
-    ap length items ∙ length-append before (line_from first (count - left)) ∙ ap (λ (n : ℕ). length before + n) (length-line_from first (count - left)) in
+    ap length items
+    ∙ length-append before (line_from first (count - left))
+    ∙ ap (λ (n : ℕ). length before + n) (length-line_from first (count - left)) in
     let whole : take room piece ≡ piece =
     take_all room piece (omega (arith, piece_length, items_length, capacity_is, is_room, fits, c.within, some)) in
     let longer : line_from first (count - (left - size)) ≡ line_from first (count - left) ++ piece =
@@ -121,7 +124,8 @@ captures-more before capacity first count left next mark size room queue piece c
       holds =
           ap (λ (xs : List ℕ). buffer (queue.items ++ xs) queue.capacity) whole
           ∙ ap (λ (xs : List ℕ). buffer (xs ++ piece) queue.capacity) items
-          ∙ ap (λ (xs : List ℕ). buffer xs queue.capacity) (append_assoc before (line_from first (count - left)) piece ∙ ap (λ (xs : List ℕ). before ++ xs) (sym longer))
+          ∙ ap (λ (xs : List ℕ). buffer xs queue.capacity) (append_assoc before (line_from first (count - left)) piece
+          ∙ ap (λ (xs : List ℕ). before ++ xs) (sym longer))
           ∙ ap (λ (n : ℕ). buffer (before ++ line_from first (count - (left - size))) n) capacity_is;
     }
 

@@ -77,7 +77,8 @@ asked_words (Read offset size) = range_words offset size
 asked_words (Write offset size) = range_words offset size
 asked_words (Trigger kind) = kind ∷ replicate 13 0
 asked_words (Query r) = ranges_words r
-asked_words other = replicate 14 0
+asked_words Close = replicate 14 0
+asked_words Other = replicate 14 0
 
 -- struct xensnd_req: word 1 is reserved
 abbrev pub request_of : List ℕ → Request

@@ -5,6 +5,7 @@ pub mod Keeping
 pub mod Layout
 pub mod ListPort
 pub mod ListWords
+pub mod Mark
 pub mod Memory
 pub mod Place
 pub mod Plan

@@ -51,6 +51,15 @@ pub enum Reason {
     Node(u8, u8, NodeFault),
 }
 
+/// Which way the octets of a sound stream go.
+#[derive(Clone, Copy, Debug, PartialEq, Eq)]
+pub enum StreamKind {
+    /// From the frontend to the line.
+    Playback,
+    /// From the line to the frontend.
+    Capture,
+}
+
 /// What a host does to a contact: its number, and the position where there is one.
 #[derive(Clone, Copy, Debug, PartialEq, Eq)]
 pub enum Touch {

@@ -8,18 +8,22 @@ pub mod grant;
 pub mod journal;
 pub mod laws;
 pub mod list_words;
+pub mod mark;
 pub mod page_list;
 pub mod place;
 pub mod setup;
 pub mod words;
 
 pub use access::{Access, Turn};
-pub use device::{HostEvent, HostRefusal, NodeFault, NodeValue, Reason, Said, State, Touch};
+pub use device::{
+    HostEvent, HostRefusal, NodeFault, NodeValue, Reason, Said, State, StreamKind, Touch,
+};
 pub use entry::{End, Entry, Told};
 pub use grant::{GrantRefusal, Hold, Mode};
 pub use journal::{Entries, JOURNAL_LIMIT, Journal, Stop};
 pub use laws::keeps_entries;
 pub use list_words::ListWords;
+pub use mark::{extend_mark, next_mark};
 pub use page_list::PageList;
 pub use place::{DevId, DomId, Frame, GrantRef, Half, Place, Who};
 pub use setup::{DeviceKind, DeviceSetup, Devices, DomainSize, Kind, Setup, Sizes};

@@ -16,7 +16,8 @@ use Rattle.display_backend.specs.declared.waiting.Waiting.TheVariants as waiting
 use Rattle.device_core.specs.Site.{Site}
 use Rattle.display_backend.specs.Machine.{Serves, Rows, Hand, Event, Says, Hears, Begins, Moves, Tells, Enters, IsStatus, first_rows, is_accepted, is_creation, replied_to, verdict}
 use Rattle.backend_core.specs.Answered.{IsAnswer, IsAnsweredBy, IsAnsweredIn}
-use Rattle.backend_core.specs.Kinds.{first_snapshot, machine}
+use Rattle.backend_core.specs.Kinds.{accepted_of, first_snapshot, machine}
+use Rattle.display_backend.specs.Work.{told_of}
 
 -- a run in two parts
 pub run_parts : {M E : Type 0} (moves : M → E → M → Type 0) (m n : M) (es fs : List E) → IsRun moves m (es ++ fs) n → (k : M) × IsRun moves m es k × IsRun moves k fs n
@@ -209,7 +210,7 @@ module _ (site : Site) where
   stays_in old new h e b i = record { hand = e ∙ i.hand; accepted = ap (λ bs. verdict bs h.request.asked) b ∙ i.accepted }
 
   -- what one event makes of it
-  answered_by : (e : Event) (old new : Rows) (h : Hand) (es : List (Happening Event)) → IsCalm old → IsInHand old h → Moves site old e new → (IsInHand new h → IsAnsweredIn h new.denied es) → IsAnsweredBy h old.denied e (λ d. IsAnsweredIn h d es)
+  answered_by : (e : Event) (old new : Rows) (h : Hand) (es : List (Happening Event)) → IsCalm old → IsInHand old h → Moves site old e new → (IsInHand new h → IsAnsweredIn told_of (accepted_of h) new.denied es) → IsAnsweredBy (accepted_of h) old.denied (told_of e) (λ d. IsAnsweredIn told_of (accepted_of h) d es)
   answered_by (Says (said.Replied part id status notified) taken f) old new h es c i x later =
       let same : record { part = part; request = x.request } ≡ h = same_Some _ h (sym x.in_hand ∙ i.hand) in
       record {
@@ -219,27 +220,27 @@ module _ (site : Site) where
       }
   answered_by (Says (said.Closed why) taken f) old new h es c i x later = tt
   answered_by (Says (said.Denied why) taken f) old new h es c i x later =
-      subst (λ (d : Bool). IsAnsweredIn h d es) (ap (λ (r : Rows). r.denied) x.done) (later (stays_in old new h (ap (λ (r : Rows). r.hand) x.done) (ap (λ (r : Rows). r.buffers) x.done) i))
+      subst (λ (d : Bool). IsAnsweredIn told_of (accepted_of h) d es) (ap (λ (r : Rows). r.denied) x.done) (later (stays_in old new h (ap (λ (r : Rows). r.hand) x.done) (ap (λ (r : Rows). r.buffers) x.done) i))
   answered_by (Says (said.Request part id op) taken f) old new h es c i x later = none_some h (sym x.empty ∙ i.hand)
   answered_by (Says (said.State s) taken f) old new h es c i x later = enters_none old new h s c i.hand x
   answered_by (Says (said.Raised part cookie) taken f) old new h es c i x later = absurd x
   answered_by (Says (said.Pos part position) taken f) old new h es c i x later = absurd x
   answered_by (Says (said.Full part) taken f) old new h es c i x later = absurd x
   answered_by (Says (said.Blank part) taken f) old new h es c i x later =
-      subst (λ (d : Bool). IsAnsweredIn h d es) (ap (λ (r : Rows). r.denied) x.done) (later (stays_in old new h (ap (λ (r : Rows). r.hand) x.done) (ap (λ (r : Rows). r.buffers) x.done) i))
+      subst (λ (d : Bool). IsAnsweredIn told_of (accepted_of h) d es) (ap (λ (r : Rows). r.denied) x.done) (later (stays_in old new h (ap (λ (r : Rows). r.hand) x.done) (ap (λ (r : Rows). r.buffers) x.done) i))
   answered_by (Says (said.Shown part pixels mark) taken f) old new h es c i x later =
-      subst (λ (d : Bool). IsAnsweredIn h d es) (ap (λ (r : Rows). r.denied) x.2.done) (later (stays_in old new h (ap (λ (r : Rows). r.hand) x.2.done) (ap (λ (r : Rows). r.buffers) x.2.done) i))
+      subst (λ (d : Bool). IsAnsweredIn told_of (accepted_of h) d es) (ap (λ (r : Rows). r.denied) x.2.done) (later (stays_in old new h (ap (λ (r : Rows). r.hand) x.2.done) (ap (λ (r : Rows). r.buffers) x.2.done) i))
   answered_by (Says (said.Moved part octets mark) taken f) old new h es c i x later = absurd x
   answered_by (Says (said.Published events) taken f) old new h es c i x later = absurd x
   answered_by (Hears (Sets front nodes)) old new h es c i x later =
-      subst (λ (d : Bool). IsAnsweredIn h d es) (ap (λ (r : Rows). r.denied) x) (later (stays_in old new h (ap (λ (r : Rows). r.hand) x) (ap (λ (r : Rows). r.buffers) x) i))
+      subst (λ (d : Bool). IsAnsweredIn told_of (accepted_of h) d es) (ap (λ (r : Rows). r.denied) x) (later (stays_in old new h (ap (λ (r : Rows). r.hand) x) (ap (λ (r : Rows). r.buffers) x) i))
   answered_by (Hears (Hosts e)) old new h es c i x later =
-      subst (λ (d : Bool). IsAnsweredIn h d es) (ap (λ (r : Rows). r.denied) x) (later (stays_in old new h (ap (λ (r : Rows). r.hand) x) (ap (λ (r : Rows). r.buffers) x) i))
+      subst (λ (d : Bool). IsAnsweredIn told_of (accepted_of h) d es) (ap (λ (r : Rows). r.denied) x) (later (stays_in old new h (ap (λ (r : Rows). r.hand) x) (ap (λ (r : Rows). r.buffers) x) i))
   answered_by Begins old new h es c i x later =
-      subst (λ (d : Bool). IsAnsweredIn h d es) (ap (λ (r : Rows). r.denied) x.2) (later (stays_in old new h (ap (λ (r : Rows). r.hand) x.2) (ap (λ (r : Rows). r.buffers) x.2) i))
+      subst (λ (d : Bool). IsAnsweredIn told_of (accepted_of h) d es) (ap (λ (r : Rows). r.denied) x.2) (later (stays_in old new h (ap (λ (r : Rows). r.hand) x.2) (ap (λ (r : Rows). r.buffers) x.2) i))
 
   -- it is answered, or its connection is closed, or it is in hand at the end
-  pub answered : (es : List (Happening Event)) (m n : Snapshot Rows) (h : Hand) → IsCalm m.rows → IsInHand m.rows h → IsRun (HappensTo true (machine site)) m es n → IsAnsweredIn h m.rows.denied es
+  pub answered : (es : List (Happening Event)) (m n : Snapshot Rows) (h : Hand) → IsCalm m.rows → IsInHand m.rows h → IsRun (HappensTo true (machine site)) m es n → IsAnsweredIn told_of (accepted_of h) m.rows.denied es
   answered [] m n h c i x = tt
   answered (Row e words ∷ es) m n h c i x =
       answered_by e m.rows x.0.rows h es c i x.1.move (λ g. answered es x.0 n h (happens_calm m x.0 (Row e words) x.1 c) g x.2)
@@ -247,25 +248,25 @@ module _ (site : Site) where
       answered_by e m.rows x.0.rows h es c i x.1.move (λ g. answered es x.0 n h (happens_calm m x.0 (Meanwhile e) x.1 c) g x.2)
   answered (Refuses why ∷ es) m n h c i x =
       let now = ap (λ (s : Snapshot Rows). s.rows) x.1.1 in
-      subst (λ (d : Bool). IsAnsweredIn h d es) (ap (λ (r : Rows). r.denied) now) (answered es x.0 n h (happens_calm m x.0 (Refuses why) x.1 c) (subst (λ (r : Rows). IsInHand r h) (sym now) i) x.2)
+      subst (λ (d : Bool). IsAnsweredIn told_of (accepted_of h) d es) (ap (λ (r : Rows). r.denied) now) (answered es x.0 n h (happens_calm m x.0 (Refuses why) x.1 c) (subst (λ (r : Rows). IsInHand r h) (sym now) i) x.2)
   answered (Gone number ∷ es) m n h c i x =
       let now = x.1.0.rows in
-      subst (λ (d : Bool). IsAnsweredIn h d es) (ap (λ (r : Rows). r.denied) now) (answered es x.0 n h (happens_calm m x.0 (Gone number) x.1 c) (subst (λ (r : Rows). IsInHand r h) (sym now) i) x.2)
+      subst (λ (d : Bool). IsAnsweredIn told_of (accepted_of h) d es) (ap (λ (r : Rows). r.denied) now) (answered es x.0 n h (happens_calm m x.0 (Gone number) x.1 c) (subst (λ (r : Rows). IsInHand r h) (sym now) i) x.2)
   answered (Draw s ∷ es) m n h c i x =
       let now = x.1.0.rows in
-      subst (λ (d : Bool). IsAnsweredIn h d es) (ap (λ (r : Rows). r.denied) now) (answered es x.0 n h (happens_calm m x.0 (Draw s) x.1 c) (subst (λ (r : Rows). IsInHand r h) (sym now) i) x.2)
+      subst (λ (d : Bool). IsAnsweredIn told_of (accepted_of h) d es) (ap (λ (r : Rows). r.denied) now) (answered es x.0 n h (happens_calm m x.0 (Draw s) x.1 c) (subst (λ (r : Rows). IsInHand r h) (sym now) i) x.2)
   answered (Touches t ∷ es) m n h c i x =
       let now = x.1.rows in
-      subst (λ (d : Bool). IsAnsweredIn h d es) (ap (λ (r : Rows). r.denied) now) (answered es x.0 n h (happens_calm m x.0 (Touches t) x.1 c) (subst (λ (r : Rows). IsInHand r h) (sym now) i) x.2)
+      subst (λ (d : Bool). IsAnsweredIn told_of (accepted_of h) d es) (ap (λ (r : Rows). r.denied) now) (answered es x.0 n h (happens_calm m x.0 (Touches t) x.1 c) (subst (λ (r : Rows). IsInHand r h) (sym now) i) x.2)
 
   -- the machine at the beginning
   first_calm : IsCalm first_rows
   first_calm = bare_calm first_rows refl refl
 
   -- in a whole run of the machine, wherever an accepted request is in hand
-  pub answers_then : (before later : List (Happening Event)) (now end : Snapshot Rows) (h : Hand) → IsRun (HappensTo true (machine site)) first_snapshot (before ++ later) end → IsRun (HappensTo true (machine site)) first_snapshot before now → IsInHand now.rows h → IsAnsweredIn h now.rows.denied later
+  pub answers_then : (before later : List (Happening Event)) (now end : Snapshot Rows) (h : Hand) → IsRun (HappensTo true (machine site)) first_snapshot (before ++ later) end → IsRun (HappensTo true (machine site)) first_snapshot before now → IsInHand now.rows h → IsAnsweredIn told_of (accepted_of h) now.rows.denied later
   answers_then before later now end h whole front i =
       let parts = run_parts (HappensTo true (machine site)) first_snapshot end before later whole in
       let same = runs_same first_snapshot first_snapshot parts.0 now before refl parts.1 front in
-      subst (λ (r : Rows). IsAnsweredIn h r.denied later) same
+      subst (λ (r : Rows). IsAnsweredIn told_of (accepted_of h) r.denied later) same
       (answered later parts.0 end h (run_calm first_snapshot parts.0 before parts.1 first_calm) (subst (λ (r : Rows). IsInHand r h) (sym same) i) parts.2)

@@ -16,9 +16,9 @@ use Rattle.device_core.specs.Machine.{Happening, HappensTo, IsRun, Snapshot, Tab
 use Rattle.device_core.specs.Site.{Site}
 use Rattle.device_core.specs.Told.{told_by}
 use Rattle.display_backend.specs.Work.{Work, End, display, reading, first_view, first_work, told_of}
-use Rattle.display_backend.specs.Machine.{Event, Hand, Rows, Moves, ShowsWhy, first_rows, makes, owes, verdict}
+use Rattle.display_backend.specs.Machine.{Event, Hand, Rows, Moves, ShowsWhy, first_rows, is_creation, makes, owes, verdict}
 use Rattle.display_backend.specs.Waiting.{is_for}
-use Rattle.backend_core.specs.Answered.{IsAnsweredIn}
+use Rattle.backend_core.specs.Answered.{Accepted, IsAnsweredIn}
 
 -- how many parts a device has: a display's connectors
 abbrev pub parts_of : DeviceKind → ℕ
@@ -86,6 +86,10 @@ told_after (Display connectors) site es = told_by told_of (display_events site e
 abbrev pub IsMachineRun : DeviceKind → Site → List Own → Type 0
 IsMachineRun (Display connectors) site es = (end : Snapshot Rows) × IsRun (HappensTo true (machine site)) first_snapshot (display_events site es) end
 
+-- a request that a display accepted: pages are mapped for a CREATE
+abbrev pub accepted_of : Hand → Accepted
+accepted_of h = record { part = h.part; id = h.request.id; maps = is_creation h.request.asked }
+
 -- Whenever the machine has an accepted request in hand, after some of what happens to it, that request is answered in what
 -- happens then, or its connection is closed, or it is in hand at the end.
 abbrev pub AnswersAll : DeviceKind → Site → List Own → Type 0
@@ -94,7 +98,7 @@ AnswersAll (Display connectors) site es =
     → display_events site es ≡ before ++ later
     → IsRun (HappensTo true (machine site)) first_snapshot before now
     → now.rows.hand ≡ Some h → verdict now.rows.buffers h.request.asked ≡ pos 0
-    → IsAnsweredIn h now.rows.denied later
+    → IsAnsweredIn told_of (accepted_of h) now.rows.denied later
 
 -- what it says is as these words show, where it says why a map was refused, or which index is too far
 abbrev pub IsShownBy : DeviceKind → Site → Found → Own → Type 0

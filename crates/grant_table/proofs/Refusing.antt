@@ -1,15 +1,14 @@
 -- What is left of a map tells that it may still be refused, and an unmap takes just its page away.
-use Rattle.std.proofs.Common.{◌≡◌, ℕ, suc, ◌+◌, ◌==◌, ◌&&◌, Bool, true, false, cond, nat_lt, List, [], ◌∷◌, ◌++◌, Option, Some, None, Result, Ok, Err, refl, sym, ap, subst, ◌∙◌, arith}
+use Rattle.std.proofs.Common.{◌≡◌, ℕ, suc, ◌+◌, ◌==◌, ◌&&◌, Bool, true, false, cond, nat_lt, [], ◌∷◌, ◌++◌, Option, Some, None, Result, Ok, Err, refl, sym, ap, subst, ◌∙◌, arith}
 use Rattle.std.proofs.lemmas.Bool.{false≢true}
 use Rattle.std.proofs.lemmas.Bool.Decides.{nat_tests}
-use Rattle.pv_words.specs.declared.access.Access.{Access}
 use Rattle.pv_words.specs.declared.grant.GrantRefusal.{GrantRefusal}
 use Rattle.pv_words.specs.declared.grant.GrantRefusal.TheVariants.{NoEntry, NotPermitted, Moved, BadFrame}
 use Rattle.pv_words.specs.declared.grant.Hold.{Hold}
 use Rattle.pv_words.specs.declared.grant.Mode.{Mode}
 use Rattle.pv_words.specs.declared.grant.Mode.TheVariants.{Read, Write}
 use Rattle.pv_words.specs.Held.{Begun, Has, Holds, IsProper, begins, exchanged, framed, holding, in_use, kept, passed, unheld, unmissed}
-use Rattle.pv_words.specs.Plan.{Plan, Finished, Make, Ends, Note, FitsFrom, Want, found}
+use Rattle.pv_words.specs.Plan.{Finished, Ends, Note, FitsFrom, Want, found}
 use Rattle.grant_table.specs.declared.map.MapStage.{MapStage}
 use Rattle.grant_table.specs.declared.map.MapStage.TheVariants as map_stage
 use Rattle.grant_table.specs.declared.map.MapStep.{MapStep}

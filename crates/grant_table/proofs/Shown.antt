@@ -1,7 +1,6 @@
 -- A map's refusal is the one that the words show which it found.
 use Rattle.std.proofs.Common.{◌≡◌, ℕ, ◌==◌, Bool, true, false, cond, nat_lt, Option, Some, None, is_some, Result, Ok, Err, refl, sym, subst, ◌∙◌, ap, arith}
 use Rattle.std.proofs.lemmas.Bool.Decides.{nat_tests}
-use Rattle.pv_words.specs.declared.access.Access.{Access}
 use Rattle.pv_words.specs.declared.grant.Hold.{Hold}
 use Rattle.pv_words.specs.declared.grant.Mode.{Mode}
 use Rattle.pv_words.specs.declared.grant.GrantRefusal.{GrantRefusal}
@@ -11,7 +10,7 @@ use Rattle.pv_words.specs.Held.{permits}
 use Rattle.pv_words.specs.Plan.{Plan, Finished, Note, FitsFrom, IsUntouched}
 use Rattle.grant_table.specs.Flags.{refusal_of, denies, forbids, has, is_foreign, used}
 use Rattle.grant_table.specs.Mapping.{hold_of, undo_plan, frame_plan, with_flags, flags_plan}
-use Rattle.grant_table.specs.Laws.{MapsShow, IsCause, AreFound, HasLoaded, Shows}
+use Rattle.grant_table.specs.Laws.{MapsShow, AreFound, HasLoaded, Shows}
 use Rattle.grant_table.proofs.Holdings.{caused, permitted, some_same}
 use Rattle.grant_table.proofs.Outcomes.{refuses_exactly}
 

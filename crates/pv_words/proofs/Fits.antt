@@ -1,5 +1,4 @@
 -- What an activity makes of what was done so far: a plan from smaller ones, and two facts of one plan.
-use Rattle.std.proofs.Common.{ℕ}
 use Rattle.pv_words.specs.declared.access.Access.{Access}
 use Rattle.pv_words.specs.Plan.{Plan, Finished, Make, Want, Note, FitsFrom, found, mapped, joined}
 

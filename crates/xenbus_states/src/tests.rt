@@ -40,6 +40,7 @@ fn nodes_that_a_device_needs(rt: HostRuntime) {
         assert_eq!(rt; nodes.need(part, key), want, "key {key} of part {part}");
     }
     nodes_stand_apart();
+    finds_the_first_fault();
 }
 
 #[test]

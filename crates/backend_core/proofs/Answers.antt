@@ -1,14 +1,12 @@
 -- Accepted requests are answered: a law of the display machine.
-use Rattle.std.proofs.Common.{◌≡◌, inl, inr, ℕ, ℤ, pos, Bool, true, false, cond, suc, List, [], ◌∷◌, ◌++◌, Option, Some, None, refl, sym, subst, ◌∙◌, ap}
+use Rattle.std.proofs.Common.{◌≡◌, inl, inr, ℕ, ℤ, pos, Bool, true, false, suc, List, [], ◌∷◌, ◌++◌, Some, None, refl, sym, subst, ◌∙◌, ap}
 use Rattle.std.proofs.lemmas.Option.{same_Some}
 use Rattle.pv_words.specs.declared.device.Said.{Said}
 use Rattle.pv_words.specs.declared.device.Said.TheVariants as said
 use Rattle.pv_words.specs.declared.device.State.{State}
 use Rattle.pv_words.specs.declared.device.State.TheVariants as state
 use Rattle.pv_words.specs.Found.{Found}
-use Rattle.xenbus_states.specs.declared.back.Action.{Action}
-use Rattle.xenbus_states.specs.declared.back.Action.TheVariants as action
-use Rattle.xenbus_states.specs.Connection.{Connection, action_from, asked_of}
+use Rattle.xenbus_states.proofs.Actions.{connects_from, renews_apart}
 use Rattle.device_core.specs.Machine.{Happening, Row, Meanwhile, Refuses, Gone, Draw, Touches, HappensTo, IsRun, Snapshot}
 use Rattle.device_core.specs.Order.{Sets, Hosts}
 use Rattle.display_backend.specs.declared.waiting.Waiting.{Waiting}
@@ -22,33 +20,6 @@ use Rattle.backend_core.specs.Kinds.{first_snapshot, machine}
 pub run_parts : {M E : Type 0} (moves : M → E → M → Type 0) (m n : M) (es fs : List E) → IsRun moves m (es ++ fs) n → (k : M) × IsRun moves m es k × IsRun moves k fs n
 run_parts moves m n [] fs r = (m, refl, r)
 run_parts moves m n (e ∷ es) fs r = let p = run_parts moves r.0 n es fs r.2 in (p.0, (r.0, r.1, p.1), p.2)
-
--- only a backend that waits connects, and only one that is closed waits again
-asked_so : (ending : Option State) (a : Action) → asked_of ending ≡ a → a ≡ action.Connect → ⊥
-asked_so None a e c = cc
-asked_so (Some s) a e c = cc
-
-connects_from : (s : State) (c : Connection) → action_from s c ≡ action.Connect → s ≡ state.InitWait
-connects_from state.Unknown c e = let wrong : ⊥ = cc in absurd wrong
-connects_from state.Initialising c e = let wrong : ⊥ = cc in absurd wrong
-connects_from state.InitWait c e = refl
-connects_from state.Initialised c e = let wrong : ⊥ = cc in absurd wrong
-connects_from state.Connected c e = absurd (asked_so c.ending (asked_of c.ending) refl e)
-connects_from state.Closing c e = let wrong : ⊥ = cc in absurd wrong
-connects_from state.Closed c e = absurd (renews_or c.again e) where
-  renews_or : (b : Bool) → cond b action.Renew action.Stay ≡ action.Connect → ⊥
-  renews_or true i = cc
-  renews_or false i = cc
-connects_from state.Reconfiguring c e = let wrong : ⊥ = cc in absurd wrong
-connects_from state.Reconfigured c e = let wrong : ⊥ = cc in absurd wrong
-
-asked_no_renew : (ending : Option State) → asked_of ending ≡ action.Renew → ⊥
-asked_no_renew None e = cc
-asked_no_renew (Some s) e = cc
-
--- a connected backend doesn't wait again
-connected_stays : (s : State) (c : Connection) → s ≡ state.Connected → action_from s c ≡ action.Renew → ⊥
-connected_stays s c e r = asked_no_renew c.ending (subst (λ (x : State). action_from x c ≡ action.Renew) e r)
 
 -- What is always so of the machine's rows: a request is in hand of a connected backend alone, whose connection isn't closed;
 -- a backend that connects waits; and a page is denied to a CREATE alone.
@@ -180,7 +151,7 @@ module _ (site : Site) where
   enters_none : (old new : Rows) (h : Hand) (s : State) → IsCalm old → old.hand ≡ Some h → Enters site old s new → ⊥
   enters_none old new h state.Connected c e x = let a = (c.served h e).0 in let b = c.waits x.0.0 in cc
   enters_none old new h state.Closed c e x = let a = (c.served h e).1 in let b = x.0 in cc
-  enters_none old new h state.InitWait c e x = connected_stays old.bus.connection.back old.bus.connection (c.served h e).0 x.0.1
+  enters_none old new h state.InitWait c e x = renews_apart old.bus.connection.back old.bus.connection (c.served h e).0 x.0.1
   enters_none old new h state.Unknown c e x = x.0
   enters_none old new h state.Initialising c e x = x.0
   enters_none old new h state.Initialised c e x = x.0

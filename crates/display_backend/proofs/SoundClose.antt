@@ -15,9 +15,9 @@ use Rattle.link_core.specs.Laws.{AreOf}
 use Rattle.device_core.specs.Names.{Name, Sight, all_drawn}
 use Rattle.device_core.specs.Order.{Offers}
 use Rattle.xenbus_states.specs.Needs.{first_fault}
+use Rattle.xenbus_states.proofs.Actions.{connects_apart}
 use Rattle.display_backend.specs.Machine.{needs_of, refs_from}
 use Rattle.display_backend.specs.Work.{Work, Naming, End, Shut, all_pages, beginning, leaving, close, connect_all, with_action, reading, settled, rows_of, live_names, names_of, begins_close, begins_by}
-use Rattle.display_backend.proofs.SoundActions.{connects_apart}
 use Rattle.display_backend.proofs.SoundConnect.{fits_all, shut_pages}
 use Rattle.display_backend.proofs.SoundFits.{BeginsSo, RunsTo, shown_of, chosen, held_so}
 use Rattle.display_backend.proofs.SoundNames.{all_run, none_bared}

@@ -27,6 +27,7 @@ use Rattle.xenbus_states.specs.declared.back.Action.{Action}
 use Rattle.xenbus_states.specs.declared.back.Action.TheVariants as action
 use Rattle.xenbus_states.specs.Connection.{action_of}
 use Rattle.xenbus_states.specs.Needs.{Problem, first_fault}
+use Rattle.xenbus_states.proofs.Actions.{closes_asked}
 use Rattle.link_core.specs.Activities.{Connected, Joined, Joins, Refuses, answer_plan, connect_plan, look_plan, sleep_plan, take_plan, unmaps}
 use Rattle.link_core.specs.Laws as link
 use Rattle.link_core.proofs.Shown.{FitFound, TouchesNone, answer_none, connects_show, found_any, looks_show, sleep_none, take_none, unmaps_found}
@@ -40,7 +41,6 @@ use Rattle.display_backend.specs.Machine.{Hand, Refs, IsAskedFor, is_accepted, n
 use Rattle.display_backend.specs.Reply.{reply_to}
 use Rattle.display_backend.specs.Stock.{pages_of, pages_under}
 use Rattle.display_backend.specs.Work.{Work, End, Saw, Took, Listed, Freed, Answered, Slept, Met, Denied, Lacked, Shut, Left, Renewed, Served, after_answer, after_look, after_part, after_sleep, after_walk, all_pages, answer_of, answers, beginning, choice, close, connect_all, connect_parts, decides, freeing, frees, goes_on, in_round, leaving, looks_at, maps, nothing, part_of, ring_page, settled, sleep_all, sleeps_on, starved, status_of, takes_from, with_action, with_closing, with_hand, with_kept, with_left, with_state, with_waiting}
-use Rattle.display_backend.proofs.SoundActions.{closes_asked}
 use Rattle.display_backend.proofs.SoundRefs.{AllAsked, all_asked}
 use Rattle.display_backend.proofs.SoundSettles.{found_index, none_kept}
 use Rattle.display_backend.proofs.SoundWork.{the_site, IsDue, IsKept, IsSane, KeptFound, EndsFound}

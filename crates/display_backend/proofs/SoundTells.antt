@@ -18,6 +18,7 @@ use Rattle.page_directory.specs.declared.walk.Walked.{Walked}
 use Rattle.page_directory.specs.declared.walk.Walked.TheVariants as walked
 use Rattle.ring_words.specs.declared.Looked.{Looked}
 use Rattle.ring_words.specs.declared.Looked.TheVariants as looked
+use Rattle.xenbus_states.proofs.Actions.{closed_apart, renews_from}
 use Rattle.device_core.specs.Machine.{Moves, Stays}
 use Rattle.device_core.specs.Names.{Sight, all_drawn, words_in, with_name}
 use Rattle.display_backend.specs.declared.display.Progress.TheVariants as progress
@@ -27,7 +28,6 @@ use Rattle.host_events.specs.Queue.{behind}
 use Rattle.display_backend.specs.Machine.{Rows, Hand, Event, Says, Enters, Serves, is_accepted}
 use Rattle.display_backend.specs.Machine as machine
 use Rattle.display_backend.specs.Work.{Work, Naming, End, Saw, Took, Listed, Freed, Answered, Slept, Met, Denied, Lacked, Shut, Left, Renewed, Served, settled, said_of, said_at, shut, entered, after_look, after_sleep, after_answer, after_walk, denied_by, status_of, is_denied, replied_in, display, reading, rows_of, names_of, named_after, named_by, unnamed, made_at, made_by, taken_at, live_names}
-use Rattle.display_backend.proofs.SoundActions.{closed_apart, renews_from}
 use Rattle.display_backend.proofs.SoundAnswer.{answer_all, answer_rows, answer_names}
 use Rattle.display_backend.proofs.SoundNames.{names_none}
 use Rattle.display_backend.proofs.SoundRows.{same_status, same_verdict}

@@ -110,8 +110,8 @@ abbrev pub IsAskedFor : Site → List NodeValue → ℕ → Type 0
 IsAskedFor site nodes gref =
     (part : ℕ) × (key : ℕ) × (part < site.parts) × (((key == 0) || (key == 2)) ≡ true) × (needed (node_at nodes part key) ≡ Ok gref)
 
--- Two causes of a closed connection are not its own: the request index that was found last is more than a ring apart from the
--- device's own; and, in a Connect, the map of a node's reference was refused, as the words show that were found last.
+-- A display's own causes to close a connection: the request index that was found last is more than a ring apart from the
+-- device's own; or, in a Connect, the map of a node's reference was refused, as the words show that were found last.
 abbrev pub IsOwnCause : Site → Bus → Found → Reason → Type 0
 IsOwnCause site bus f (reason.Overrun prod rsp) = (bus.connection.back ≡ state.Connected) × (f.word ≡ Some prod) × (32 < since rsp prod)
 IsOwnCause site bus f (reason.Refused why) =

@@ -6,7 +6,7 @@ use Rattle.pv_words.specs.declared.device.NodeValue.{NodeValue}
 use Rattle.pv_words.specs.declared.device.Reason.{Reason}
 use Rattle.pv_words.specs.declared.device.Reason.TheVariants as reason
 use Rattle.pv_words.specs.declared.device.State.{State}
-use Rattle.xenbus_states.specs.Bus.{Bus, IsCause, bus_heard}
+use Rattle.xenbus_states.specs.Bus.{Bus, CausesStay, IsCause, bus_heard, no_others}
 use Rattle.xenbus_states.specs.Connection.{first_ending}
 use Rattle.xenbus_states.specs.Needs.{HoldsNumber, IsFirstFault, Need, Problem, fault_or, first_fault}
 use Rattle.xenbus_states.specs.Nodes.{node_at, needed, number_in}
@@ -72,3 +72,6 @@ cause_heard needs p q bus front seen h (reason.Overrun a b) c = h (reason.Overru
 cause_heard needs p q bus front seen h (reason.BadCons a b) c = h (reason.BadCons a b) c
 cause_heard needs p q bus front seen h (reason.Spent a) c = h (reason.Spent a) c
 cause_heard needs p q bus front seen h (reason.Refused why) c = h (reason.Refused why) c
+
+pub causes_stay : CausesStay
+causes_stay needs bus front nodes why c = cause_heard needs no_others no_others bus front nodes (λ y h. h) why c

@@ -1,2 +1,3 @@
-pub mod Heard
+pub mod Actions
 pub mod Faults
+pub mod Heard

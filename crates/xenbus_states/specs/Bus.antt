@@ -6,7 +6,7 @@ use Rattle.pv_words.specs.declared.device.Reason.{Reason}
 use Rattle.pv_words.specs.declared.device.Reason.TheVariants as reason
 use Rattle.pv_words.specs.declared.device.State.{State}
 use Rattle.pv_words.specs.declared.device.State.TheVariants as state
-use Rattle.xenbus_states.specs.declared.back.Action.TheVariants.{Connect, Renew}
+use Rattle.xenbus_states.specs.declared.back.Action.TheVariants.{Connect, Close, Renew}
 use Rattle.xenbus_states.specs.Connection.{Connection, first_connection, heard, action_of, begun, moved_to}
 use Rattle.xenbus_states.specs.Nodes.{no_nodes}
 use Rattle.xenbus_states.specs.Needs.{Need, first_fault}
@@ -63,3 +63,24 @@ MayEnter needs bus other = ⊥
 -- it took this state
 abbrev pub bus_entered : Bus → State → Bus
 bus_entered bus s = record bus { connection = moved_to bus.connection s; connecting = false; closing = false }
+
+-- where the device has no other cause
+abbrev pub no_others : Reason → Type 0
+no_others why = ⊥
+
+-- The rows are those of what the backend is to do: a Connect begins where it waits; the frontend's ending state is a cause exactly
+-- where the backend is to close for it; and only a closed one waits again.
+pub record FollowsActions (needs : List Need) (bus : Bus) : Type 0 where
+  pub begins : MayConnect bus → bus.connection.back ≡ state.InitWait
+  pub closes : (s : State) → action_of bus.connection ≡ Close s → IsCause needs no_others bus (reason.Asked s)
+  pub asked : (s : State) → IsCause needs no_others bus (reason.Asked s) → action_of bus.connection ≡ Close s
+  pub renews : MayEnter needs bus state.InitWait → bus.connection.back ≡ state.Closed
+
+abbrev pub RowsFollowActions : Type 0
+RowsFollowActions = (needs : List Need) (bus : Bus) → FollowsActions needs bus
+
+-- a cause stays one, whatever the frontend sets
+abbrev pub CausesStay : Type 0
+CausesStay =
+    (needs : List Need) (bus : Bus) (front : State) (nodes : List NodeValue) (why : Reason)
+    → IsCause needs no_others bus why → IsCause needs no_others (bus_heard bus front nodes) why

@@ -1,5 +1,6 @@
 //! What nodes, states and connections come to.
 
+ghost use Rattle.xenbus_states.specs.Bus.{CausesStay, RowsFollowActions};
 ghost use Rattle.xenbus_states.specs.Connection.{RemembersWhatItHeard};
 ghost use Rattle.xenbus_states.specs.Needs.{FindsFirstFault, FindsNoFault};
 ghost use Rattle.xenbus_states.specs.Nodes.{NodesStandApart};
@@ -27,4 +28,10 @@ pub fn finds_the_first_fault()
 /// Initialising since then.
 pub fn remembers_what_it_heard()
     ensures { RemembersWhatItHeard }
+{}
+
+/// The rows of a connection are those of what its backend is to do, and a cause to close it stays one, whatever the frontend sets.
+pub fn rows_follow_the_actions()
+    ensures follow { RowsFollowActions }
+    ensures stay { CausesStay }
 {}

@@ -67,4 +67,5 @@ fn a_connection_and_the_next(rt: HostRuntime) {
     assert_eq!(rt; back.action(), Action::Stay);
     assert_eq!(rt; back.back(), State::InitWait);
     remembers_what_it_heard();
+    rows_follow_the_actions();
 }

@@ -1,14 +1,12 @@
 -- Accepted requests are answered: a law of the display machine.
-use Rattle.std.proofs.Common.{◌≡◌, inl, inr, ℕ, ℤ, pos, Bool, true, false, cond, suc, List, [], ◌∷◌, ◌++◌, Option, Some, None, refl, sym, subst, ◌∙◌, ap}
+use Rattle.std.proofs.Common.{◌≡◌, inl, inr, ℕ, ℤ, pos, Bool, true, false, suc, List, [], ◌∷◌, ◌++◌, Some, None, refl, sym, subst, ◌∙◌, ap}
 use Rattle.std.proofs.lemmas.Option.{same_Some}
 use Rattle.pv_words.specs.declared.device.Said.{Said}
 use Rattle.pv_words.specs.declared.device.Said.TheVariants as said
 use Rattle.pv_words.specs.declared.device.State.{State}
 use Rattle.pv_words.specs.declared.device.State.TheVariants as state
 use Rattle.pv_words.specs.Found.{Found}
-use Rattle.xenbus_states.specs.declared.back.Action.{Action}
-use Rattle.xenbus_states.specs.declared.back.Action.TheVariants as action
-use Rattle.xenbus_states.specs.Connection.{Connection, action_from, asked_of}
+use Rattle.xenbus_states.proofs.Actions.{connects_from, renews_apart}
 use Rattle.device_core.specs.Machine.{Happening, Row, Meanwhile, Refuses, Gone, Draw, Touches, HappensTo, IsRun, Snapshot}
 use Rattle.device_core.specs.Order.{Sets, Hosts}
 use Rattle.display_backend.specs.declared.waiting.Waiting.{Waiting}
@@ -24,38 +22,11 @@ pub run_parts : {M E : Type 0} (moves : M → E → M → Type 0) (m n : M) (es 
 run_parts moves m n [] fs r = (m, refl, r)
 run_parts moves m n (e ∷ es) fs r = let p = run_parts moves r.0 n es fs r.2 in (p.0, (r.0, r.1, p.1), p.2)
 
--- only a backend that waits connects, and only one that is closed waits again
-asked_so : (ending : Option State) (a : Action) → asked_of ending ≡ a → a ≡ action.Connect → ⊥
-asked_so None a e c = cc
-asked_so (Some s) a e c = cc
-
-connects_from : (s : State) (c : Connection) → action_from s c ≡ action.Connect → s ≡ state.InitWait
-connects_from state.Unknown c e = let wrong : ⊥ = cc in absurd wrong
-connects_from state.Initialising c e = let wrong : ⊥ = cc in absurd wrong
-connects_from state.InitWait c e = refl
-connects_from state.Initialised c e = let wrong : ⊥ = cc in absurd wrong
-connects_from state.Connected c e = absurd (asked_so c.ending (asked_of c.ending) refl e)
-connects_from state.Closing c e = let wrong : ⊥ = cc in absurd wrong
-connects_from state.Closed c e = absurd (renews_or c.again e) where
-  renews_or : (b : Bool) → cond b action.Renew action.Stay ≡ action.Connect → ⊥
-  renews_or true i = cc
-  renews_or false i = cc
-connects_from state.Reconfiguring c e = let wrong : ⊥ = cc in absurd wrong
-connects_from state.Reconfigured c e = let wrong : ⊥ = cc in absurd wrong
-
-asked_no_renew : (ending : Option State) → asked_of ending ≡ action.Renew → ⊥
-asked_no_renew None e = cc
-asked_no_renew (Some s) e = cc
-
--- a connected backend doesn't wait again
-connected_stays : (s : State) (c : Connection) → s ≡ state.Connected → action_from s c ≡ action.Renew → ⊥
-connected_stays s c e r = asked_no_renew c.ending (subst (λ (x : State). action_from x c ≡ action.Renew) e r)
-
 -- What is always so of the machine's rows: a request is in hand of a connected backend alone, whose connection isn't closed;
 -- a backend that connects waits; and a page is denied to a CREATE alone.
 pub record IsCalm (r : Rows) : Type 0 where
-  pub served : (h : Hand) → r.hand ≡ Some h → (r.connection.back ≡ state.Connected) × (r.closing ≡ false)
-  pub waits : r.connecting ≡ true → r.connection.back ≡ state.InitWait
+  pub served : (h : Hand) → r.hand ≡ Some h → (r.bus.connection.back ≡ state.Connected) × (r.bus.closing ≡ false)
+  pub waits : r.bus.connecting ≡ true → r.bus.connection.back ≡ state.InitWait
   pub creates : (h : Hand) → r.hand ≡ Some h → r.denied ≡ true → is_creation h.request.asked ≡ true
 
 none_some : {A B : Type 0} (x : A) → None ≡ Some x → B
@@ -65,7 +36,7 @@ false_true : {B : Type 0} → false ≡ true → B
 false_true e = let wrong : ⊥ = cc in absurd wrong
 
 -- rows with no request in hand, and no Connect under way
-bare_calm : (r : Rows) → r.hand ≡ None → r.connecting ≡ false → IsCalm r
+bare_calm : (r : Rows) → r.hand ≡ None → r.bus.connecting ≡ false → IsCalm r
 bare_calm r e c =
     record {
       served = λ h i. none_some h (sym e ∙ i);
@@ -78,15 +49,7 @@ later_same e f xs ys i = cc
 
 module _ (site : Site) where
   enters_calm : (old new : Rows) (s : State) → Enters site old s new → IsCalm new
-  enters_calm old new state.Connected x = bare_calm new (ap (λ (r : Rows). r.hand) x.2) (ap (λ (r : Rows). r.connecting) x.2)
-  enters_calm old new state.Closed x = bare_calm new (ap (λ (r : Rows). r.hand) x.1) (ap (λ (r : Rows). r.connecting) x.1)
-  enters_calm old new state.InitWait x = bare_calm new (ap (λ (r : Rows). r.hand) x.2) (ap (λ (r : Rows). r.connecting) x.2)
-  enters_calm old new state.Unknown x = absurd x
-  enters_calm old new state.Initialising x = absurd x
-  enters_calm old new state.Initialised x = absurd x
-  enters_calm old new state.Closing x = absurd x
-  enters_calm old new state.Reconfiguring x = absurd x
-  enters_calm old new state.Reconfigured x = absurd x
+  enters_calm old new s x = bare_calm new (ap (λ (r : Rows). r.hand) x.1) (ap (λ (r : Rows). r.bus.connecting) x.1)
 
   serves_calm : (old new : Rows) (e : Waiting) → Serves old e new → IsCalm old → IsCalm new
   serves_calm old new e x c = subst (λ (r : Rows). IsCalm r) (sym x.done) (record { served = c.served; waits = c.waits; creates = c.creates })
@@ -102,7 +65,7 @@ module _ (site : Site) where
       })
   says_calm old new (said.Replied part id status notified) taken f x c =
       subst (λ (r : Rows). IsCalm r) (sym x.done) (record { served = λ h e. none_some h e; waits = c.waits; creates = λ h e d. none_some h e })
-  says_calm old new (said.Closed why) taken f x c = bare_calm new (ap (λ (r : Rows). r.hand) x.2) (ap (λ (r : Rows). r.connecting) x.2)
+  says_calm old new (said.Closed why) taken f x c = bare_calm new (ap (λ (r : Rows). r.hand) x.1) (ap (λ (r : Rows). r.bus.connecting) x.1)
   says_calm old new (said.State s) taken f x c = enters_calm old new s x
   says_calm old new (said.Raised part cookie) taken f x c = absurd x
   says_calm old new (said.Pos part position) taken f x c = absurd x
@@ -117,7 +80,7 @@ module _ (site : Site) where
   moves_calm old new (Hears (Sets front nodes)) x c = subst (λ (r : Rows). IsCalm r) (sym x) (record { served = c.served; waits = c.waits; creates = c.creates })
   moves_calm old new (Hears (Hosts e)) x c = subst (λ (r : Rows). IsCalm r) (sym x) (record { served = c.served; waits = c.waits; creates = c.creates })
   moves_calm old new Begins x c =
-      subst (λ (r : Rows). IsCalm r) (sym x.2) (record { served = c.served; waits = λ t. connects_from old.connection.back old.connection x.1; creates = c.creates })
+      subst (λ (r : Rows). IsCalm r) (sym x.1) (record { served = c.served; waits = λ t. connects_from old.bus.connection.back old.bus.connection x.0.1; creates = c.creates })
 
   happens_calm : (m k : Snapshot Rows) (e : Happening Event) → HappensTo true (machine site) m e k → IsCalm m.rows → IsCalm k.rows
   happens_calm m k (Row e words) x c = moves_calm m.rows k.rows e x.move c
@@ -133,15 +96,7 @@ module _ (site : Site) where
 
   -- what happens leads from rows to the same rows always
   enters_same : (old a b : Rows) (s : State) → Enters site old s a → Enters site old s b → a ≡ b
-  enters_same old a b state.Connected x y = x.2 ∙ sym y.2
-  enters_same old a b state.Closed x y = x.1 ∙ sym y.1
-  enters_same old a b state.InitWait x y = x.2 ∙ sym y.2
-  enters_same old a b state.Unknown x y = absurd x
-  enters_same old a b state.Initialising x y = absurd x
-  enters_same old a b state.Initialised x y = absurd x
-  enters_same old a b state.Closing x y = absurd x
-  enters_same old a b state.Reconfiguring x y = absurd x
-  enters_same old a b state.Reconfigured x y = absurd x
+  enters_same old a b s x y = x.1 ∙ sym y.1
 
   serves_same : (old a b : Rows) (e : Waiting) → Serves old e a → Serves old e b → a ≡ b
   serves_same old a b e x y =
@@ -154,7 +109,7 @@ module _ (site : Site) where
   says_same old a b (said.Replied part id status notified) taken f x y =
       let same = same_Some _ _ (sym x.in_hand ∙ y.in_hand) in
       x.done ∙ (ap (λ (h : Hand). record old { hand = None; denied = false; buffers = replied_to old.buffers old.replies h.request.asked (is_accepted status); replies = suc old.replies }) same ∙ sym y.done)
-  says_same old a b (said.Closed why) taken f x y = x.2 ∙ sym y.2
+  says_same old a b (said.Closed why) taken f x y = x.1 ∙ sym y.1
   says_same old a b (said.State s) taken f x y = enters_same old a b s x y
   says_same old a b (said.Raised part cookie) taken f x y = absurd x
   says_same old a b (said.Pos part position) taken f x y = absurd x
@@ -168,7 +123,7 @@ module _ (site : Site) where
   moves_same old a b (Says s taken f) x y = says_same old a b s taken f x y
   moves_same old a b (Hears (Sets front nodes)) x y = x ∙ sym y
   moves_same old a b (Hears (Hosts e)) x y = x ∙ sym y
-  moves_same old a b Begins x y = x.2 ∙ sym y.2
+  moves_same old a b Begins x y = x.1 ∙ sym y.1
 
   happens_same : (m n k l : Snapshot Rows) (e : Happening Event) → m.rows ≡ n.rows → HappensTo true (machine site) m e k → HappensTo true (machine site) n e l → k.rows ≡ l.rows
   happens_same m n k l (Row e words) same x y = moves_same n.rows k.rows l.rows e (subst (λ (r : Rows). Moves site r e k.rows) same x.move) y.move
@@ -195,15 +150,15 @@ module _ (site : Site) where
 
   -- no state is taken while a request is in hand
   enters_none : (old new : Rows) (h : Hand) (s : State) → IsCalm old → old.hand ≡ Some h → Enters site old s new → ⊥
-  enters_none old new h state.Connected c e x = let a = (c.served h e).0 in let b = c.waits x.0 in cc
+  enters_none old new h state.Connected c e x = let a = (c.served h e).0 in let b = c.waits x.0.0 in cc
   enters_none old new h state.Closed c e x = let a = (c.served h e).1 in let b = x.0 in cc
-  enters_none old new h state.InitWait c e x = connected_stays old.connection.back old.connection (c.served h e).0 x.1
-  enters_none old new h state.Unknown c e x = x
-  enters_none old new h state.Initialising c e x = x
-  enters_none old new h state.Initialised c e x = x
-  enters_none old new h state.Closing c e x = x
-  enters_none old new h state.Reconfiguring c e x = x
-  enters_none old new h state.Reconfigured c e x = x
+  enters_none old new h state.InitWait c e x = renews_apart old.bus.connection.back old.bus.connection (c.served h e).0 x.0.1
+  enters_none old new h state.Unknown c e x = x.0
+  enters_none old new h state.Initialising c e x = x.0
+  enters_none old new h state.Initialised c e x = x.0
+  enters_none old new h state.Closing c e x = x.0
+  enters_none old new h state.Reconfiguring c e x = x.0
+  enters_none old new h state.Reconfigured c e x = x.0
 
   -- it stays in hand where the rows keep it
   stays_in : (old new : Rows) (h : Hand) → new.hand ≡ old.hand → new.buffers ≡ old.buffers → IsInHand old h → IsInHand new h
@@ -237,7 +192,7 @@ module _ (site : Site) where
   answered_by (Hears (Hosts e)) old new h es c i x later =
       subst (λ (d : Bool). IsAnsweredIn told_of (accepted_of h) d es) (ap (λ (r : Rows). r.denied) x) (later (stays_in old new h (ap (λ (r : Rows). r.hand) x) (ap (λ (r : Rows). r.buffers) x) i))
   answered_by Begins old new h es c i x later =
-      subst (λ (d : Bool). IsAnsweredIn told_of (accepted_of h) d es) (ap (λ (r : Rows). r.denied) x.2) (later (stays_in old new h (ap (λ (r : Rows). r.hand) x.2) (ap (λ (r : Rows). r.buffers) x.2) i))
+      subst (λ (d : Bool). IsAnsweredIn told_of (accepted_of h) d es) (ap (λ (r : Rows). r.denied) x.1) (later (stays_in old new h (ap (λ (r : Rows). r.hand) x.1) (ap (λ (r : Rows). r.buffers) x.1) i))
 
   -- it is answered, or its connection is closed, or it is in hand at the end
   pub answered : (es : List (Happening Event)) (m n : Snapshot Rows) (h : Hand) → IsCalm m.rows → IsInHand m.rows h → IsRun (HappensTo true (machine site)) m es n → IsAnsweredIn told_of (accepted_of h) m.rows.denied es

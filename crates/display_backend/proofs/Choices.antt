@@ -1,5 +1,5 @@
 -- What a display does next between two activities.
-use Rattle.std.proofs.Common.{◌≡◌, inl, inr, ℕ, zero, suc, ◌+◌, ◌-◌, ◌<◌, Bool, true, false, not, ◌++◌, List, [], Option, Some, None, Result, Ok, Err, length, map, slice_get, refl, sym, ap, subst, ◌∙◌, arith}
+use Rattle.std.proofs.Common.{◌≡◌, inl, inr, ℕ, ◌+◌, ◌-◌, ◌<◌, Bool, true, false, not, ◌++◌, List, [], Option, Some, None, length, map, slice_get, refl, sym, ap, subst, ◌∙◌, arith}
 use Rattle.std.proofs.lemmas.Bool.{false≢true}
 use Rattle.pv_words.specs.declared.access.Access.{Access}
 use Rattle.pv_words.specs.declared.device.Said.{Said}
@@ -7,7 +7,6 @@ use Rattle.pv_words.specs.declared.device.Said.TheVariants as said
 use Rattle.pv_words.specs.declared.device.Reason.{Reason}
 use Rattle.pv_words.specs.declared.device.State.{State}
 use Rattle.pv_words.specs.declared.device.State.TheVariants as state
-use Rattle.pv_words.specs.declared.device.NodeFault.{NodeFault}
 use Rattle.pv_words.specs.declared.device.NodeValue.{NodeValue}
 use Rattle.pv_words.specs.declared.grant.Hold.{Hold}
 use Rattle.pv_words.specs.Plan.{Plan, Finished, Make, Want, mapped}
@@ -17,7 +16,7 @@ use Rattle.page_directory.specs.declared.walk.Walk.{Walk}
 use Rattle.xenbus_states.specs.declared.back.Action.{Action}
 use Rattle.xenbus_states.specs.declared.back.Action.TheVariants as action
 use Rattle.xenbus_states.specs.Connection.{Connection, action_of, action_from, asked_of}
-use Rattle.xenbus_states.specs.Nodes.{node_at, needed}
+use Rattle.xenbus_states.specs.Needs.{Problem, first_fault}
 use Rattle.link_core.specs.declared.link.Link.{Link}
 use Rattle.link_core.specs.Activities.{Page, look_plan, take_plan, answer_plan}
 use Rattle.link_core.specs.Link.{dom_of, held_of, joined_of, idle, page_of, rsp_of}
@@ -29,14 +28,15 @@ use Rattle.display_backend.specs.declared.display.Activity.TheVariants as activi
 use Rattle.display_backend.specs.declared.display.Ending.{Ending}
 use Rattle.display_backend.specs.declared.display.Round.{Round}
 use Rattle.display_backend.specs.Activity.{is_connected}
-use Rattle.display_backend.specs.Display.{stand_at, stand_in, stock_in, all_held, parts_in, connecting, number_in, number_at, refs_at, refs_from, look_from, take_from, answer_from, sleeping}
+use Rattle.display_backend.specs.Display.{stand_at, stand_in, stock_in, all_held, parts_in, connecting, look_from, take_from, answer_from, sleeping}
 use Rattle.display_backend.specs.Goes.{Closes, GoesOut, Told, Comes, Begins, fault_in}
 use Rattle.device_core.specs.Site.{Site}
-use Rattle.display_backend.specs.Machine.{Refs, Problem, part_refs, all_refs, with_ring_ref, with_channel, with_event_ref, with_channels, added, all_with}
+use Rattle.display_backend.specs.Machine.{Refs, needs_of, refs_from}
 use Rattle.display_backend.specs.Reply.{reply_to}
 use Rattle.display_backend.specs.Whole.{Whole}
 use Rattle.display_backend.specs.Work.{Work, End, Saw, Took, Listed, Freed, Answered, Slept, Met, Denied, Lacked, Shut, Left, Renewed, Served, display, choice, settled, said_at, shut, entered, all_pages, sleep_all, connect_all, status_of, with_closing, with_kept, with_action, with_state, with_hand, close, answers, takes_from, looks_at}
 use Rattle.display_backend.proofs.Held.{joined_held, bare_held, page_shown}
+use Rattle.display_backend.proofs.Nodes.{no_fault}
 use Rattle.display_backend.proofs.Leaving.{later_is}
 use Rattle.display_backend.proofs.Lists.{get_map, within}
 use Rattle.display_backend.proofs.Serve.{sleeping_at}
@@ -165,43 +165,14 @@ connect_apart state.Closed c h = refl
 connect_apart state.Reconfiguring c h = refl
 connect_apart state.Reconfigured c h = refl
 
--- nodes that are all there
-channels_ok : (part ring event : ℕ) (d : Result ℕ NodeFault) → fault_in (with_channels part ring event d) ≡ None → with_channels part ring event d ≡ Ok (record { ring = ring; event = event })
-channels_ok part ring event (Err f) h = let wrong : ⊥ = cc in absurd wrong
-channels_ok part ring event (Ok n) h = refl
-
-event_ok : (nodes : List NodeValue) (part ring : ℕ) (c : Result ℕ NodeFault) → fault_in (with_event_ref nodes part ring c) ≡ None → with_event_ref nodes part ring c ≡ Ok (record { ring = ring; event = number_in c })
-event_ok nodes part ring (Err f) h = let wrong : ⊥ = cc in absurd wrong
-event_ok nodes part ring (Ok n) h = channels_ok part ring n (needed (node_at nodes part 3)) h
-
-channel_ok : (nodes : List NodeValue) (part ring : ℕ) (b : Result ℕ NodeFault) → fault_in (with_channel nodes part ring b) ≡ None → with_channel nodes part ring b ≡ Ok (record { ring = ring; event = number_at nodes part 2 })
-channel_ok nodes part ring (Err f) h = let wrong : ⊥ = cc in absurd wrong
-channel_ok nodes part ring (Ok n) h = event_ok nodes part ring (needed (node_at nodes part 2)) h
-
-ring_ok : (nodes : List NodeValue) (part : ℕ) (a : Result ℕ NodeFault) → fault_in (with_ring_ref nodes part a) ≡ None → with_ring_ref nodes part a ≡ Ok (record { ring = number_in a; event = number_at nodes part 2 })
-ring_ok nodes part (Err f) h = let wrong : ⊥ = cc in absurd wrong
-ring_ok nodes part (Ok n) h = channel_ok nodes part n (needed (node_at nodes part 1)) h
-
-first_ok : (r : Result Refs Problem) (rest : Result (List Refs) Problem) → fault_in (all_with r rest) ≡ None → (fault_in r ≡ None) × (fault_in rest ≡ None)
-first_ok (Err p) rest h = let wrong : ⊥ = cc in absurd wrong
-first_ok (Ok r) (Err p) h = let wrong : ⊥ = cc in absurd wrong
-first_ok (Ok r) (Ok rs) h = (refl, refl)
-
-pub refs_ok : (nodes : List NodeValue) (part n : ℕ) → fault_in (all_refs nodes part n) ≡ None → all_refs nodes part n ≡ Ok (refs_from nodes part n)
-refs_ok nodes part zero h = refl
-refs_ok nodes part (suc n) h =
-    let both = first_ok (part_refs nodes part) (all_refs nodes (part + 1) n) h in
-    ap (λ r. all_with r (all_refs nodes (part + 1) n)) (ring_ok nodes part (needed (node_at nodes part 0)) both.0)
-    ∙ ap (added (refs_at nodes part)) (refs_ok nodes (part + 1) n both.1)
-
 told_of : Option Reason → Option Said
 told_of None = None
 told_of (Some why) = Some (said.Closed why)
 
-pub lacks : (site : Site) (w : Work) (r : Result (List Refs) Problem) (why : Reason) → fault_in r ≡ Some why → Told site w (connect_all site r) (Some (said.Closed why)) (Between (shut w))
+pub lacks : (site : Site) (w : Work) (r : Option Problem) (refs : List Refs) (why : Reason) → fault_in r ≡ Some why → Told site w (connect_all site r refs) (Some (said.Closed why)) (Between (shut w))
 unfolding said_at settled told_of
-lacks site w (Ok rs) why h = let wrong : ⊥ = cc in absurd wrong
-lacks site w (Err p) why h = record { end = Lacked p; told = said.Closed why; over = refl; says = refl; told_is = ap (λ (x : Option Reason). told_of x) h; left = refl }
+lacks site w None refs why h = let wrong : ⊥ = cc in absurd wrong
+lacks site w (Some p) refs why h = record { end = Lacked p; told = said.Closed why; over = refl; says = refl; told_is = ap (λ (x : Option Reason). told_of x) h; left = refl }
 
 -- a request in hand is answered, one that is left is taken, a ring is looked at; all sleep
 module _ (w : Work) (ls : List Link) (k : ℕ) (l : Link) (p : w.parts ≡ map joined_of ls) (g : slice_get ls k ≡ Some l) (two : length (held_of l) ≡ 2) (rest : idle l ≡ true) where
@@ -238,11 +209,11 @@ sleeps_is w ls l p g two rest =
     ∙ ap (λ (x : Plan Bool). Act w (mapped (λ y. Slept y) x)) (sym (sleeping_at ls 0 l g rest two))
 
 -- the nodes are all there: a Connect begins at the first part
-pub connect_begins : (site : Site) (nodes : List NodeValue) (ls : List Link) (l : Link) → slice_get ls 0 ≡ Some l → idle l ≡ true → dom_of l ≡ site.dom → 0 < site.parts → fault_in (all_refs nodes 0 site.parts) ≡ None → connect_all site (all_refs nodes 0 site.parts) ≡ connecting site nodes 0 ls
+pub connect_begins : (site : Site) (nodes : List NodeValue) (ls : List Link) (l : Link) → slice_get ls 0 ≡ Some l → idle l ≡ true → dom_of l ≡ site.dom → 0 < site.parts → fault_in (first_fault nodes (needs_of site)) ≡ None → connect_all site (first_fault nodes (needs_of site)) (refs_from nodes 0 site.parts) ≡ connecting site nodes 0 ls
 connect_begins site nodes ls l g rest d some none =
     let whole : site.parts ≡ site.parts - 0 = omega arith in
-    ap (connect_all site) (refs_ok nodes 0 site.parts none)
-    ∙ (ap (λ n. connect_all site (Ok (refs_from nodes 0 n))) whole
+    ap (λ x. connect_all site x (refs_from nodes 0 site.parts)) (no_fault (first_fault nodes (needs_of site)) none)
+    ∙ (ap (λ n. connect_all site None (refs_from nodes 0 n)) whole
     ∙ later_is site nodes 0 ls [] l g rest d some)
 
 pub told_as : (site : Site) (w : Work) (p : Plan End) (event event' : Said) (new new' : Stand Work End) → event ≡ event' → new ≡ new' → Told site w p (Some event') new' → Told site w p (Some event) new

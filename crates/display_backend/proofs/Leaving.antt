@@ -11,6 +11,7 @@ use Rattle.pv_words.specs.Plan.{Plan, Finished, Want, MayGo, IsUnfinished, joine
 use Rattle.grant_table.specs.Mapping.{unmap_want}
 use Rattle.display_backend.specs.Stock.{Stock}
 use Rattle.page_directory.specs.declared.walk.Walk.{Walk}
+use Rattle.xenbus_states.specs.Nodes.{number_at}
 use Rattle.link_core.specs.declared.link.Link.{Link}
 use Rattle.link_core.specs.Activities.{Joined, Connected, Joins, connect_plan, unmaps}
 use Rattle.link_core.specs.Link.{dom_of, held_of, joined_of, idle, rings, connect_left, drop_left, Leads}
@@ -22,8 +23,9 @@ use Rattle.display_backend.specs.declared.display.Ending.{Ending}
 use Rattle.display_backend.specs.declared.display.Round.{Round}
 use Rattle.display_backend.specs.declared.display.Round.TheVariants as round
 use Rattle.display_backend.specs.Activity.{is_open}
-use Rattle.display_backend.specs.Display.{all_held, parts_in, met_links, later, connect_from, stand_in, number_at, refs_from, leaving_plan, stand_at}
+use Rattle.display_backend.specs.Display.{all_held, parts_in, met_links, later, connect_from, stand_in, leaving_plan, stand_at}
 use Rattle.display_backend.specs.Goes.{GoesOut}
+use Rattle.display_backend.specs.Machine.{refs_from}
 use Rattle.device_core.specs.Site.{Site}
 use Rattle.display_backend.specs.Whole.{Whole}
 use Rattle.display_backend.specs.Work.{Work, End, Met, display, all_pages, after_part, connect_parts}

@@ -16,7 +16,6 @@ pub mod Serve
 pub mod Served
 pub mod Serving
 pub mod Sound
-pub mod SoundActions
 pub mod SoundAnswer
 pub mod SoundBegins
 pub mod SoundClose

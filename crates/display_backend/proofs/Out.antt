@@ -17,8 +17,9 @@ use Rattle.device_core.proofs.Steps.{steps_during, steps_said}
 use Rattle.display_backend.specs.declared.display.Ending.{Ending}
 use Rattle.display_backend.specs.declared.display.Ending.TheVariants as ending
 use Rattle.device_core.specs.Site.{Site}
-use Rattle.display_backend.specs.Display.{why_of, stuck, stand_at, end_of, reason_of, refs_from, refs_at}
+use Rattle.display_backend.specs.Display.{why_of, stuck, stand_at, end_of, reason_of}
 use Rattle.display_backend.specs.Goes.{Closes, GoesOut}
+use Rattle.display_backend.specs.Machine.{refs_at, refs_from}
 use Rattle.display_backend.proofs.Stocks.{bare_stripped}
 use Rattle.display_backend.specs.Work.{Work, End, Saw, Took, Listed, Freed, Answered, Slept, Met, Denied, Lacked, Shut, Left, Renewed, Served, display, choice, leaving, settled, said_at, shut, all_pages, after_part}
 

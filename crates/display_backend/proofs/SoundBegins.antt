@@ -13,6 +13,7 @@ use Rattle.ring_words.specs.Ring.{looked_of}
 use Rattle.xenbus_states.specs.declared.back.Action.{Action}
 use Rattle.xenbus_states.specs.declared.back.Action.TheVariants as action
 use Rattle.xenbus_states.specs.Connection.{action_of}
+use Rattle.xenbus_states.proofs.Actions.{closed_apart, renews_again}
 use Rattle.link_core.specs.Activities.{Joined, look_plan, take_plan}
 use Rattle.device_core.specs.Order.{Offers}
 use Rattle.link_core.proofs.PlanFits.{fits_mapped}
@@ -21,7 +22,6 @@ use Rattle.display_backend.specs.declared.display.Round.TheVariants as round
 use Rattle.display_backend.specs.declared.waiting.Waiting.{Waiting}
 use Rattle.display_backend.specs.Machine.{Hand}
 use Rattle.display_backend.specs.Work.{Work, End, Saw, Took, Slept, Left, Renewed, Served, ring_page, sleep_all, looks_at, in_round, takes_from, with_left, with_waiting, with_hand, with_state, with_action, with_kept, with_closing, choice, settled, entered, begins_hand, begins_state, begins_by, begins_with, begins_of}
-use Rattle.display_backend.proofs.SoundActions.{closed_apart, renews_again}
 use Rattle.display_backend.proofs.SoundFits.{BeginsSo, begins_nothing, chosen, held_so, ring_own, page_held, ring_held, same_work}
 use Rattle.display_backend.proofs.SoundDecides.{begins_goes}
 use Rattle.display_backend.proofs.SoundClose.{begins_leaving, begins_connect, told_bare}

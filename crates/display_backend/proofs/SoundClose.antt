@@ -14,9 +14,10 @@ use Rattle.link_core.specs.Activities.{unmaps}
 use Rattle.link_core.specs.Laws.{AreOf}
 use Rattle.device_core.specs.Names.{Name, Sight, all_drawn}
 use Rattle.device_core.specs.Order.{Offers}
-use Rattle.display_backend.specs.Machine.{all_refs}
+use Rattle.xenbus_states.specs.Needs.{first_fault}
+use Rattle.xenbus_states.proofs.Actions.{connects_apart}
+use Rattle.display_backend.specs.Machine.{needs_of, refs_from}
 use Rattle.display_backend.specs.Work.{Work, Naming, End, Shut, all_pages, beginning, leaving, close, connect_all, with_action, reading, settled, rows_of, live_names, names_of, begins_close, begins_by}
-use Rattle.display_backend.proofs.SoundActions.{connects_apart}
 use Rattle.display_backend.proofs.SoundConnect.{fits_all, shut_pages}
 use Rattle.display_backend.proofs.SoundFits.{BeginsSo, RunsTo, shown_of, chosen, held_so}
 use Rattle.display_backend.proofs.SoundNames.{all_run, none_bared}
@@ -83,7 +84,8 @@ module _ (frames grants : ℕ → ℕ) (dom parts : ℕ) (w v : Work) (p : Plan 
   begins_connect still none a o =
       let bare = bare_unless frames grants dom parts w s (λ serving. connects_apart w.connection.back w.connection serving.0 a) in
       let sane : IsSane frames grants dom parts (beginning w) = record { own = s.own; stored = s.stored; whole = s.whole; buffers = s.buffers; opened = inl bare; kept = λ why h. let wrong : ⊥ = cc in absurd wrong } in
-      let plan = connect_all (the_site frames grants dom parts) (all_refs w.seen 0 parts) in
-      let fits = λ (k : Holds) (t : TellsHeld w k). subst (λ (x : Holds). Fit frames grants dom (EndsSo frames grants dom parts (beginning w)) x plan) (sym (bare_pages bare k t)) (fits_all frames grants dom parts (beginning w) refl still bare.1 (all_refs w.seen 0 parts) refl) in
+      let found = first_fault w.seen (needs_of (the_site frames grants dom parts)) in
+      let plan = connect_all (the_site frames grants dom parts) found (refs_from w.seen 0 parts) in
+      let fits = λ (k : Holds) (t : TellsHeld w k). subst (λ (x : Holds). Fit frames grants dom (EndsSo frames grants dom parts (beginning w)) x plan) (sym (bare_pages bare k t)) (fits_all frames grants dom parts (beginning w) refl still bare.1 found refl) in
       chosen frames grants dom parts w v (beginning w) p plan (λ m. begins_by w m action.Connect)
-      (sane, fits, (λ m sight named. (named, (shown_of frames grants dom parts (beginning w) m sight, record { free = refl; move = (still, a, refl); names = refl; touched = refl; owes = refl }, refl)))) o
+      (sane, fits, (λ m sight named. (named, (shown_of frames grants dom parts (beginning w) m sight, record { free = refl; move = ((still, a), refl); names = refl; touched = refl; owes = refl }, refl)))) o

@@ -1,5 +1,5 @@
 -- A Connect maps the pages of each part, or unmaps all of them.
-use Rattle.std.proofs.Common.{◌≡◌, ℕ, suc, ◌+◌, ◌≤◌, true, false, List, [], ◌∷◌, ◌++◌, Some, Result, Ok, Err, refl, sym, ap, subst, arith, length, length-append}
+use Rattle.std.proofs.Common.{◌≡◌, ℕ, suc, ◌+◌, true, false, List, [], ◌∷◌, ◌++◌, Option, Some, None, refl, sym, ap, subst, arith, length, length-append}
 use Rattle.pv_words.specs.declared.grant.GrantRefusal.{GrantRefusal}
 use Rattle.pv_words.specs.declared.grant.Hold.{Hold}
 use Rattle.pv_words.specs.declared.grant.Mode.TheVariants.{Write}
@@ -13,7 +13,8 @@ use Rattle.link_core.specs.Activities as link
 use Rattle.link_core.specs.Activities.{Joined, connect_plan, unmaps}
 use Rattle.link_core.specs.Laws.{IsRing, IsRefused}
 use Rattle.link_core.proofs.PlanFits.{fits_connect, fits_joined}
-use Rattle.display_backend.specs.Machine.{Refs, Problem, all_refs}
+use Rattle.xenbus_states.specs.Needs.{Problem, first_fault}
+use Rattle.display_backend.specs.Machine.{Refs, needs_of, refs_from}
 use Rattle.display_backend.specs.Work.{Work, End, Denied, all_pages, after_part, connect_parts, connect_all, settled, shut}
 use Rattle.display_backend.proofs.SoundPlans.{Fit, AllOwn, own_append, own_joined, own_are, refused_own, fits_drop}
 use Rattle.display_backend.proofs.SoundParts.{pages_last}
@@ -43,18 +44,18 @@ module _ (frames grants : ℕ → ℕ) (dom parts : ℕ) (w : Work) (connecting 
         (λ k. omega (arith, times_append k (all_pages met ++ hs) []))
         (λ left gone. ((refl, (λ k. omega (arith, gone k, shut_pages w k bare))), (not_closing, bare)))
 
-  module _ (refs : List Refs) (found : all_refs w.read 0 parts ≡ Ok refs) where
+  module _ (found : first_fault w.read (needs_of (the_site frames grants dom parts)) ≡ None) where
     fits_parts : (rs : List Refs) (met : List Joined) → AllOwn frames grants dom (all_pages met) → length met + length rs ≡ parts → FitsSo (holds_of (all_pages met)) (connect_parts (the_site frames grants dom parts) rs met)
     unfolding settled
-    fits_parts [] met own few = ((refl, (λ k. refl)), (connecting, own, omega (arith, few), (refs, found), bare))
+    fits_parts [] met own few = ((refl, (λ k. refl)), (connecting, own, omega (arith, few), found, bare))
     fits_parts (r ∷ rs) met own few =
         fits_joined (IsProper frames grants dom) (holding frames) (after_part met (connect_parts (the_site frames grants dom parts) rs)) (EndsSo frames grants dom parts w) (holds_of (all_pages met)) (connect_plan (frames dom) (grants dom) dom (Some r.ring) r.event)
         (fits_connect frames grants dom r.event (Some r.ring) (all_pages met) (λ k x. FitsSo k (after_part met (connect_parts (the_site frames grants dom parts) rs) x))
         (joins_one r rs met own (λ more o f. fits_parts rs more o f) few) (refuses_one r rs met own))
 
-  pub fits_all : (x : Result (List Refs) Problem) → all_refs w.read 0 parts ≡ x → FitsSo (holds_of []) (connect_all (the_site frames grants dom parts) x)
+  pub fits_all : (x : Option Problem) → first_fault w.read (needs_of (the_site frames grants dom parts)) ≡ x → FitsSo (holds_of []) (connect_all (the_site frames grants dom parts) x (refs_from w.read 0 parts))
   unfolding settled
-  fits_all (Err problem) e = ((refl, (λ k. sym (shut_pages w k bare))), (not_closing, bare))
-  fits_all (Ok refs) e =
-      let known = all_asked (the_site frames grants dom parts) w.read 0 parts refs (omega arith) e in
-      fits_parts refs e refs [] tt (omega (arith, known.1))
+  fits_all (Some problem) e = ((refl, (λ k. sym (shut_pages w k bare))), (not_closing, bare))
+  fits_all None e =
+      let known = all_asked (the_site frames grants dom parts) w.read 0 parts (omega arith) e in
+      fits_parts e (refs_from w.read 0 parts) [] tt (omega (arith, known.1))

@@ -1,5 +1,5 @@
 -- Of an activity that may be chosen: it touches no word of a name, and it ends as the words show that it found.
-use Rattle.std.proofs.Common.{◌≡◌, ◌⊎◌, inl, inr, ℕ, zero, suc, ◌==◌, nat_le, Bool, true, false, List, [], ◌∷◌, ◌++◌, Option, Some, None, Result, Ok, Err, refl, sym, ◌∙◌, ap, subst, arith, slice_get}
+use Rattle.std.proofs.Common.{◌≡◌, ◌⊎◌, inl, inr, ℕ, zero, suc, ◌==◌, nat_le, Bool, true, false, List, [], ◌∷◌, ◌++◌, Option, Some, None, refl, sym, ◌∙◌, ap, subst, arith, slice_get}
 use Rattle.pv_words.specs.declared.access.Access.{Access}
 use Rattle.pv_words.specs.declared.device.Reason.{Reason}
 use Rattle.pv_words.specs.declared.device.Reason.TheVariants as reason
@@ -26,6 +26,8 @@ use Rattle.ring_words.specs.Ring.{looked_of, since}
 use Rattle.xenbus_states.specs.declared.back.Action.{Action}
 use Rattle.xenbus_states.specs.declared.back.Action.TheVariants as action
 use Rattle.xenbus_states.specs.Connection.{action_of}
+use Rattle.xenbus_states.specs.Needs.{Problem, first_fault}
+use Rattle.xenbus_states.proofs.Actions.{closes_asked}
 use Rattle.link_core.specs.Activities.{Connected, Joined, Joins, Refuses, answer_plan, connect_plan, look_plan, sleep_plan, take_plan, unmaps}
 use Rattle.link_core.specs.Laws as link
 use Rattle.link_core.proofs.Shown.{FitFound, TouchesNone, answer_none, connects_show, found_any, looks_show, sleep_none, take_none, unmaps_found}
@@ -35,11 +37,10 @@ use Rattle.display_backend.specs.declared.display.Progress.TheVariants as progre
 use Rattle.display_backend.specs.declared.display.Round.{Round}
 use Rattle.display_backend.specs.declared.display.Round.TheVariants as round
 use Rattle.display_backend.specs.declared.waiting.Waiting.{Waiting}
-use Rattle.display_backend.specs.Machine.{Hand, Refs, Problem, IsAskedFor, all_refs, is_accepted, verdict}
+use Rattle.display_backend.specs.Machine.{Hand, Refs, IsAskedFor, is_accepted, needs_of, refs_from, verdict}
 use Rattle.display_backend.specs.Reply.{reply_to}
 use Rattle.display_backend.specs.Stock.{pages_of, pages_under}
 use Rattle.display_backend.specs.Work.{Work, End, Saw, Took, Listed, Freed, Answered, Slept, Met, Denied, Lacked, Shut, Left, Renewed, Served, after_answer, after_look, after_part, after_sleep, after_walk, all_pages, answer_of, answers, beginning, choice, close, connect_all, connect_parts, decides, freeing, frees, goes_on, in_round, leaving, looks_at, maps, nothing, part_of, ring_page, settled, sleep_all, sleeps_on, starved, status_of, takes_from, with_action, with_closing, with_hand, with_kept, with_left, with_state, with_waiting}
-use Rattle.display_backend.proofs.SoundActions.{closes_asked}
 use Rattle.display_backend.proofs.SoundRefs.{AllAsked, all_asked}
 use Rattle.display_backend.proofs.SoundSettles.{found_index, none_kept}
 use Rattle.display_backend.proofs.SoundWork.{the_site, IsDue, IsKept, IsSane, KeptFound, EndsFound}
@@ -201,15 +202,7 @@ module _ (frames grants : ℕ → ℕ) (dom parts : ℕ) where
     found_close : (why : Reason) → IsDue (the_site frames grants dom parts) w f why → Offers (close w why) v p → FitsFound v f p
     unfolding settled
     found_close why due o =
-        chosen (leaving w) (unmaps (pages_of w.stock ++ all_pages w.parts) (Finished (Shut why))) (unmaps_found (EndsFoundSo (leaving w)) f (pages_of w.stock ++ all_pages w.parts) (Finished (Shut why)) ((λ a b k. absurd (no_reason None a b refl k)), due_leaving why due)) o
-      where
-        due_leaving : (why : Reason) → IsDue (the_site frames grants dom parts) w f why → IsDue (the_site frames grants dom parts) (leaving w) f why
-        due_leaving (reason.Asked s) d = d
-        due_leaving (reason.Overrun prod rsp) d = d
-        due_leaving (reason.Refused r) d = d
-        due_leaving (reason.Node part key fault) d = d
-        due_leaving (reason.BadCons a b) d = d
-        due_leaving (reason.Spent a) d = d
+        chosen (leaving w) (unmaps (pages_of w.stock ++ all_pages w.parts) (Finished (Shut why))) (unmaps_found (EndsFoundSo (leaving w)) f (pages_of w.stock ++ all_pages w.parts) (Finished (Shut why)) ((λ a b k. absurd (no_reason None a b refl k)), due)) o
 
     -- the parts of a Connect
     asked_at : (r : Refs) (gref : ℕ) → IsAskedFor (the_site frames grants dom parts) w.seen r.ring × IsAskedFor (the_site frames grants dom parts) w.seen r.event → (Some r.ring ≡ Some gref) ⊎ (r.event ≡ gref) → IsAskedFor (the_site frames grants dom parts) w.seen gref
@@ -228,15 +221,18 @@ module _ (frames grants : ℕ → ℕ) (dom parts : ℕ) where
         ended rest h (Refuses held why) e =
             unmaps_found (EndsFoundSo (beginning w)) h (all_pages met ++ held) (Finished (Denied why)) ((λ a b k. absurd (no_reason None a b refl k)), (refl, (e.0, asked_at w w (Finished Left) h r e.0 are.0 e.1, e.2)))
 
-    found_connect : (x : Result (List Refs) Problem) (g : Found) → all_refs w.seen 0 parts ≡ x → FitsFound (beginning w) g (connect_all (the_site frames grants dom parts) x)
+    found_connect : (x : Option Problem) (g : Found) → first_fault w.seen (needs_of (the_site frames grants dom parts)) ≡ x → FitsFound (beginning w) g (connect_all (the_site frames grants dom parts) x (refs_from w.seen 0 parts))
     unfolding settled
-    found_connect (Err problem) g e = ((λ a b k. absurd (no_reason None a b refl k)), (refl, e))
-    found_connect (Ok refs) g e = found_parts refs [] g (all_asked (the_site frames grants dom parts) w.seen 0 parts refs (omega arith) e).0
+    found_connect (Some problem) g e = ((λ a b k. absurd (no_reason None a b refl k)), (refl, e))
+    found_connect None g e =
+        found_parts (refs_from w.seen 0 parts) [] g (all_asked (the_site frames grants dom parts) w.seen 0 parts (omega arith) e).0
 
   module _ (w v : Work) (p : Plan End) (s : IsSane frames grants dom parts w) (f : Found) (kept : KeptFound w f) where
     found_action : (a : Action) → w.kept ≡ None → action_of w.connection ≡ a → Offers (with_action (the_site frames grants dom parts) w a) v p → FitsFound v f p
     unfolding settled
-    found_action action.Connect none e o = chosen w v p f (beginning w) (connect_all (the_site frames grants dom parts) (all_refs w.seen 0 parts)) (found_connect w (all_refs w.seen 0 parts) f refl) o
+    found_action action.Connect none e o =
+        let found = first_fault w.seen (needs_of (the_site frames grants dom parts)) in
+        chosen w v p f (beginning w) (connect_all (the_site frames grants dom parts) found (refs_from w.seen 0 parts)) (found_connect w found f refl) o
     found_action (action.Close x) none e o = found_close w v p f (reason.Asked x) (closes_asked w.connection.back w.connection x e) o
     found_action action.Renew none e o = chosen w v p f w (Finished Renewed) ((λ a b k. absurd (no_reason w.kept a b none k)), tt) o
     found_action action.Stay none e o = found_state w v p f none w.connection.back o

@@ -1,29 +1,14 @@
 -- The references that a Connect maps stand in the nodes that it read.
-use Rattle.std.proofs.Common.{◌≡◌, ℕ, zero, suc, ◌+◌, ◌<◌, ◌≤◌, List, [], ◌∷◌, Result, Ok, Err, refl, ap, subst, arith, length}
-use Rattle.pv_words.specs.declared.device.NodeFault.{NodeFault}
+use Rattle.std.proofs.Common.{◌≡◌, ℕ, zero, suc, ◌+◌, ◌<◌, ◌≤◌, List, [], ◌∷◌, ◌++◌, None, refl, arith, length}
 use Rattle.pv_words.specs.declared.device.NodeValue.{NodeValue}
-use Rattle.xenbus_states.specs.Nodes.{node_at, needed}
+use Rattle.xenbus_states.specs.Needs.{Need, first_fault, needs_at, needs_from, ring_keys}
+use Rattle.xenbus_states.specs.Nodes.{node_at, needed, number_at}
+use Rattle.xenbus_states.proofs.Faults.{none_or}
 use Rattle.device_core.specs.Site.{Site}
-use Rattle.display_backend.specs.Machine.{Refs, Problem, IsAskedFor, with_channels, with_event_ref, with_channel, with_ring_ref, part_refs, all_with, all_refs}
+use Rattle.display_backend.specs.Machine.{Refs, IsAskedFor, refs_from}
 
-channels_of : (part ring event : ℕ) (x : Result ℕ NodeFault) (r : Refs) → with_channels part ring event x ≡ Ok r → (ring ≡ r.ring) × (event ≡ r.event)
-channels_of part ring event (Err f) r e = let wrong : ⊥ = cc in absurd wrong
-channels_of part ring event (Ok c) r e =
-    let same : ◌≡◌ {A = Refs} (record { ring = ring; event = event }) r = cc in
-    (ap (λ (x : Refs). x.ring) same, ap (λ (x : Refs). x.event) same)
-
-event_of : (nodes : List NodeValue) (part ring : ℕ) (x : Result ℕ NodeFault) (r : Refs) → with_event_ref nodes part ring x ≡ Ok r → (ring ≡ r.ring) × (x ≡ Ok r.event)
-event_of nodes part ring (Err f) r e = let wrong : ⊥ = cc in absurd wrong
-event_of nodes part ring (Ok event) r e =
-    let c = channels_of part ring event (needed (node_at nodes part 3)) r e in (c.0, ap (λ n. Ok n) c.1)
-
-channel_of : (nodes : List NodeValue) (part ring : ℕ) (x : Result ℕ NodeFault) (r : Refs) → with_channel nodes part ring x ≡ Ok r → (ring ≡ r.ring) × (needed (node_at nodes part 2) ≡ Ok r.event)
-channel_of nodes part ring (Err f) r e = let wrong : ⊥ = cc in absurd wrong
-channel_of nodes part ring (Ok c) r e = event_of nodes part ring (needed (node_at nodes part 2)) r e
-
-ring_of : (nodes : List NodeValue) (part : ℕ) (x : Result ℕ NodeFault) (r : Refs) → with_ring_ref nodes part x ≡ Ok r → (x ≡ Ok r.ring) × (needed (node_at nodes part 2) ≡ Ok r.event)
-ring_of nodes part (Err f) r e = let wrong : ⊥ = cc in absurd wrong
-ring_of nodes part (Ok ring) r e = let c = channel_of nodes part ring (needed (node_at nodes part 1)) r e in (ap (λ n. Ok n) c.0, c.1)
+abbrev at_key : ℕ → ℕ → Need
+at_key part key = record { part = part; key = key }
 
 module _ (site : Site) (nodes : List NodeValue) where
   abbrev pub AllAsked : List Refs → Type 0
@@ -34,16 +19,18 @@ module _ (site : Site) (nodes : List NodeValue) where
   abbrev pub AreAsked : ℕ → List Refs → Type 0
   AreAsked n refs = AllAsked refs × (length refs ≡ n)
 
-  first_asked : (part n : ℕ) (a : Result Refs Problem) (b : Result (List Refs) Problem) (refs : List Refs) → part < site.parts → part_refs nodes part ≡ a → ((rs : List Refs) → b ≡ Ok rs → AreAsked n rs) → all_with a b ≡ Ok refs → AreAsked (suc n) refs
-  first_asked part n (Err p) b refs small e rest h = let wrong : ⊥ = cc in absurd wrong
-  first_asked part n (Ok r) (Err p) refs small e rest h = let wrong : ⊥ = cc in absurd wrong
-  first_asked part n (Ok r) (Ok rs) refs small e rest h =
-      let same : r ∷ rs ≡ refs = cc in
-      let known = ring_of nodes part (needed (node_at nodes part 0)) r e in
-      let more = rest rs refl in
-      subst (AreAsked (suc n)) same ((((part, 0, small, refl, known.0), (part, 2, small, refl, known.1)), more.0), omega (arith, more.1))
+  -- the needed nodes of a part, of which none is faulty
+  asked_part : (part : ℕ) (later : List Need) → part < site.parts → first_fault nodes (needs_at ring_keys part ++ later) ≡ None → (IsAskedFor site nodes (number_at nodes part 0) × IsAskedFor site nodes (number_at nodes part 2)) × (first_fault nodes later ≡ None)
+  asked_part part later small e =
+      let a = none_or (at_key part 0) (needed (node_at nodes part 0)) (first_fault nodes (needs_at (1 ∷ 2 ∷ 3 ∷ []) part ++ later)) e in
+      let b = none_or (at_key part 1) (needed (node_at nodes part 1)) (first_fault nodes (needs_at (2 ∷ 3 ∷ []) part ++ later)) a.1 in
+      let c = none_or (at_key part 2) (needed (node_at nodes part 2)) (first_fault nodes (needs_at (3 ∷ []) part ++ later)) b.1 in
+      let d = none_or (at_key part 3) (needed (node_at nodes part 3)) (first_fault nodes later) c.1 in
+      (((part, 0, small, refl, a.0), (part, 2, small, refl, c.0)), d.1)
 
-  pub all_asked : (part n : ℕ) (refs : List Refs) → part + n ≤ site.parts → all_refs nodes part n ≡ Ok refs → AreAsked n refs
-  all_asked part zero refs few e = let same : [] ≡ refs = cc in subst (AreAsked zero) same (tt, omega arith)
-  all_asked part (suc n) refs few e =
-      first_asked part n (part_refs nodes part) (all_refs nodes (part + 1) n) refs (omega arith) refl (λ rs h. all_asked (part + 1) n rs (omega arith) h) e
+  pub all_asked : (part n : ℕ) → part + n ≤ site.parts → first_fault nodes (needs_from ring_keys part n) ≡ None → AreAsked n (refs_from nodes part n)
+  all_asked part zero few e = (tt, refl)
+  all_asked part (suc n) few e =
+      let here = asked_part part (needs_from ring_keys (part + 1) n) (omega (arith, few)) e in
+      let more = all_asked (part + 1) n (omega (arith, few)) here.1 in
+      ((here.0, more.0), omega (arith, more.1))

@@ -22,6 +22,7 @@ use Rattle.ring_words.specs.Ring.{since, looked_of}
 use Rattle.xenbus_states.specs.declared.back.Action.{Action}
 use Rattle.xenbus_states.specs.declared.back.Action.TheVariants as action
 use Rattle.xenbus_states.specs.Connection.{action_of}
+use Rattle.xenbus_states.proofs.Actions.{closed_apart}
 use Rattle.link_core.specs.Activities.{Joined}
 use Rattle.link_core.specs.Laws.{AreOf}
 use Rattle.device_core.specs.Machine.{Stays}
@@ -34,7 +35,6 @@ use Rattle.display_backend.specs.declared.display.Round.TheVariants as round
 use Rattle.device_core.specs.Site.{Site}
 use Rattle.display_backend.specs.Machine.{Hand, is_accepted, verdict}
 use Rattle.display_backend.specs.Work.{Work, Naming, End, Saw, Took, Listed, Freed, Answered, Slept, Met, Denied, Lacked, Shut, Left, Renewed, Served, all_pages, looks_at, in_round, takes_from, with_left, with_waiting, answers, maps, frees, decides, goes_on, part_of, status_of, with_hand, with_state, with_action, with_kept, with_closing, choice, display, reading, settled, shut, entered, after_look, after_sleep, after_answer, after_walk, stock_after}
-use Rattle.display_backend.proofs.SoundActions.{closed_apart}
 use Rattle.display_backend.proofs.SoundAnswer.{answer_same, answer_sound, answer_none, answered_done}
 use Rattle.display_backend.proofs.SoundParts.{counted_pages, counted_length, counted_none}
 use Rattle.display_backend.proofs.SoundPlans.{AllOwn}

@@ -18,6 +18,7 @@ use Rattle.page_directory.specs.declared.walk.Walked.{Walked}
 use Rattle.page_directory.specs.declared.walk.Walked.TheVariants as walked
 use Rattle.ring_words.specs.declared.Looked.{Looked}
 use Rattle.ring_words.specs.declared.Looked.TheVariants as looked
+use Rattle.xenbus_states.proofs.Actions.{closed_apart, renews_from}
 use Rattle.device_core.specs.Machine.{Moves, Stays}
 use Rattle.device_core.specs.Names.{Sight, all_drawn, words_in, with_name}
 use Rattle.display_backend.specs.declared.display.Progress.TheVariants as progress
@@ -27,11 +28,10 @@ use Rattle.host_events.specs.Queue.{behind}
 use Rattle.display_backend.specs.Machine.{Rows, Hand, Event, Says, Enters, Serves, is_accepted}
 use Rattle.display_backend.specs.Machine as machine
 use Rattle.display_backend.specs.Work.{Work, Naming, End, Saw, Took, Listed, Freed, Answered, Slept, Met, Denied, Lacked, Shut, Left, Renewed, Served, settled, said_of, said_at, shut, entered, after_look, after_sleep, after_answer, after_walk, denied_by, status_of, is_denied, replied_in, display, reading, rows_of, names_of, named_after, named_by, unnamed, made_at, made_by, taken_at, live_names}
-use Rattle.display_backend.proofs.SoundActions.{closed_apart, renews_from}
 use Rattle.display_backend.proofs.SoundAnswer.{answer_all, answer_rows, answer_names}
 use Rattle.display_backend.proofs.SoundNames.{names_none}
 use Rattle.display_backend.proofs.SoundRows.{same_status, same_verdict}
-use Rattle.display_backend.proofs.SoundWork.{the_site, IsNamed, IsServing, IsSane, IsShut, IsWalking, IsAnswer, IsDue, EndsWell, EndsFound, ListedFound, bare_unless, due_rows}
+use Rattle.display_backend.proofs.SoundWork.{the_site, IsNamed, IsServing, IsSane, IsShut, IsWalking, IsAnswer, IsDue, EndsWell, EndsFound, ListedFound, bare_unless}
 
 same_said : (s t : Said) → Some s ≡ Some t → s ≡ t
 same_said s t e = cc
@@ -152,7 +152,7 @@ module _ (frames grants : ℕ → ℕ) (dom parts : ℕ) where
   tells_closed : (w : Work) (m : Naming) (f : Found) (why : Reason) (t : Said) → IsShut frames grants dom parts w → IsDue (the_site frames grants dom parts) w f why → IsNamed w m → Some (said.Closed why) ≡ Some t → TellsSo w m t [] f [] (shut w) m
   tells_closed w m f why t q due named e =
       tells_as w m (said.Closed why) t [] f [] (shut w) m e
-      (named, record { move = (due_rows (the_site frames grants dom parts) w m f why due, q.0, refl); names = λ sight. refl })
+      (named, record { move = ((due, q.0), refl); names = λ sight. refl })
 
   -- a state in which there is no name
   tells_state : (w v : Work) (m : Naming) (f : Found) (b : State) (t : Said) → Enters (the_site frames grants dom parts) (rows_of w m) b (rows_of v (unnamed m)) → v.stock ≡ no_stock → pages_of w.stock ≡ [] → Some (said.State b) ≡ Some t → TellsSo w m t [] f [] v (unnamed m)
@@ -190,13 +190,13 @@ module _ (frames grants : ℕ → ℕ) (dom parts : ℕ) where
   tells w (Answered notified) f t m s q shown named e = tells_answer w m s named q.0 q.1.0 q.1.1 q.1.2 notified f t e
   tells w (Slept b) f t m s q shown named e = let wrong : ⊥ = cc in absurd wrong
   tells w (Met ps) f t m s q shown named e =
-      tells_state w (settled (the_site frames grants dom parts) w (Met ps)) m f state.Connected t (q.0, q.3, refl) refl q.4 e
+      tells_state w (settled (the_site frames grants dom parts) w (Met ps)) m f state.Connected t ((q.0, q.3), refl) refl q.4 e
   tells w (Denied why) f t m s q shown named e = tells_closed w m f (reason.Refused why) t q shown named e
   tells w (Lacked problem) f t m s q shown named e = tells_closed w m f (reason.Node problem.part problem.key problem.fault) t q shown named e
   tells w (Shut why) f t m s q shown named e = tells_closed w m f why t q shown named e
   tells w Left f t m s q shown named e =
       tells_state w (entered w state.Closed) m f state.Closed t (q, refl) refl (bare_unless frames grants dom parts w s (λ serving. true≢false (sym q ∙ serving.1))).1 e
   tells w Renewed f t m s q shown named e =
-      tells_state w (entered w state.InitWait) m f state.InitWait t (q.0, renews_from w.connection q.1 q.2, refl) refl (bare_unless frames grants dom parts w s (λ serving. closed_apart w.connection.back q.1 serving.0)).1 e
+      tells_state w (entered w state.InitWait) m f state.InitWait t ((q.0, renews_from w.connection q.1 q.2), refl) refl (bare_unless frames grants dom parts w s (λ serving. closed_apart w.connection.back q.1 serving.0)).1 e
   tells w (Served x) f t m s q shown named e =
       tells_as w m (said_of x) t [] f [] (record w { waiting = behind w.waiting }) m e (tells_served w x f m q named)

@@ -23,7 +23,10 @@ use Rattle.page_directory.specs.Same.{AreSame}
 use Rattle.ring_words.specs.declared.Looked.{Looked}
 use Rattle.ring_words.specs.declared.Looked.TheVariants as looked
 use Rattle.ring_words.specs.Ring.{looked_of, since}
-use Rattle.xenbus_states.specs.Connection.{Connection, first_ending, heard, is_start}
+use Rattle.xenbus_states.specs.Bus.{Bus, bus_heard}
+use Rattle.xenbus_states.specs.Connection.{Connection, heard, is_start}
+use Rattle.xenbus_states.specs.Needs.{first_fault}
+use Rattle.xenbus_states.proofs.Faults.{cause_heard}
 use Rattle.link_core.specs.Activities.{Joined}
 use Rattle.link_core.specs.Laws.{AreOf}
 use Rattle.device_core.specs.Machine.{Passes}
@@ -34,9 +37,9 @@ use Rattle.display_backend.specs.declared.waiting.Waiting.{Waiting}
 use Rattle.display_backend.specs.Waiting.{waiting_of}
 use Rattle.host_events.specs.Queue.{unless}
 use Rattle.device_core.specs.Site.{Site}
-use Rattle.display_backend.specs.Machine.{Hears, Rows, Hand, Refs, IsReason, all_refs, IsStatus, first_rows, owes, verdict, is_accepted}
+use Rattle.display_backend.specs.Machine.{Hears, Hand, IsOwnCause, IsReason, IsStatus, needs_of, owes, verdict, is_accepted}
 use Rattle.display_backend.specs.Reply.{status_in}
-use Rattle.display_backend.specs.Work.{Work, Naming, End, Saw, Took, Listed, Freed, Answered, Slept, Met, Denied, Lacked, Shut, Left, Renewed, Served, all_pages, after_look, after_sleep, after_answer, after_walk, settled, told, rows_of, is_denied, reading, display, refused_at, replied_in, said_at}
+use Rattle.display_backend.specs.Work.{Work, Naming, End, Saw, Took, Listed, Freed, Answered, Slept, Met, Denied, Lacked, Shut, Left, Renewed, Served, all_pages, after_look, after_sleep, after_answer, after_walk, settled, told, bus_of, rows_of, is_denied, reading, display, refused_at, replied_in, said_at}
 use Rattle.display_backend.proofs.SoundPlans.{AllOwn}
 
 -- what the domain has, and how many parts
@@ -91,12 +94,9 @@ HasParts parts w = (w.parts ≡ []) ⊎ (length w.parts ≡ parts)
 abbrev pub IsBare : Work → Type 0
 IsBare w = (w.parts ≡ []) × (pages_of w.stock ≡ [])
 
--- the rows that a reason speaks of
-abbrev pub reason_rows : Connection → Bool → List NodeValue → Rows
-reason_rows c connecting read = record first_rows { connection = c; connecting = connecting; read = read }
-
+-- its connection may be closed for this reason
 abbrev pub IsDue : Site → Work → Found → Reason → Type 0
-IsDue site w f why = IsReason site (reason_rows w.connection w.connecting w.read) f why
+IsDue site w f why = IsReason site (bus_of w) f why
 
 -- a reason that is kept: the two indices are more than a ring apart
 abbrev pub IsKept : Work → Reason → Type 0
@@ -182,7 +182,7 @@ module _ (frames grants : ℕ → ℕ) (dom parts : ℕ) where
   EndsWell w (Answered notified) = IsServing w × ((h : Hand) × (w.hand ≡ Some h) × IsAnswer w h)
   EndsWell w (Slept quiet) = Unit {0}
   EndsWell w (Met ps) =
-      (w.connecting ≡ true) × AllOwn frames grants dom (all_pages ps) × (length ps ≡ parts) × ((refs : List Refs) × (all_refs w.read 0 parts ≡ Ok refs)) × (pages_of w.stock ≡ [])
+      (w.connecting ≡ true) × AllOwn frames grants dom (all_pages ps) × (length ps ≡ parts) × (first_fault w.read (needs_of (the_site frames grants dom parts)) ≡ None) × (pages_of w.stock ≡ [])
   EndsWell w (Denied why) = IsShut w
   EndsWell w (Lacked problem) = IsShut w
   EndsWell w (Shut why) = IsShut w
@@ -209,22 +209,17 @@ EndsFound site w f (Shut why) = IsDue site w f why
 EndsFound site w f other = Unit {0}
 
 -- a reason stays one, whatever the frontend sets
-due_heard : (site : Site) (c : Connection) (connecting : Bool) (read : List NodeValue) (front : State) (f : Found) (why : Reason) → IsReason site (reason_rows c connecting read) f why → IsReason site (reason_rows (heard c front) connecting read) f why
-due_heard site c connecting read front f (reason.Asked s) h = (h.0, ap (λ e. first_ending e front) h.1)
-due_heard site c connecting read front f (reason.Overrun prod rsp) h = h
-due_heard site c connecting read front f (reason.Refused why) h = h
-due_heard site c connecting read front f (reason.Node part key fault) h = h
-due_heard site c connecting read front f (reason.BadCons p x) h = h
-due_heard site c connecting read front f (reason.Spent p) h = h
+own_heard : (site : Site) (bus : Bus) (front : State) (nodes : List NodeValue) (f : Found) (why : Reason) → IsOwnCause site bus f why → IsOwnCause site (bus_heard bus front nodes) f why
+own_heard site bus front nodes f (reason.Overrun prod rsp) h = h
+own_heard site bus front nodes f (reason.Refused why) h = h
+own_heard site bus front nodes f (reason.Asked s) h = h
+own_heard site bus front nodes f (reason.Node part key fault) h = h
+own_heard site bus front nodes f (reason.BadCons p x) h = h
+own_heard site bus front nodes f (reason.Spent p) h = h
 
--- it is one of all rows with this connection
-pub due_rows : (site : Site) (w : Work) (m : Naming) (f : Found) (why : Reason) → IsDue site w f why → IsReason site (rows_of w m) f why
-due_rows site w m f (reason.Asked s) h = h
-due_rows site w m f (reason.Overrun prod rsp) h = h
-due_rows site w m f (reason.Refused why) h = h
-due_rows site w m f (reason.Node part key fault) h = h
-due_rows site w m f (reason.BadCons p x) h = h
-due_rows site w m f (reason.Spent p) h = h
+due_heard : (site : Site) (bus : Bus) (front : State) (nodes : List NodeValue) (f : Found) (why : Reason) → IsReason site bus f why → IsReason site (bus_heard bus front nodes) f why
+due_heard site bus front nodes f why h =
+    cause_heard (needs_of site) (IsOwnCause site bus f) (IsOwnCause site (bus_heard bus front nodes) f) bus front nodes (λ y o. own_heard site bus front nodes f y o) why h
 
 -- what a Look, a Sleep and an Answer leave
 pub look_pages : (site : Site) (w : Work) (l : Looked) → held_pages (after_look site w l) ≡ held_pages w
@@ -238,13 +233,13 @@ sleep_pages w false = refl
 
 -- What news leave as it is: the backend's state, a reason that holds, whether the frontend started anew, and the oldest of the
 -- events that wait.
-record Hearing (site : Site) (w : Work) (c : Connection) (waits : List Waiting) : Type 0 where
+record Hearing (site : Site) (w : Work) (c : Connection) (nodes : List NodeValue) (waits : List Waiting) : Type 0 where
   back : c.back ≡ w.connection.back
-  due : (f : Found) (why : Reason) → IsDue site w f why → IsReason site (reason_rows c w.connecting w.read) f why
+  due : (f : Found) (why : Reason) → IsDue site w f why → IsReason site (record (bus_of w) { connection = c; seen = nodes }) f why
   again : w.connection.again ≡ true → c.again ≡ true
   oldest : (x : Waiting) (later : List Waiting) → w.waiting ≡ x ∷ later → (rest : List Waiting) × (waits ≡ x ∷ rest)
 
-module _ (frames grants : ℕ → ℕ) (dom parts : ℕ) (w : Work) (c : Connection) (nodes : List NodeValue) (waits : List Waiting) (h : Hearing (the_site frames grants dom parts) w c waits) where
+module _ (frames grants : ℕ → ℕ) (dom parts : ℕ) (w : Work) (c : Connection) (nodes : List NodeValue) (waits : List Waiting) (h : Hearing (the_site frames grants dom parts) w c nodes waits) where
   abbrev now : Work
   now = record w { connection = c; seen = nodes; waiting = waits }
 
@@ -326,16 +321,16 @@ stays_oldest None xs None x later e = (later, e)
 stays_oldest None xs (Some y) x later e = (later ++ y ∷ [], ap (λ zs. zs ++ y ∷ []) e)
 stays_oldest (Some why) xs y x later e = (later, e)
 
-sets_hearing : (site : Site) (w : Work) (front : State) → Hearing site w (heard w.connection front) w.waiting
-sets_hearing site w front =
+sets_hearing : (site : Site) (w : Work) (front : State) (nodes : List NodeValue) → Hearing site w (heard w.connection front) nodes w.waiting
+sets_hearing site w front nodes =
     record {
       back = refl;
-      due = λ f why q. due_heard site w.connection w.connecting w.read front f why q;
+      due = λ f why q. due_heard site (bus_of w) front nodes f why q;
       again = λ e. ap (λ t. t || is_start front) e;
       oldest = λ x later e. (later, e);
     }
 
-hosts_hearing : (site : Site) (w : Work) (e : HostEvent) → Hearing site w w.connection (unless (refused_at w) w.waiting (waiting_of e))
+hosts_hearing : (site : Site) (w : Work) (e : HostEvent) → Hearing site w w.connection w.seen (unless (refused_at w) w.waiting (waiting_of e))
 hosts_hearing site w e =
     record {
       back = refl;
@@ -345,7 +340,7 @@ hosts_hearing site w e =
     }
 
 due_told : (site : Site) (w : Work) (news : News) (f : Found) (why : Reason) → IsDue site w f why → IsDue site (told w news) f why
-due_told site w (Sets front nodes) f why q = (sets_hearing site w front).due f why q
+due_told site w (Sets front nodes) f why q = (sets_hearing site w front nodes).due f why q
 due_told site w (Hosts e) f why q = (hosts_hearing site w e).due f why q
 
 -- what an activity's end says doesn't hang on the connection, the nodes, or the events that wait
@@ -372,19 +367,19 @@ same_said w k nodes ws (Served e) = refl
 module _ (frames grants : ℕ → ℕ) (dom parts : ℕ) (w : Work) where
   pub hears_sane : (news : News) → IsSane frames grants dom parts w → IsSane frames grants dom parts (told w news)
   hears_sane (Sets front nodes) s =
-      sane_now frames grants dom parts w (heard w.connection front) nodes w.waiting (sets_hearing (the_site frames grants dom parts) w front) s
+      sane_now frames grants dom parts w (heard w.connection front) nodes w.waiting (sets_hearing (the_site frames grants dom parts) w front nodes) s
   hears_sane (Hosts e) s =
       sane_now frames grants dom parts w w.connection w.seen (unless (refused_at w) w.waiting (waiting_of e)) (hosts_hearing (the_site frames grants dom parts) w e) s
 
   pub hears_well : (news : News) (o : End) → EndsWell frames grants dom parts w o → EndsWell frames grants dom parts (told w news) o
   hears_well (Sets front nodes) o q =
-      well_now frames grants dom parts w (heard w.connection front) nodes w.waiting (sets_hearing (the_site frames grants dom parts) w front) o q
+      well_now frames grants dom parts w (heard w.connection front) nodes w.waiting (sets_hearing (the_site frames grants dom parts) w front nodes) o q
   hears_well (Hosts e) o q =
       well_now frames grants dom parts w w.connection w.seen (unless (refused_at w) w.waiting (waiting_of e)) (hosts_hearing (the_site frames grants dom parts) w e) o q
 
   pub hears_told : (news : News) (o : End) (h : Holds) → TellsHeld (settled (the_site frames grants dom parts) w o) h → TellsHeld (settled (the_site frames grants dom parts) (told w news) o) h
   hears_told (Sets front nodes) o h t =
-      told_now frames grants dom parts w (heard w.connection front) nodes w.waiting (sets_hearing (the_site frames grants dom parts) w front) o h t
+      told_now frames grants dom parts w (heard w.connection front) nodes w.waiting (sets_hearing (the_site frames grants dom parts) w front nodes) o h t
   hears_told (Hosts e) o h t =
       told_now frames grants dom parts w w.connection w.seen (unless (refused_at w) w.waiting (waiting_of e)) (hosts_hearing (the_site frames grants dom parts) w e) o h t
 

@@ -1,6 +1,5 @@
 -- Where a display stands.
-use Rattle.std.specs.Prelude.{◌≡◌, ℕ, zero, suc, ◌+◌, ◌-◌, Bool, true, false, List, [], ◌∷◌, ◌++◌, Option, Some, None, Result, Ok, Err, length, map, take, drop, slice_get}
-use Rattle.pv_words.specs.declared.device.NodeFault.{NodeFault}
+use Rattle.std.specs.Prelude.{◌≡◌, ℕ, ◌+◌, ◌-◌, Bool, true, false, List, [], ◌∷◌, ◌++◌, Option, Some, None, length, map, take, drop, slice_get}
 use Rattle.pv_words.specs.declared.device.NodeValue.{NodeValue}
 use Rattle.pv_words.specs.declared.device.Reason.{Reason}
 use Rattle.pv_words.specs.declared.device.Reason.TheVariants as reason
@@ -15,7 +14,7 @@ use Rattle.page_directory.specs.declared.walk.Walked.TheVariants as walked
 use Rattle.page_directory.specs.WalkLeft.{walk_left, held_by}
 use Rattle.ring_words.specs.declared.Looked.{Looked}
 use Rattle.ring_words.specs.declared.Looked.TheVariants as looked
-use Rattle.xenbus_states.specs.Nodes.{node_at, needed}
+use Rattle.xenbus_states.specs.Nodes.{number_at}
 use Rattle.link_core.specs.declared.link.Link.{Link}
 use Rattle.link_core.specs.Activities.{Joined, look_plan, unmaps}
 use Rattle.device_core.specs.Order.{Stand, Between, During}
@@ -27,7 +26,7 @@ use Rattle.display_backend.specs.declared.display.Ending.{Ending}
 use Rattle.display_backend.specs.declared.display.Ending.TheVariants as ending
 use Rattle.display_backend.specs.Activity.{is_open, is_connecting}
 use Rattle.device_core.specs.Site.{Site}
-use Rattle.display_backend.specs.Machine.{Hand, Refs}
+use Rattle.display_backend.specs.Machine.{Hand, refs_from}
 use Rattle.display_backend.specs.Work.{Work, End, Took, Listed, Freed, Answered, Slept, Denied, Shut, sleeps_on, sleep_all, after_part, connect_parts}
 
 -- its number
@@ -111,22 +110,6 @@ work_of d =
       stock = stock_in d.activity (stock_of d.store);
       waiting = d.waiting;
     }
-
--- the references of a part, once its nodes are known to be there
-abbrev pub number_in : Result ℕ NodeFault → ℕ
-number_in (Ok n) = n
-number_in (Err fault) = 0
-
-abbrev pub number_at : List NodeValue → ℕ → ℕ → ℕ
-number_at nodes part key = number_in (needed (node_at nodes part key))
-
-abbrev pub refs_at : List NodeValue → ℕ → Refs
-refs_at nodes part = record { ring = number_at nodes part 0; event = number_at nodes part 2 }
-
--- those of n parts from this one on
-abbrev pub refs_from : List NodeValue → ℕ → ℕ → List Refs
-refs_from nodes part zero = []
-refs_from nodes part (suc n) = refs_at nodes part ∷ refs_from nodes (part + 1) n
 
 -- what is left of a Connect that came to this part
 abbrev pub met_links : ℕ → List Link → List Joined

@@ -1,5 +1,5 @@
 -- What a step of an activity, and one that begins it, leads to.
-use Rattle.std.specs.Prelude.{◌≡◌, ◌⊎◌, true, false, Option, Some, None, Result, Ok, Err}
+use Rattle.std.specs.Prelude.{◌≡◌, ◌⊎◌, true, false, Option, Some, None}
 use Rattle.pv_words.specs.declared.access.Access.{Access}
 use Rattle.pv_words.specs.declared.device.Said.{Said}
 use Rattle.pv_words.specs.declared.device.Said.TheVariants as said
@@ -9,7 +9,7 @@ use Rattle.pv_words.specs.Memory.{place_of}
 use Rattle.pv_words.specs.Plan.{Plan, Finished}
 use Rattle.device_core.specs.Order.{Order, Act, Either, Rest, Stand, Between, GoesOn, is_in_page}
 use Rattle.device_core.specs.Site.{Site}
-use Rattle.display_backend.specs.Machine.{Problem}
+use Rattle.xenbus_states.specs.Needs.{Problem}
 use Rattle.display_backend.specs.Work.{Work, End, Denied, Shut, display, shut, said_at, settled}
 
 -- an activity that closes the connection, for this reason
@@ -58,6 +58,6 @@ Begins site (Either v p u q) access event new = ComesAs site v p u q access even
 Begins site (Rest w) access event new = (access ≡ None) × (event ≡ None) × (new ≡ Between w)
 
 -- why nodes are refused
-abbrev pub fault_in : {A : Type 0} → Result A Problem → Option Reason
-fault_in (Ok x) = None
-fault_in (Err problem) = Some (reason.Node problem.part problem.key problem.fault)
+abbrev pub fault_in : Option Problem → Option Reason
+fault_in None = None
+fault_in (Some problem) = Some (reason.Node problem.part problem.key problem.fault)

@@ -2,7 +2,6 @@
 -- operations of displif.h, the states of xenbus.h). It knows no ring, page or access.
 use Rattle.std.specs.Prelude.{◌≡◌, ◌⊎◌, ℕ, zero, suc, ◌<◌, ◌+◌, ◌==◌, ◌||◌, ◌&&◌, ℤ, pos, negsuc, Bool, true, false, List, [], ◌∷◌, Option, Some, None, is_some, Result, Ok, Err, if◌then◌else◌}
 use Rattle.pv_words.specs.declared.device.HostRefusal.{HostRefusal}
-use Rattle.pv_words.specs.declared.device.NodeFault.{NodeFault}
 use Rattle.pv_words.specs.declared.device.NodeValue.{NodeValue}
 use Rattle.pv_words.specs.declared.device.Said.{Said}
 use Rattle.pv_words.specs.declared.device.Said.TheVariants as said
@@ -32,9 +31,9 @@ use Rattle.device_core.specs.Order.{News, Sets, Hosts}
 use Rattle.device_core.specs.Site.{Site}
 use Rattle.page_directory.specs.Laws as walk
 use Rattle.ring_words.specs.Ring.{since}
-use Rattle.xenbus_states.specs.declared.back.Action.TheVariants as action
-use Rattle.xenbus_states.specs.Connection.{Connection, first_connection, heard, action_of, begun, moved_to}
-use Rattle.xenbus_states.specs.Nodes.{node_at, needed, no_nodes}
+use Rattle.xenbus_states.specs.Bus.{Bus, IsCause, MayClose, MayConnect, MayEnter, bus_begun, bus_closed, bus_entered, bus_heard, first_bus}
+use Rattle.xenbus_states.specs.Needs.{Need, needs_from, ring_keys}
+use Rattle.xenbus_states.specs.Nodes.{node_at, needed, number_at}
 
 -- the status of a CREATE, as its checks come out
 abbrev pub checked : Result (Unit {0}) Refused → ℤ
@@ -65,66 +64,33 @@ abbrev pub is_creation : Asked → Bool
 is_creation (asked.Create c) = true
 is_creation asks = false
 
--- a node that is missing, or holds no number: its part, its key, and what is wrong with it
-pub record Problem : Type 0 where
-  pub part : ℕ
-  pub key : ℕ
-  pub fault : NodeFault
+-- the nodes that a display needs: four keys of each of its connectors
+abbrev pub needs_of : Site → List Need
+needs_of site = needs_from ring_keys 0 site.parts
 
 -- the references of a part's ring page and event page
 pub record Refs : Type 0 where
   pub ring : ℕ
   pub event : ℕ
 
--- The nodes of a part, in this order: the ring's reference (key 0), the requests' event channel (1), the event page's
--- reference (2), the events' event channel (3). The channels must be there, and aren't used further.
-abbrev pub with_channels : ℕ → ℕ → ℕ → Result ℕ NodeFault → Result Refs Problem
-with_channels part ring event (Err fault) = Err (record { part = part; key = 3; fault = fault })
-with_channels part ring event (Ok channel) = Ok (record { ring = ring; event = event })
+-- They stand in the nodes of keys 0 and 2. The channels must be there, and aren't used further.
+abbrev pub refs_at : List NodeValue → ℕ → Refs
+refs_at nodes part = record { ring = number_at nodes part 0; event = number_at nodes part 2 }
 
-abbrev pub with_event_ref : List NodeValue → ℕ → ℕ → Result ℕ NodeFault → Result Refs Problem
-with_event_ref nodes part ring (Err fault) = Err (record { part = part; key = 2; fault = fault })
-with_event_ref nodes part ring (Ok event) = with_channels part ring event (needed (node_at nodes part 3))
-
-abbrev pub with_channel : List NodeValue → ℕ → ℕ → Result ℕ NodeFault → Result Refs Problem
-with_channel nodes part ring (Err fault) = Err (record { part = part; key = 1; fault = fault })
-with_channel nodes part ring (Ok channel) = with_event_ref nodes part ring (needed (node_at nodes part 2))
-
-abbrev pub with_ring_ref : List NodeValue → ℕ → Result ℕ NodeFault → Result Refs Problem
-with_ring_ref nodes part (Err fault) = Err (record { part = part; key = 0; fault = fault })
-with_ring_ref nodes part (Ok ring) = with_channel nodes part ring (needed (node_at nodes part 1))
-
-abbrev pub part_refs : List NodeValue → ℕ → Result Refs Problem
-part_refs nodes part = with_ring_ref nodes part (needed (node_at nodes part 0))
-
-abbrev pub added : Refs → Result (List Refs) Problem → Result (List Refs) Problem
-added r (Err problem) = Err problem
-added r (Ok rs) = Ok (r ∷ rs)
-
-abbrev pub all_with : Result Refs Problem → Result (List Refs) Problem → Result (List Refs) Problem
-all_with (Err problem) rest = Err problem
-all_with (Ok r) rest = added r rest
-
--- the references of n parts from this one on, or the first problem, part by part
-abbrev pub all_refs : List NodeValue → ℕ → ℕ → Result (List Refs) Problem
-all_refs nodes part zero = Ok []
-all_refs nodes part (suc n) = all_with (part_refs nodes part) (all_refs nodes (part + 1) n)
+-- those of n parts from this one on
+abbrev pub refs_from : List NodeValue → ℕ → ℕ → List Refs
+refs_from nodes part zero = []
+refs_from nodes part (suc n) = refs_at nodes part ∷ refs_from nodes (part + 1) n
 
 -- a request, and the part whose ring it came by
 pub record Hand : Type 0 where
   pub part : ℕ
   pub request : Request
 
--- The machine's state: the connection, the nodes as they stood when the frontend last set its state, those that the last
--- Connect read, whether a Connect is under way, whether the connection is closed and the state is due, the request in
--- hand, and whether a page was denied to it; the live buffers in order of creation, each with the number of its name; how
--- many requests were answered; and the host's events that wait.
+-- The machine's state: its connection with the nodes; the request in hand, and whether a page was denied to it; the live buffers
+-- in order of creation, each with the number of its name; how many requests were answered; and the host's events that wait.
 pub record Rows : Type 0 where
-  pub connection : Connection
-  pub seen : List NodeValue
-  pub read : List NodeValue
-  pub connecting : Bool
-  pub closing : Bool
+  pub bus : Bus
   pub hand : Option Hand
   pub denied : Bool
   pub buffers : List (Live ℕ)
@@ -144,17 +110,17 @@ abbrev pub IsAskedFor : Site → List NodeValue → ℕ → Type 0
 IsAskedFor site nodes gref =
     (part : ℕ) × (key : ℕ) × (part < site.parts) × (((key == 0) || (key == 2)) ≡ true) × (needed (node_at nodes part key) ≡ Ok gref)
 
--- A closed connection tells why: the frontend set this ending state; or the request index that was found last is more than a
--- ring apart from the device's own; or, at the end of a Connect, the map of a node's reference was refused, as the words show
--- that were found last, or a needed node is missing or bad.
-abbrev pub IsReason : Site → Rows → Found → Reason → Type 0
-IsReason site old f (reason.Asked s) = (old.connection.back ≡ state.Connected) × (old.connection.ending ≡ Some s)
-IsReason site old f (reason.Overrun prod rsp) = (old.connection.back ≡ state.Connected) × (f.word ≡ Some prod) × (32 < since rsp prod)
-IsReason site old f (reason.Refused why) =
-    (old.connecting ≡ true) × ((gref : ℕ) × IsAskedFor site old.read gref × IsShown site.frames site.grants gref Write f why)
-IsReason site old f (reason.Node part key fault) =
-    (old.connecting ≡ true) × (all_refs old.read 0 site.parts ≡ Err (record { part = part; key = key; fault = fault }))
-IsReason site old f other = ⊥
+-- A display's own causes to close a connection: the request index that was found last is more than a ring apart from the
+-- device's own; or, in a Connect, the map of a node's reference was refused, as the words show that were found last.
+abbrev pub IsOwnCause : Site → Bus → Found → Reason → Type 0
+IsOwnCause site bus f (reason.Overrun prod rsp) = (bus.connection.back ≡ state.Connected) × (f.word ≡ Some prod) × (32 < since rsp prod)
+IsOwnCause site bus f (reason.Refused why) =
+    (bus.connecting ≡ true) × ((gref : ℕ) × IsAskedFor site bus.read gref × IsShown site.frames site.grants gref Write f why)
+IsOwnCause site bus f other = ⊥
+
+-- A closed connection tells why.
+abbrev pub IsReason : Site → Bus → Found → Reason → Type 0
+IsReason site bus f why = IsCause (needs_of site) (IsOwnCause site bus f) bus why
 
 -- What a display says is as the words show that it found last: why a page is denied to a CREATE, from which first directory page
 -- on; why a map of a Connect is refused, by which reference; and which request index is too far.
@@ -167,28 +133,22 @@ ShowsWhy site f other = Unit {0}
 -- a closed connection has no request in hand
 abbrev pub Closes : Site → Rows → Found → Reason → Rows → Type 0
 Closes site old f reason new =
-    IsReason site old f reason × (old.closing ≡ false)
-    × (new ≡ record old { connecting = false; closing = true; hand = None; denied = false })
+    MayClose (needs_of site) (IsOwnCause site old.bus f) old.bus reason
+    × (new ≡ record old { bus = bus_closed old.bus; hand = None; denied = false })
 
 -- a state in which the backend has no buffer yet, or no longer, and no event waits
 abbrev pub with_state : Rows → State → Rows
 with_state old s =
-    record old { connection = moved_to old.connection s; connecting = false; closing = false; hand = None; denied = false; buffers = []; waiting = [] }
+    record old { bus = bus_entered old.bus s; hand = None; denied = false; buffers = []; waiting = [] }
 
--- A backend is Connected at the end of a Connect that found all nodes, Closed once the connection is closed, and waits
--- again where the frontend of a closed one started anew.
+-- a backend takes a state
 abbrev pub Enters : Site → Rows → State → Rows → Type 0
-Enters site old state.Connected new =
-    (old.connecting ≡ true) × ((refs : List Refs) × (all_refs old.read 0 site.parts ≡ Ok refs)) × (new ≡ with_state old state.Connected)
-Enters site old state.Closed new = (old.closing ≡ true) × (new ≡ with_state old state.Closed)
-Enters site old state.InitWait new =
-    (old.closing ≡ false) × (action_of old.connection ≡ action.Renew) × (new ≡ with_state old state.InitWait)
-Enters site old other new = ⊥
+Enters site old s new = MayEnter (needs_of site) old.bus s × (new ≡ with_state old s)
 
 -- a request comes in hand where none is, and it is what the taken words ask for
 pub record Requests (site : Site) (old : Rows) (part id op : ℕ) (request : Request) (new : Rows) : Type 0 where
-  pub connected : old.connection.back ≡ state.Connected
-  pub not_closing : old.closing ≡ false
+  pub connected : old.bus.connection.back ≡ state.Connected
+  pub not_closing : old.bus.closing ≡ false
   pub part_is : part < site.parts
   pub id_is : id ≡ request.id
   pub op_is : op ≡ request.op
@@ -200,8 +160,8 @@ pub record Requests (site : Site) (old : Rows) (part id op : ℕ) (request : Req
 pub record Denies (site : Site) (old : Rows) (f : Found) (why : GrantRefusal) (new : Rows) : Type 0 where
   pub hand : Hand
   pub create : Create
-  pub connected : old.connection.back ≡ state.Connected
-  pub not_closing : old.closing ≡ false
+  pub connected : old.bus.connection.back ≡ state.Connected
+  pub not_closing : old.bus.closing ≡ false
   pub in_hand : old.hand ≡ Some hand
   pub asks : hand.request.asked ≡ asked.Create create
   pub accepted : verdict old.buffers hand.request.asked ≡ pos 0
@@ -226,8 +186,8 @@ replied_to bs number asked accepted = bs
 -- the request in hand is answered
 pub record Replies (old : Rows) (part id : ℕ) (status : ℤ) (new : Rows) : Type 0 where
   pub request : Request
-  pub connected : old.connection.back ≡ state.Connected
-  pub not_closing : old.closing ≡ false
+  pub connected : old.bus.connection.back ≡ state.Connected
+  pub not_closing : old.bus.closing ≡ false
   pub in_hand : old.hand ≡ Some (record { part = part; request = request })
   pub id_is : id ≡ request.id
   pub status_is : IsStatus old.denied old.buffers request.asked status
@@ -235,8 +195,8 @@ pub record Replies (old : Rows) (part id : ℕ) (status : ℤ) (new : Rows) : Ty
 
 -- the oldest event that waits is this one, and it is done
 pub record Serves (old : Rows) (event : Waiting) (new : Rows) : Type 0 where
-  pub connected : old.connection.back ≡ state.Connected
-  pub not_closing : old.closing ≡ false
+  pub connected : old.bus.connection.back ≡ state.Connected
+  pub not_closing : old.bus.closing ≡ false
   pub later : List Waiting
   pub oldest : old.waiting ≡ event ∷ later
   pub done : new ≡ record old { waiting = later }
@@ -255,12 +215,10 @@ Tells site old other taken f new = ⊥
 
 abbrev pub Moves : Site → Rows → Event → Rows → Type 0
 Moves site old (Says s taken f) new = Tells site old s taken f new
-Moves site old (Hears (Sets front nodes)) new = new ≡ record old { connection = heard old.connection front; seen = nodes }
+Moves site old (Hears (Sets front nodes)) new = new ≡ record old { bus = bus_heard old.bus front nodes }
 Moves site old (Hears (Hosts e)) new =
-    new ≡ record old { waiting = unless (refusal_of old.connection.back old.waiting) old.waiting (waiting_of e) }
-Moves site old Begins new =
-    (old.closing ≡ false) × (action_of old.connection ≡ action.Connect)
-    × (new ≡ record old { connection = begun old.connection; read = old.seen; connecting = true })
+    new ≡ record old { waiting = unless (refusal_of old.bus.connection.back old.waiting) old.waiting (waiting_of e) }
+Moves site old Begins new = MayConnect old.bus × (new ≡ record old { bus = bus_begun old.bus })
 
 -- the name that something makes: an accepted CREATE makes one at its reply, whose number is the reply's
 abbrev pub made_at : Option Hand → ℤ → ℕ → Option ℕ
@@ -273,10 +231,10 @@ makes old other = None
 
 -- an event of the host leaves its refusal owed where it is refused
 abbrev pub owes : Rows → Event → Option HostRefusal
-owes old (Hears (Hosts e)) = refusal_of old.connection.back old.waiting
+owes old (Hears (Hosts e)) = refusal_of old.bus.connection.back old.waiting
 owes old other = None
 
 -- the machine at the beginning: nothing is set, it waits for its frontend, has no buffer, and no event waits
 abbrev pub first_rows : Rows
 first_rows =
-    record { connection = first_connection; seen = no_nodes; read = no_nodes; connecting = false; closing = false; hand = None; denied = false; buffers = []; replies = 0; waiting = [] }
+    record { bus = first_bus; hand = None; denied = false; buffers = []; replies = 0; waiting = [] }

@@ -1,5 +1,5 @@
 -- The display's order of work.
-use Rattle.std.specs.Prelude.{ℕ, zero, suc, ◌+◌, ◌-◌, ◌&&◌, nat_lt, ℤ, Bool, true, false, List, [], ◌∷◌, ◌++◌, map, Option, Some, None, Result, Ok, Err, slice_get, slice_set, if◌then◌else◌}
+use Rattle.std.specs.Prelude.{ℕ, zero, suc, ◌+◌, ◌-◌, ◌&&◌, nat_lt, ℤ, Bool, true, false, List, [], ◌∷◌, ◌++◌, map, Option, Some, None, slice_get, slice_set, if◌then◌else◌}
 use Rattle.pv_words.specs.declared.device.HostRefusal.{HostRefusal}
 use Rattle.pv_words.specs.declared.device.NodeValue.{NodeValue}
 use Rattle.pv_words.specs.declared.device.Said.{Said}
@@ -32,6 +32,8 @@ use Rattle.ring_words.specs.Ring.{next_index}
 use Rattle.xenbus_states.specs.declared.back.Action.{Action}
 use Rattle.xenbus_states.specs.declared.back.Action.TheVariants as action
 use Rattle.xenbus_states.specs.Connection.{Connection, first_connection, heard, action_of, begun, moved_to}
+use Rattle.xenbus_states.specs.Bus.{Bus}
+use Rattle.xenbus_states.specs.Needs.{Problem, first_fault}
 use Rattle.xenbus_states.specs.Nodes.{no_nodes}
 use Rattle.link_core.specs.Activities.{Page, Joined, Connected, Joins, Refuses, page_at, look_plan, take_plan, answer_plan, sleep_plan, connect_plan, unmaps}
 use Rattle.link_core.specs.Activities as link
@@ -47,7 +49,7 @@ use Rattle.display_backend.specs.declared.waiting.Waiting.TheVariants as waiting
 use Rattle.display_backend.specs.Waiting.{waiting_of}
 use Rattle.host_events.specs.Queue.{behind, refusal_of, unless}
 use Rattle.device_core.specs.Site.{Site}
-use Rattle.display_backend.specs.Machine.{Rows, Hand, Refs, Problem, Event, Says, Hears, Begins, Moves, all_refs, verdict, is_accepted, is_creation, makes, owes}
+use Rattle.display_backend.specs.Machine.{Rows, Hand, Refs, Event, Says, Hears, Begins, Moves, needs_of, refs_from, verdict, is_accepted, is_creation, makes, owes}
 use Rattle.display_backend.specs.Reply.{reply_to, replied, status_in}
 
 -- what the display knows between two activities, and what of it stays known in one
@@ -129,9 +131,9 @@ connect_parts site [] met = Finished (Met met)
 connect_parts site (r ∷ rs) met = joined (connect_plan site.frames site.grants site.dom (Some r.ring) r.event) (after_part met (connect_parts site rs))
 
 -- the nodes are read once, at the beginning; a faulty one ends the Connect before any access
-abbrev pub connect_all : Site → Result (List Refs) Problem → Plan End
-connect_all site (Err problem) = Finished (Lacked problem)
-connect_all site (Ok refs) = connect_parts site refs []
+abbrev pub connect_all : Site → Option Problem → List Refs → Plan End
+connect_all site (Some problem) refs = Finished (Lacked problem)
+connect_all site None refs = connect_parts site refs []
 
 -- a Connect begins
 abbrev pub beginning : Work → Work
@@ -226,7 +228,7 @@ with_state site w state.Connected = with_hand site w w.hand
 with_state site w other = Rest w
 
 abbrev pub with_action : Site → Work → Action → Order Work End
-with_action site w action.Connect = Act (beginning w) (connect_all site (all_refs w.seen 0 site.parts))
+with_action site w action.Connect = Act (beginning w) (connect_all site (first_fault w.seen (needs_of site)) (refs_from w.seen 0 site.parts))
 with_action site w (action.Close s) = close w (reason.Asked s)
 with_action site w action.Renew = Act w (Finished Renewed)
 with_action site w action.Stay = with_state site w w.connection.back
@@ -439,9 +441,12 @@ is_denied progress.Mapped = false
 is_denied progress.Released = false
 
 -- what of the work is the machine's
+abbrev pub bus_of : Work → Bus
+bus_of w = record { connection = w.connection; seen = w.seen; read = w.read; connecting = w.connecting; closing = w.closing }
+
 abbrev pub rows_of : Work → Naming → Rows
 rows_of w m =
-    record { connection = w.connection; seen = w.seen; read = w.read; connecting = w.connecting; closing = w.closing; hand = w.hand; denied = is_denied w.progress; buffers = numbered w.stock.buffers m.ids; replies = m.replies; waiting = w.waiting }
+    record { bus = bus_of w; hand = w.hand; denied = is_denied w.progress; buffers = numbered w.stock.buffers m.ids; replies = m.replies; waiting = w.waiting }
 
 abbrev pub names_of : Work → Naming → List Name
 names_of w m = live_names w.stock.buffers m.ids

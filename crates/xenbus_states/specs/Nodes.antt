@@ -30,6 +30,14 @@ needed value.Absent = Err fault.Missing
 needed value.Bad = Err fault.Bad
 needed (value.Number n) = Ok n
 
+-- the number in a node, 0 where it holds none
+abbrev pub number_in : Result ℕ NodeFault → ℕ
+number_in (Ok n) = n
+number_in (Err fault) = 0
+
+abbrev pub number_at : List NodeValue → ℕ → ℕ → ℕ
+number_at nodes part key = number_in (needed (node_at nodes part key))
+
 -- a node has the value that was set last, and setting it leaves all others
 abbrev pub NodesStandApart : Type 0
 NodesStandApart =

@@ -8,7 +8,10 @@ pub mod nodes;
 pub mod state;
 
 pub use back::{Action, Back};
-pub use laws::{nodes_stand_apart, remembers_what_it_heard, states_read_back};
+pub use laws::{
+    finds_the_first_fault, nodes_stand_apart, remembers_what_it_heard, rows_follow_the_actions,
+    states_read_back,
+};
 pub use nodes::{KEYS, Nodes, PARTS};
 pub use state::{number_of, state_from_number};
 

@@ -40,6 +40,7 @@ fn nodes_that_a_device_needs(rt: HostRuntime) {
         assert_eq!(rt; nodes.need(part, key), want, "key {key} of part {part}");
     }
     nodes_stand_apart();
+    finds_the_first_fault();
 }
 
 #[test]
@@ -66,4 +67,5 @@ fn a_connection_and_the_next(rt: HostRuntime) {
     assert_eq!(rt; back.action(), Action::Stay);
     assert_eq!(rt; back.back(), State::InitWait);
     remembers_what_it_heard();
+    rows_follow_the_actions();
 }

@@ -3,7 +3,7 @@
 ghost use Rattle.std.specs.Prelude.{◌≡◌, ◌<◌, ◌≤◌, ◌+◌, [], None, true, false, length, slice_get, Some, List};
 ghost use Rattle.display_backend.specs.Activity.{is_open, is_connected};
 ghost use Rattle.display_backend.specs.Goes.{fault_in};
-ghost use Rattle.display_backend.specs.Machine.{part_refs, all_refs};
+ghost use Rattle.xenbus_states.specs.Needs.{first_fault, needs_at, needs_from, ring_keys};
 
 use super::{Activity, Display, Ending, Progress, Round};
 use device_core::Step;
@@ -13,7 +13,7 @@ use xenbus_states::Nodes;
 // What is wrong with a node of this part, the first of them.
 fn fault_of(nodes: &Nodes, part: u8) -> Option<Reason>
     requires { part < 4 }
-    ensures { result ≡ fault_in (part_refs nodes.now part) }
+    ensures { result ≡ fault_in (first_fault nodes.now (needs_at ring_keys part)) }
 {
     if let Err(fault) = nodes.need(part, 0) {
         return Some(Reason::Node(part, 0, fault));
@@ -33,7 +33,7 @@ fn fault_of(nodes: &Nodes, part: u8) -> Option<Reason>
 // What is wrong with a node of the parts before this one, the first of them.
 fn fault_among(nodes: &Nodes, parts: u8) -> Option<Reason>
     requires { parts ≤ 4 }
-    ensures { result ≡ fault_in (all_refs nodes.now 0 parts) }
+    ensures { result ≡ fault_in (first_fault nodes.now (needs_from ring_keys 0 parts)) }
 {
     for part in 0..parts {
         if let Some(why) = fault_of(nodes, part) {
@@ -54,11 +54,12 @@ impl Display {
     ghost use Rattle.link_core.specs.Stays.{AccessIn};
     ghost use Rattle.device_core.specs.Order.{Between, MayChoose, Went};
     ghost use Rattle.display_backend.specs.declared.display.Activity.TheVariants as activity;
-    ghost use Rattle.display_backend.specs.Display.{dom_of, parts_of, Same, held_of, given_up, site_of, work_of, stand_of, number_at, connecting, leaving_plan, reason_of, later, met_links};
+    ghost use Rattle.display_backend.specs.Display.{dom_of, parts_of, Same, held_of, given_up, site_of, work_of, stand_of, connecting, leaving_plan, reason_of, later, met_links};
     ghost use Rattle.display_backend.specs.Goes.{GoesOut, Begins};
     ghost use Rattle.device_core.specs.Site.{Site};
     ghost use Rattle.display_backend.specs.Work.{display, shut, close, with_action, entered};
     ghost use Rattle.xenbus_states.specs.Connection.{action_of};
+    ghost use Rattle.xenbus_states.specs.Nodes.{number_at};
     ghost use Rattle.xenbus_states.specs.declared.back.Action.TheVariants as action;
 
     // The number in a node of this part, once it is known to be there.

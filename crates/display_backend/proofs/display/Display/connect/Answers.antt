@@ -1,6 +1,7 @@
 use Rattle.std.proofs.Common.{◌≡◌, ◌+◌, ◌<◌, ◌++◌, true, ◌∷◌, [], length, slice_set, Option, Some, None, not, Ok, Err, refl, sym, ap, subst, ◌∙◌}
 use Rattle.std.proofs.lemmas.List.{length-set}
 use Rattle.pv_words.specs.Plan.{MayGo, joined}
+use Rattle.xenbus_states.specs.Nodes.{number_at}
 use Rattle.link_core.specs.declared.link.Link.{Link}
 use Rattle.link_core.specs.Activities.{Joins, Refuses}
 use Rattle.link_core.specs.Link.{dom_of as link_dom, held_of as link_held, joined_of, idle, connect_left, ending_of, Leads, Came}
@@ -11,7 +12,7 @@ use Rattle.display_backend.specs.Store.{stock_of}
 use Rattle.display_backend.specs.declared.display.Activity.{Activity}
 use Rattle.display_backend.specs.declared.display.Ending.TheVariants as ending
 use Rattle.display_backend.specs.Activity.{is_open, is_connecting, is_walking, part_of}
-use Rattle.display_backend.specs.Display.{dom_of, parts_of, held_of, given_up, stock_in, site_of, stand_of, stand_at, work_of, all_held, met_links, later, connecting, connect_from, number_at, leaving_plan, parts_in}
+use Rattle.display_backend.specs.Display.{dom_of, parts_of, held_of, given_up, stock_in, site_of, stand_of, stand_at, work_of, all_held, met_links, later, connecting, connect_from, leaving_plan, parts_in}
 use Rattle.display_backend.specs.Goes.{GoesOut}
 use Rattle.display_backend.specs.Work.{Work, End, display, after_part}
 use Rattle.display_backend.proofs.Leaving.{whole_mapping, whole_refused, held_refused, connecting_fits, leads_as, may_as, connect_on, went_as, connect_met, connect_stand, met_more, refused_at_once, refused_by_access, none_of, parts_leaving}

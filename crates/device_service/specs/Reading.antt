@@ -16,7 +16,7 @@ use Rattle.link_core.specs.Activities.{Joined}
 use Rattle.device_service.specs.Raise.{limit}
 use Rattle.device_service.specs.Rows.{Table, Rows, Hand, Event, Says, Hears, Begins, Moves, makes, owes}
 use Rattle.device_service.specs.Service.{Service, Owed, Deed, Runs, Raises}
-use Rattle.device_service.specs.Work.{Work, End, Took, Answered, Met, Left, Renewed}
+use Rattle.device_service.specs.Work.{Work, End, Took, Answered, Met, Left, Renewed, part_of}
 
 -- the numbers of the names of a service, and how many requests were answered
 pub record Naming (M : Type 0) : Type 0 where
@@ -108,8 +108,12 @@ module _ {X A V Y M : Type 0} (s : Service X A V) (t : Table Y V) (r : Shows X Y
   begins_waiting w n [] = []
   begins_waiting w n (e ∷ es) = begins_serve w n e (slice_get w.parts (s.at e))
 
+  abbrev pub begins_part : Work X V → Naming M → Option Joined → List (Happening Event)
+  begins_part w n None = []
+  begins_part w n (Some j) = begins_ready w n (s.ready w.service)
+
   abbrev pub begins_hand : Work X V → Naming M → Option Hand → List (Happening Event)
-  begins_hand w n (Some h) = begins_ready w n (s.ready w.service)
+  begins_hand w n (Some h) = begins_part w n (part_of s w h)
   begins_hand w n None = begins_waiting w n w.waiting
 
   abbrev pub begins_state : Work X V → Naming M → State → List (Happening Event)

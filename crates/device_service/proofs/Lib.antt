@@ -1,0 +1,14 @@
+pub mod Fitting
+pub mod Sound
+mod SoundActions
+pub mod SoundBegins
+mod SoundConnect
+mod SoundFound
+pub mod SoundParts
+pub mod SoundPlans
+pub mod SoundRefs
+pub mod SoundSame
+mod SoundServes
+mod SoundSettles
+mod SoundTells
+pub mod SoundWork

@@ -1,0 +1,7 @@
+pub mod Laws
+pub mod Nodes
+pub mod Raise
+pub mod Reading
+pub mod Rows
+pub mod Service
+pub mod Work

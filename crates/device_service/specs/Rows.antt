@@ -1,0 +1,195 @@
+-- A device as a machine of rows: its connection (the states of xenbus.h), its requests and replies, the events of its host, and the
+-- rows of its service, of type Y. It knows no ring, page or access.
+use Rattle.std.specs.Prelude.{◌≡◌, ◌⊎◌, ℕ, suc, ◌%◌, ◌/◌, ◌<◌, ◌≤◌, ℤ, Bool, true, false, List, [], ◌∷◌, Option, Some, None, slice_index, Ok, Err}
+use Rattle.pv_words.specs.declared.device.NodeValue.{NodeValue}
+use Rattle.pv_words.specs.declared.device.Said.{Said}
+use Rattle.pv_words.specs.declared.device.Said.TheVariants as said
+use Rattle.pv_words.specs.declared.device.HostEvent.{HostEvent}
+use Rattle.pv_words.specs.declared.device.HostRefusal.{HostRefusal}
+use Rattle.pv_words.specs.declared.device.Reason.{Reason}
+use Rattle.pv_words.specs.declared.device.Reason.TheVariants as reason
+use Rattle.pv_words.specs.declared.device.State.{State}
+use Rattle.pv_words.specs.declared.device.State.TheVariants as state
+use Rattle.pv_words.specs.declared.grant.Mode.TheVariants.{Write}
+use Rattle.pv_words.specs.Found.{Found}
+use Rattle.grant_table.specs.Laws.{IsShown}
+use Rattle.ring_words.specs.Ring.{since}
+use Rattle.xenbus_states.specs.declared.back.Action.TheVariants as action
+use Rattle.xenbus_states.specs.Connection.{Connection, heard, action_of, begun, moved_to}
+use Rattle.host_events.specs.Queue.{unless}
+use Rattle.device_core.specs.Order.{News, Sets, Hosts}
+use Rattle.device_core.specs.Site.{Site}
+use Rattle.device_core.specs.Touched.{Touch}
+use Rattle.device_service.specs.Nodes.{Kind, Refs, IsAskedFor, all_refs}
+use Rattle.device_service.specs.Raise.{limit, slots}
+
+-- a request in hand: the part whose ring it came by, and what stands in its first word
+pub record Hand : Type 0 where
+  pub part : ℕ
+  pub id : ℕ
+  pub op : ℕ
+
+-- the request of these words, by this part
+abbrev pub hand_in : ℕ → List ℕ → Hand
+hand_in part words = record { part = part; id = slice_index words 0 % 65536; op = slice_index words 0 / 65536 % 256 }
+
+-- What a device's accesses told when it says something: the words of names that they took and put since it last said something,
+-- and the words that they found last.
+pub record Evidence : Type 0 where
+  pub touched : List Touch
+  pub found : Found
+
+-- The rows of a service, and how they move. A name's number is that of the reply that makes it.
+pub record Table (Y V : Type 0) : Type 1 where
+  pub kind : Kind
+  pub begun : List NodeValue → Y
+  -- a request of these words comes in hand; it is dropped
+  pub taken : Y → List ℕ → Y
+  pub dropped : Y → Y
+  -- what is said of the request in hand before its answer, of an event that waited, and of one that was owed
+  pub Tells : Site → Y → Evidence → Said → Y → Type 0
+  pub Serves : Site → Y → V → Evidence → Said → Y → Type 0
+  pub Pays : Site → Y → Evidence → Said → Y → Type 0
+  -- a status that answers the request in hand, what the reply of this number makes of the rows, and whether it makes a name
+  pub IsStatus : Y → ℤ → Type 0
+  pub replied : Y → ℕ → ℤ → Y
+  pub makes : Y → ℤ → Bool
+  -- which events of the host wait, and why one is refused
+  pub waits : HostEvent → Option V
+  pub refusal : State → List V → HostEvent → Option HostRefusal
+
+-- The connection, the nodes as they stood when the frontend last set its state, those that the last Connect read, whether a Connect
+-- is under way, whether the connection is closed and the state is due, the request in hand, how many requests were answered, and
+-- the host's events that wait.
+pub record Rows (Y V : Type 0) : Type 0 where
+  pub connection : Connection
+  pub seen : List NodeValue
+  pub read : List NodeValue
+  pub connecting : Bool
+  pub closing : Bool
+  pub hand : Option Hand
+  pub replies : ℕ
+  pub waiting : List V
+  pub service : Y
+
+-- What happens to the machine: what the device says, with the words that it had taken, if they are a request's, and the words that
+-- its accesses found last; a state of the frontend, while the nodes stand so, or an event of the host; and a Connect that begins.
+pub data Event : Type 0 where
+  Says : Said → List ℕ → Found → Event
+  Hears : News → Event
+  Begins : Event
+
+-- A closed connection tells why: the frontend set this ending state; or the index that was found last is more than a ring, or an
+-- event page, apart from the device's own; or the device's own index of an event page is spent; or, at the end of a Connect, the
+-- map of a node's reference was refused, as the words show that were found last, or a needed node is missing or bad.
+abbrev pub IsReason : Kind → Site → Connection → Bool → List NodeValue → Found → Reason → Type 0
+IsReason kind site c connecting read f (reason.Asked s) = (c.back ≡ state.Connected) × (c.ending ≡ Some s)
+IsReason kind site c connecting read f (reason.Overrun prod rsp) = (c.back ≡ state.Connected) × (f.word ≡ Some prod) × (32 < since rsp prod)
+IsReason kind site c connecting read f (reason.BadCons prod cons) =
+    (c.back ≡ state.Connected) × (f.word ≡ Some cons) × (slots < since cons prod)
+IsReason kind site c connecting read f (reason.Spent prod) = (c.back ≡ state.Connected) × (limit ≤ prod)
+IsReason kind site c connecting read f (reason.Refused why) =
+    (connecting ≡ true) × ((gref : ℕ) × IsAskedFor kind site read gref × IsShown site.frames site.grants gref Write f why)
+IsReason kind site c connecting read f (reason.Node part key fault) =
+    (connecting ≡ true) × (all_refs kind read 0 site.parts ≡ Err (record { part = part; key = key; fault = fault }))
+
+abbrev pub made_if : Bool → ℕ → Option ℕ
+made_if true n = Some n
+made_if false n = None
+
+module _ {Y V : Type 0} (t : Table Y V) where
+  -- a closed connection has no request in hand
+  abbrev pub Closes : Site → Rows Y V → Found → Reason → Rows Y V → Type 0
+  Closes site old f why new =
+      IsReason t.kind site old.connection old.connecting old.read f why × (old.closing ≡ false)
+      × (new ≡ record old { connecting = false; closing = true; hand = None; service = t.dropped old.service })
+
+  -- a state in which the service has nothing yet, or no longer, and no event waits
+  abbrev pub with_state : Rows Y V → State → Rows Y V
+  with_state old b =
+      record old { connection = moved_to old.connection b; connecting = false; closing = false; hand = None; waiting = []; service = t.begun old.read }
+
+  -- A backend is Connected at the end of a Connect that found all nodes, Closed once the connection is closed, and waits again where
+  -- the frontend of a closed one started anew.
+  abbrev pub Enters : Site → Rows Y V → State → Rows Y V → Type 0
+  Enters site old state.Connected new =
+      (old.connecting ≡ true) × ((refs : List Refs) × (all_refs t.kind old.read 0 site.parts ≡ Ok refs)) × (new ≡ with_state old state.Connected)
+  Enters site old state.Closed new = (old.closing ≡ true) × (new ≡ with_state old state.Closed)
+  Enters site old state.InitWait new =
+      (old.closing ≡ false) × (action_of old.connection ≡ action.Renew) × (new ≡ with_state old state.InitWait)
+  Enters site old other new = ⊥
+
+  -- it is connected, and not closing
+  abbrev pub IsServing : Rows Y V → Type 0
+  IsServing old = (old.connection.back ≡ state.Connected) × (old.closing ≡ false)
+
+  -- a request comes in hand where none is, and it is what the taken words ask for
+  pub record Requests (site : Site) (old : Rows Y V) (part id op : ℕ) (words : List ℕ) (new : Rows Y V) : Type 0 where
+    pub serving : IsServing old
+    pub part_is : part < site.parts
+    pub id_is : id ≡ (hand_in part words).id
+    pub op_is : op ≡ (hand_in part words).op
+    pub none : old.hand ≡ None
+    pub taken : new ≡ record old { hand = Some (hand_in part words); service = t.taken old.service words }
+
+  -- the request in hand is answered
+  pub record Replies (old : Rows Y V) (part id : ℕ) (status : ℤ) (new : Rows Y V) : Type 0 where
+    pub serving : IsServing old
+    pub op : ℕ
+    pub in_hand : old.hand ≡ Some (record { part = part; id = id; op = op })
+    pub status_is : t.IsStatus old.service status
+    pub done : new ≡ record old { hand = None; replies = suc old.replies; service = t.replied old.service old.replies status }
+
+  -- what is said of the request in hand before its answer
+  pub record Own (site : Site) (old : Rows Y V) (told : Evidence) (what : Said) (new : Rows Y V) : Type 0 where
+    pub serving : IsServing old
+    pub hand : Hand
+    pub in_hand : old.hand ≡ Some hand
+    pub service : Y
+    pub tells : t.Tells site old.service told what service
+    pub done : new ≡ record old { service = service }
+
+  -- the oldest event that waits is done
+  pub record Served (site : Site) (old : Rows Y V) (told : Evidence) (what : Said) (new : Rows Y V) : Type 0 where
+    pub serving : IsServing old
+    pub none : old.hand ≡ None
+    pub event : V
+    pub later : List V
+    pub oldest : old.waiting ≡ event ∷ later
+    pub service : Y
+    pub serves : t.Serves site old.service event told what service
+    pub done : new ≡ record old { waiting = later; service = service }
+
+  -- an event that was owed is put, or finds no room
+  pub record Paid (site : Site) (old : Rows Y V) (told : Evidence) (what : Said) (new : Rows Y V) : Type 0 where
+    pub serving : IsServing old
+    pub none : old.hand ≡ None
+    pub service : Y
+    pub pays : t.Pays site old.service told what service
+    pub done : new ≡ record old { service = service }
+
+  abbrev pub Tells : Site → Rows Y V → Evidence → Said → List ℕ → Rows Y V → Type 0
+  Tells site old told (said.Request part id op) taken new = Requests site old part id op taken new
+  Tells site old told (said.Replied part id status notified) taken new = Replies old part id status new
+  Tells site old told (said.Closed why) taken new = Closes site old told.found why new
+  Tells site old told (said.State b) taken new = Enters site old b new
+  Tells site old told other taken new = Own site old told other new ⊎ (Served site old told other new ⊎ Paid site old told other new)
+
+  abbrev pub Moves : Site → Rows Y V → List Touch → Event → Rows Y V → Type 0
+  Moves site old touched (Says what taken f) new = Tells site old (record { touched = touched; found = f }) what taken new
+  Moves site old touched (Hears (Sets front nodes)) new = new ≡ record old { connection = heard old.connection front; seen = nodes }
+  Moves site old touched (Hears (Hosts e)) new =
+      new ≡ record old { waiting = unless (t.refusal old.connection.back old.waiting e) old.waiting (t.waits e) }
+  Moves site old touched Begins new =
+      (old.closing ≡ false) × (action_of old.connection ≡ action.Connect)
+      × (new ≡ record old { connection = begun old.connection; read = old.seen; connecting = true })
+
+  -- the number of the name that something makes: that of the reply
+  abbrev pub makes : Rows Y V → Event → Option ℕ
+  makes old (Says (said.Replied part id status notified) taken f) = made_if (t.makes old.service status) old.replies
+  makes old other = None
+
+  -- an event of the host leaves its refusal owed where it is refused
+  abbrev pub owes : Rows Y V → Event → Option HostRefusal
+  owes old (Hears (Hosts e)) = t.refusal old.connection.back old.waiting e
+  owes old other = None

@@ -1,0 +1,61 @@
+-- What a device's service is to its order of work: X is what the service knows, A how an activity of its own ends, and V an event
+-- of its host that waits.
+use Rattle.std.specs.Prelude.{ℕ, ℤ, Bool, List, Option}
+use Rattle.pv_words.specs.declared.device.HostEvent.{HostEvent}
+use Rattle.pv_words.specs.declared.device.HostRefusal.{HostRefusal}
+use Rattle.pv_words.specs.declared.device.NodeValue.{NodeValue}
+use Rattle.pv_words.specs.declared.device.Said.{Said}
+use Rattle.pv_words.specs.declared.device.State.{State}
+use Rattle.pv_words.specs.declared.grant.Hold.{Hold}
+use Rattle.pv_words.specs.Plan.{Plan}
+use Rattle.device_core.specs.Site.{Site}
+use Rattle.device_service.specs.Nodes.{Kind}
+
+-- What the request in hand leads to before its answer: an activity, and what the service knows from its beginning on; or, where
+-- memory may be wanting for it, first what it then knows, by which the request is answered.
+pub data Job (X A : Type 0) : Type 0 where
+  Works : X → Plan A → Job X A
+  Starves : X → X → Plan A → Job X A
+
+-- an event that is owed to a part: its words, once in_prod is known
+pub record Owed : Type 0 where
+  pub part : ℕ
+  pub words : ℕ → List ℕ
+
+-- What a waiting event leads to: an activity of the service, or an event of these words, once in_prod is known, in the page of its
+-- part.
+pub data Deed (A : Type 0) : Type 0 where
+  Runs : Plan A → Deed A
+  Raises : (ℕ → List ℕ) → Deed A
+
+pub record Service (X A V : Type 0) : Type 0 where
+  pub kind : Kind
+  -- where a Connect read these nodes: no page is held, and no request is in hand
+  pub begun : List NodeValue → X
+  -- the pages that are held for it, in the order in which a Close gives them up; what it knows once they are to go, and once the
+  -- request in hand is dropped
+  pub pages : X → List Hold
+  pub stripped : X → X
+  pub dropped : X → X
+  -- a request of these words comes in hand; it is to be answered next, or leads to something before
+  pub taken : X → List ℕ → X
+  pub ready : X → Bool
+  pub job : Site → X → Job X A
+  pub reply : X → List ℕ
+  pub status : X → ℤ
+  pub answered : X → X
+  -- a waiting event is one of this part, and leads to this
+  pub at : V → ℕ
+  pub event : X → V → Deed A
+  -- an event that is owed is raised before the order of work is asked again
+  pub owes : X → Option Owed
+  -- The event that a waiting one leads to, or the one that is owed: it is put, and this is said of it; or there is no room.
+  pub put : X → Option V → Said
+  pub after_put : X → Option V → X
+  pub after_full : X → Option V → X
+  -- what is said at the end of an activity of the service, and what it then knows
+  pub says : X → A → Option Said
+  pub after : X → A → X
+  -- which events of the host wait, and why one is refused
+  pub waits : HostEvent → Option V
+  pub refusal : State → List V → HostEvent → Option HostRefusal

@@ -1,0 +1,5 @@
+pub mod Known
+pub mod Panel
+pub mod Pressed
+pub mod Repair
+pub mod Sound

@@ -190,3 +190,18 @@ module _ (codes : List ℕ) (code at : ℕ) (rising : IsRising codes) (is_at : a
       turned : (b : Bool) (o : Option (Unit {0})) → cond (not b) o None ≡ cond b None o
       turned true o = refl
       turned false o = refl
+
+-- the first of codes that rise isn't among the rest, and the rest rises
+pub rising_apart : (x : ℕ) (xs : List ℕ) → IsRising (x ∷ xs) → list_any (eq_by_cmp nat_cmp x) xs ≡ false
+rising_apart x xs rising = none_tied x x xs (and_first _ _ rising) (omega arith)
+
+pub rising_rest : (x : ℕ) (xs : List ℕ) → IsRising (x ∷ xs) → IsRising xs
+rising_rest x xs rising = and_second _ _ rising
+
+marked_codes : (es : List (ℕ × Unit {0})) → marked (map (λ e. e.0) es) ≡ es
+marked_codes [] = refl
+marked_codes (e ∷ es) = ap (λ xs. e ∷ xs) (marked_codes es)
+
+-- the codes of a set rise
+pub rising-keys : (keys : KeySet) → IsRising (finite.keys keys)
+rising-keys keys = ap (finite.is_sorted nat_cmp) (marked_codes (finite.entries keys)) ∙ true_of _ (finite.entries_sorted keys)

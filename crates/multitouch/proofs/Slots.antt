@@ -9,7 +9,7 @@ use Rattle.multitouch.specs.declared.contact.Contact.{Contact}
 use Rattle.multitouch.specs.Panel.{contacts_of, entries_from, with_contact}
 use Rattle.multitouch.specs.Pressed.{ContactMap}
 
-apart : (q n : ℕ) → q ≢ n → (q == n) ≡ false
+pub apart : (q n : ℕ) → q ≢ n → (q == n) ≡ false
 apart q n h = elim (q == n) as (λ b. (q == n) ≡ b → b ≡ false) [ true ↦ λ e. absurd (h ((Decides-eqb q n).0 e)) | false ↦ λ e. refl ] refl
 
 pub untied : (q n : ℕ) → q ≢ n → eq_by_cmp nat_cmp q n ≡ false

@@ -38,10 +38,10 @@ pub record Known : Type 0 where
 
 abbrev pub known_code : Coded Known
 known_code =
-    code_by (Pressed × Pressed × List (List Event) × Bool × Option (List Event))
-    (coded× pressed_code (coded× pressed_code (coded× (coded_list (coded_list event.the_row.coded)) (coded× coded_bool (coded_option (coded_list event.the_row.coded))))))
-    (λ k. (k.real, k.told, k.queue, k.gap, k.under_way))
-    (λ p. record { real = p.0; told = p.1; queue = p.2; gap = p.3; under_way = p.4 }) (λ _. refl)
+    code_by ((Pressed × Pressed) × ((List (List Event) × Bool) × Option (List Event)))
+    (coded× (coded× pressed_code pressed_code) (coded× (coded× (coded_list (coded_list event.the_row.coded)) coded_bool) (coded_option (coded_list event.the_row.coded))))
+    (λ k. ((k.real, k.told), ((k.queue, k.gap), k.under_way)))
+    (λ p. record { real = p.0.0; told = p.0.1; queue = p.1.0.0; gap = p.1.0.1; under_way = p.1.1 }) (λ _. refl)
 
 -- nothing is down, and nothing waits
 abbrev pub at_rest : Known

@@ -5,3 +5,5 @@ mod KeyChanges
 mod Keys
 mod Mending
 mod Slots
+mod Soundness
+mod Told

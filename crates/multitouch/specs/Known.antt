@@ -79,13 +79,13 @@ refusal_in (Err why) = Some why
 abbrev pub is_due : Known → Bool
 is_due k = not (length k.queue == 0) || k.gap
 
--- the group that is to be published next: the oldest that waits, or the repair
+-- the group that is to be published next: the oldest that waits, or else the repair
+abbrev pub oldest_or : List (List Event) → List Event → List Event
+oldest_or [] repair = repair
+oldest_or (group ∷ groups) repair = group
+
 abbrev pub next_group : Known → List Event
 next_group k = oldest_or k.queue (repair_of k.told k.real)
-  where
-  oldest_or : List (List Event) → List Event → List Event
-  oldest_or [] repair = repair
-  oldest_or (group ∷ groups) repair = group
 
 -- the groups behind the oldest
 abbrev pub behind : List (List Event) → List (List Event)
@@ -101,8 +101,11 @@ abbrev pub told_after : Pressed → Option (List Event) → Pressed
 told_after told None = told
 told_after told (Some group) = after told group
 
+abbrev pub let_go : Known → Known
+let_go k = record k { told = told_after k.told k.under_way; queue = behind k.queue; under_way = None }
+
 abbrev pub published : Known → Known
-published k = settled (record k { told = told_after k.told k.under_way; queue = behind k.queue; under_way = None })
+published k = settled (let_go k)
 
 -- a Publish ends without that
 abbrev pub given_up : Known → Known

@@ -1,8 +1,6 @@
 use Rattle.std.proofs.Common.{sym, ap, ◌∙◌, subst, refl, drop, ◌+◌, drop_of_length-le}
 use Rattle.multitouch.specs.Pressed.{after, Accepts}
 use Rattle.multitouch.proofs.Events.{after_next, next_can_be, rest_can_be}
-use Rattle.multitouch.proofs.ContactChanges
-use Rattle.multitouch.proofs.KeyChanges
 use Rattle.multitouch.proofs.contacts.follow.Goals as goal
 
 pub loop-event-init : goal.loop-event-init

@@ -1,6 +1,7 @@
 -- What holds of what a device knows stays so, whatever it is told and however a Publish ends.
-use Rattle.std.proofs.Common.{◌≡◌, ℕ, ◌+◌, ◌<◌, ◌≤◌, Bool, true, false, cond, not, ◌&&◌, ◌||◌, ◌==◌, List, [], ◌∷◌, ◌++◌, length, nat_lt, Option, Some, None, is_none, refl, sym, ap, ◌∙◌, subst, arith, length-append, append-nil, append_assoc, nat_cmp}
+use Rattle.std.proofs.Common.{◌≡◌, ℕ, ◌+◌, ◌<◌, ◌≤◌, Bool, true, false, cond, not, ◌&&◌, ◌||◌, ◌==◌, List, [], ◌∷◌, ◌++◌, length, nat_lt, Option, Some, None, is_none, refl, sym, ap, ◌∙◌, subst, arith, length-append, append-nil, append_assoc, nat_cmp, map, drop, slice_get}
 use Rattle.std.proofs.lemmas.Bool.{ltb-true}
+use Rattle.std.proofs.lemmas.List.{map-append, length-map}
 use Rattle.std.proofs.lemmas.Bool.Decides.{Decides-eqb}
 use Rattle.std.specs.FinMap as finite
 use Rattle.kbd_wire.specs.declared.Event.{Event}
@@ -175,3 +176,43 @@ sound_let_go k group sound is =
 
 pub sound_idle : (k : Known) → IsSound k → IsSound (record k { under_way = None })
 sound_idle k sound = record { real = sound.real; told = sound.told; few = sound.few; acceptable = sound.acceptable; joined = sound.joined; chosen = tt }
+
+map-push : (items : List Event) (e : Event) → map group_of (items ++ e ∷ []) ≡ map group_of items ++ group_of e ∷ []
+map-push items e = map-append group_of items (e ∷ [])
+
+module _ (k : Known) (items after_items : List Event) (e : Event) (joins : Bool) (queue : map group_of items ≡ k.queue) where
+  -- what joined, as a queue of first events keeps it
+  pub joined_items : joins ≡ (not k.gap && nat_lt (length items) 16) → after_items ≡ cond joins (items ++ e ∷ []) items → record k { queue = map group_of after_items; gap = not joins } ≡ joined k (group_of e)
+  joined_items may is =
+      let count : length items ≡ length k.queue = sym (length-map items group_of) ∙ ap length queue in
+      let test : joins ≡ (not k.gap && nat_lt (length k.queue) 16) = may ∙ ap (λ n. not k.gap && nat_lt n 16) count in
+      ap (λ es. record k { queue = map group_of es; gap = not joins }) is
+      ∙ cases joins test
+      ∙ ap (λ b. cond b (record k { queue = k.queue ++ group_of e ∷ [] }) (record k { gap = true })) test
+    where
+    cases : (b : Bool) → b ≡ (not k.gap && nat_lt (length k.queue) 16) → record k { queue = map group_of (cond b (items ++ e ∷ []) items); gap = not b } ≡ cond b (record k { queue = k.queue ++ group_of e ∷ [] }) (record k { gap = true })
+    cases true test =
+        let open_ : k.gap ≡ false = (room_for k.gap (nat_lt (length k.queue) 16) (sym test)).0 in
+        ap (λ groups. record k { queue = groups; gap = false }) (map-push items e ∙ ap (λ groups. groups ++ group_of e ∷ []) queue)
+        ∙ ap (λ gap. record k { queue = k.queue ++ group_of e ∷ []; gap = gap }) (sym open_)
+    cases false test = ap (λ groups. record k { queue = groups; gap = true }) queue
+
+-- the oldest group, by its first event
+pub oldest_first : (items : List Event) (e : Event) (repair : List Event) → Some e ≡ slice_get items 0 → group_of e ≡ oldest_or (map group_of items) repair
+oldest_first [] e repair h = absurd (cc)
+oldest_first (x ∷ items) e repair h = let same : e ≡ x = cc in ap group_of same
+
+pub oldest_none : (items : List Event) (repair : List Event) → None ≡ slice_get items 0 → repair ≡ oldest_or (map group_of items) repair
+oldest_none [] repair h = refl
+oldest_none (x ∷ items) repair h = absurd (cc)
+
+behind-map : (items : List Event) → map group_of (drop 1 items) ≡ behind (map group_of items)
+behind-map [] = refl
+behind-map (x ∷ items) = refl
+
+-- what is left once the group under way was told
+pub let_go_of : (k : Known) (items rest : List Event) (told : Pressed) (group : List Event) (under_way : Option (List Event)) → map group_of items ≡ k.queue → rest ≡ drop 1 items → k.under_way ≡ Some group → told ≡ after k.told group → under_way ≡ None → record { real = k.real; told = told; queue = map group_of rest; gap = k.gap; under_way = under_way } ≡ let_go k
+let_go_of k items rest told group under_way queue is chosen follows none =
+    let now : told ≡ told_after k.told k.under_way = follows ∙ sym (ap (told_after k.told) chosen) in
+    let left : map group_of rest ≡ behind k.queue = ap (map group_of) is ∙ behind-map items ∙ ap behind queue in
+    λ i. record { real = k.real; told = now i; queue = left i; gap = k.gap; under_way = none i }

@@ -1,12 +1,12 @@
 -- There is nothing to say exactly where what was told is what is real.
-use Rattle.std.proofs.Common.{◌≡◌, ℕ, zero, suc, Bool, true, false, cond, not, ◌||◌, List, [], ◌∷◌, ◌++◌, map, length, Option, Some, None, is_some, refl, sym, ap, ◌∙◌, subst, arith, eqb→eq}
+use Rattle.std.proofs.Common.{◌≡◌, ℕ, zero, suc, Bool, true, false, cond, not, ◌||◌, List, [], ◌∷◌, ◌++◌, map, length, Option, Some, None, is_some, refl, sym, ap, ◌∙◌, subst, arith, length-append, ◌<◌, ◌≤◌}
 use Rattle.std.proofs.lemmas.Bool.Decides.{Decides-eqb}
 use Rattle.std.specs.FinMap as finite
 use Rattle.kbd_wire.specs.declared.Event.{Event}
-use Rattle.kbd_wire.specs.declared.Event.TheVariants.{Key, Move}
+use Rattle.kbd_wire.specs.declared.Event.TheVariants.{Key, Move, Syn}
 use Rattle.multitouch.specs.declared.contact.Contact.{Contact}
 use Rattle.multitouch.specs.Pressed.{ContactMap, KeySet, Pressed, after, IsBounded}
-use Rattle.multitouch.specs.Repair.{changes, codes_without, is_told, item, items_below}
+use Rattle.multitouch.specs.Repair.{changes, codes_without, is_told, item, items_below, repair_of}
 use Rattle.multitouch.proofs.ContactChanges.{is_same_itself}
 use Rattle.multitouch.proofs.KeyChanges.{among, among-codes_without, only_first}
 use Rattle.multitouch.proofs.Mending.{changes_mend}
@@ -52,3 +52,15 @@ no_changes p =
 pub real_is_told : (told real : Pressed) → told ≡ real → is_told told real ≡ true
 real_is_told told real same =
     subst (λ p. is_told p real ≡ true) (sym same) ((Decides-eqb (length (changes real real)) 0).1 (ap length (no_changes real)))
+
+-- a repair of a SYN alone
+pub nothing_said : (told real : Pressed) → IsBounded told → IsBounded real → length (repair_of told real) ≤ 1 → told ≡ real
+nothing_said told real told_bounded real_bounded few =
+    let none = none_left (changes told real) (omega (arith, length-append (changes told real) (Syn ∷ []))) in
+    ap (after told) (sym none) ∙ changes_mend told real told_bounded real_bounded
+
+-- and of more
+pub something_said : (told real : Pressed) → 1 < length (repair_of told real) → told ≡ real → ⊥
+something_said told real more same =
+    let none = (Decides-eqb (length (changes told real)) 0).0 (real_is_told told real same) in
+    omega (arith, length-append (changes told real) (Syn ∷ []), none)

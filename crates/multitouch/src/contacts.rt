@@ -1,9 +1,9 @@
 //! Contacts and keys, with the groups that wait.
 
-ghost use Rattle.std.specs.Prelude.{◌≡◌, ◌≤◌, ◌↔◌, None, IsNone, IsSome, IfOk, IfSome, is_none, length, true};
+ghost use Rattle.std.specs.Prelude.{◌≡◌, ◌≤◌, ◌↔◌, None, IsNone, IsSome, IfOk, IfSome, is_none, length, true, not, nat_lt, ◌&&◌, ◌++◌, ◌∷◌, [], if◌then◌else◌};
 ghost use Rattle.kbd_wire.specs.declared.Event.TheVariants.{Key as EventKey, Motion as EventMotion, Position as EventPosition};
 ghost use Rattle.std.specs.Option.{option_copied};
-ghost use Rattle.multitouch.specs.Known.{accepted, at_rest, begun, event_of, given_up, heard, is_due, published, refusal_in, settled};
+ghost use Rattle.multitouch.specs.Known.{accepted, at_rest, begun, event_of, given_up, heard, is_due, next_group, published, refusal_in, settled};
 ghost use Rattle.multitouch.specs.Pressed.{after, refusal_of, Accepts};
 ghost use Rattle.multitouch.specs.Repair.{is_told, repair_of};
 
@@ -115,9 +115,7 @@ impl Contacts {
         ensures { self.new ≡ accepted self.old event }
     {
         self.real.apply(&event);
-        if !self.has_gap {
-            self.has_gap = self.queue.try_push_back(event).is_err();
-        }
+        self.has_gap = !join(&mut self.queue, self.has_gap, event);
         self.settle();
     }
 
@@ -154,17 +152,24 @@ impl Contacts {
         !self.queue.is_empty() || self.has_gap
     }
 
-    /// A Publish begins. Its group is chosen: the oldest that waits or else the repair. It stays what it is to its end.
+    /// A Publish begins. Its group is chosen: the oldest that waits, or else the repair. It stays what it is to its end.
     pub fn begin(&mut self)
         requires due { is_due self.old ≡ true }
         requires idle { self.old.under_way ≡ None }
         ensures { self.new ≡ begun self.old }
     {
-        let group = match self.queue.front() {
+        let group = self.next_group();
+        self.under_way = Some(group);
+    }
+
+    // The group that is to be published next.
+    fn next_group(&self) -> Group
+        ensures { result ≡ next_group self.now }
+    {
+        match self.queue.front() {
             Some(event) => Group::of(*event),
             None => repair_group(&self.told, &self.real),
-        };
-        self.under_way = Some(group);
+        }
     }
 
     /// The group of the Publish that is under way, if one is.
@@ -205,6 +210,19 @@ impl Contacts {
         self.has_gap = false;
         self.under_way = None;
     }
+}
+
+// The group of an event joins those that wait, unless there is a gap or 16 wait. Whether it does.
+fn join(queue: &mut HeapCircularBuffer<Event>, has_gap: bool, event: Event) -> bool
+    requires { queue.old.capacity ≡ 16 }
+    ensures joins { result ≡ (not has_gap && nat_lt (length queue.old.items) 16) }
+    ensures queue { queue.new.items ≡ (if result then queue.old.items ++ event ∷ [] else queue.old.items) }
+    ensures room { queue.new.capacity ≡ 16 }
+{
+    if has_gap {
+        return false;
+    }
+    queue.try_push_back(event).is_ok()
 }
 
 // What is down after these events, one after another.

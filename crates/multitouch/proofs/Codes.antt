@@ -160,8 +160,8 @@ module _ (codes : List ℕ) (code at : ℕ) (rising : IsRising codes) (is_at : a
     keys_of-insert =
         finite.same_entries_map _ _
         (entries_of (insert codes at code) rising-insert
-          ∙ inserted
-          ∙ sym (finite.entries-insert nat_cmp_total (keys_of codes) code tt ∙ ap (put nat_cmp code tt) (entries_of codes rising)))
+        ∙ inserted
+        ∙ sym (finite.entries-insert nat_cmp_total (keys_of codes) code tt ∙ ap (put nat_cmp code tt) (entries_of codes rising)))
 
   module _ (present : finite.contains_key (keys_of codes) code ≡ true) where
     out : (below code codes < length codes) × (marked (remove codes (below code codes)) ≡ where_key nat_cmp (λ k. not (eq_by_cmp nat_cmp code k)) (marked codes))
@@ -179,17 +179,17 @@ module _ (codes : List ℕ) (code at : ℕ) (rising : IsRising codes) (is_at : a
     pub keys_of-remove : keys_of (remove codes at) ≡ finite.remove (keys_of codes) code
     keys_of-remove =
         finite.same_map nat_cmp_total finite.nat_cmp-IsAntisymmetric _ _ (λ q.
-          finite.get-from_sorted nat_cmp (marked (remove codes at)) q (truth _ rising-remove)
-          ∙ ap (finite.find nat_cmp q) removed
-          ∙ find-where_key nat_cmp (λ k. not (eq_by_cmp nat_cmp code k)) q (λ x tie. ap (λ k. not (eq_by_cmp nat_cmp code k)) (sym (finite.nat_cmp-IsAntisymmetric q x tie))) (marked codes)
-          ∙ ap (λ o. cond (not (eq_by_cmp nat_cmp code q)) o None) (sym (finite.get-from_sorted nat_cmp (marked codes) q (truth _ rising)))
-          ∙ turned (eq_by_cmp nat_cmp code q) (finite.get (keys_of codes) q)
-          ∙ ap (λ b. cond b None (finite.get (keys_of codes) q)) ((eq_by_cmp_equiv nat_cmp_total).symm code q)
-          ∙ sym (finite.get-remove nat_cmp_total (keys_of codes) code q))
+        finite.get-from_sorted nat_cmp (marked (remove codes at)) q (truth _ rising-remove)
+        ∙ ap (finite.find nat_cmp q) removed
+        ∙ find-where_key nat_cmp (λ k. not (eq_by_cmp nat_cmp code k)) q (λ x tie. ap (λ k. not (eq_by_cmp nat_cmp code k)) (sym (finite.nat_cmp-IsAntisymmetric q x tie))) (marked codes)
+        ∙ ap (λ o. cond (not (eq_by_cmp nat_cmp code q)) o None) (sym (finite.get-from_sorted nat_cmp (marked codes) q (truth _ rising)))
+        ∙ turned (eq_by_cmp nat_cmp code q) (finite.get (keys_of codes) q)
+        ∙ ap (λ b. cond b None (finite.get (keys_of codes) q)) ((eq_by_cmp_equiv nat_cmp_total).symm code q)
+        ∙ sym (finite.get-remove nat_cmp_total (keys_of codes) code q))
       where
-      turned : (b : Bool) (o : Option (Unit {0})) → cond (not b) o None ≡ cond b None o
-      turned true o = refl
-      turned false o = refl
+        turned : (b : Bool) (o : Option (Unit {0})) → cond (not b) o None ≡ cond b None o
+        turned true o = refl
+        turned false o = refl
 
 -- the first of codes that rise isn't among the rest, and the rest rises
 pub rising_apart : (x : ℕ) (xs : List ℕ) → IsRising (x ∷ xs) → list_any (eq_by_cmp nat_cmp x) xs ≡ false

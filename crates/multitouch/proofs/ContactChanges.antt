@@ -58,9 +58,11 @@ lift_can_be p id few down =
 pub item_accepted : (p : Pressed) (id : ℕ) (told real : Option Contact) → id < 16 → finite.get p.contacts id ≡ told → Accepts p (item id told real)
 item_accepted p id None None few h = tt
 item_accepted p id (Some t) None few h = (lift_can_be p id (lt-ltb _ _ few) (ap is_some h), tt)
-item_accepted p id None (Some r) few h =
-    (ap (λ b. cond b (cond (is_down p id) (Some (AlreadyDown id)) None) (Some (TooMany id))) (lt-ltb _ _ few)
-      ∙ ap (λ b. cond b (Some (AlreadyDown id)) None) (ap is_some h), tt)
+item_accepted p id None (Some r) few h = (
+  ap (λ b. cond b (cond (is_down p id) (Some (AlreadyDown id)) None) (Some (TooMany id))) (lt-ltb _ _ few)
+      ∙ ap (λ b. cond b (Some (AlreadyDown id)) None) (ap is_some h),
+  tt,
+)
 item_accepted p id (Some t) (Some r) few h =
     elim (is_same t r) as (λ b. Accepts p (cond b [] (Move id r.x r.y ∷ []))) [
       | true ↦ tt
@@ -86,17 +88,17 @@ items_said p told real (suc n) h =
       contacts = λ q. one.contacts q ∙ ap (cond (q == n) (finite.get real n)) (before.contacts q) ∙ next q n;
     })
   where
-  next : (q n : ℕ) → cond (q == n) (finite.get real n) (cond (nat_lt q n) (finite.get real q) (finite.get told q)) ≡ cond (nat_lt q (suc n)) (finite.get real q) (finite.get told q)
-  next q n =
-      elim (q == n) as (λ b. (q == n) ≡ b → cond b (finite.get real n) (cond (nat_lt q n) (finite.get real q) (finite.get told q)) ≡ cond (nat_lt q (suc n)) (finite.get real q) (finite.get told q)) [
-        | true ↦ λ e.
-            let same = (Decides-eqb q n).0 e in
-            ap (finite.get real) (sym same) ∙ sym (ap (λ b. cond b (finite.get real q) (finite.get told q)) (lt-ltb _ _ (omega arith)))
-        | false ↦ λ e. ap (λ b. cond b (finite.get real q) (finite.get told q)) (lower q n e)
-      ] refl
-    where
-    lower : (q n : ℕ) → (q == n) ≡ false → nat_lt q n ≡ nat_lt q (suc n)
-    lower q n e = grind (arith, nat_tests)
+    next : (q n : ℕ) → cond (q == n) (finite.get real n) (cond (nat_lt q n) (finite.get real q) (finite.get told q)) ≡ cond (nat_lt q (suc n)) (finite.get real q) (finite.get told q)
+    next q n =
+        elim (q == n) as (λ b. (q == n) ≡ b → cond b (finite.get real n) (cond (nat_lt q n) (finite.get real q) (finite.get told q)) ≡ cond (nat_lt q (suc n)) (finite.get real q) (finite.get told q)) [
+          | true ↦ λ e.
+              let same = (Decides-eqb q n).0 e in
+              ap (finite.get real) (sym same) ∙ sym (ap (λ b. cond b (finite.get real q) (finite.get told q)) (lt-ltb _ _ (omega arith)))
+          | false ↦ λ e. ap (λ b. cond b (finite.get real q) (finite.get told q)) (lower q n e)
+        ] refl
+      where
+        lower : (q n : ℕ) → (q == n) ≡ false → nat_lt q n ≡ nat_lt q (suc n)
+        lower q n e = grind (arith, nat_tests)
 
 pub items_accepted : (p : Pressed) (told real : ContactMap) (n : ℕ) → n ≤ 16 → p.contacts ≡ told → Accepts p (items_below told real n)
 items_accepted p told real zero few h = tt

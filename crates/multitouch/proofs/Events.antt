@@ -55,10 +55,10 @@ release_bounds keys code few = omega (arith, few, finite.len-remove nat_cmp_tota
 pub pressable : (p : Pressed) (code : ℕ) → press_refusal p code ≡ None → (is_key_down p code ≡ false) × (nat_lt (finite.len p.keys) 16 ≡ true)
 pressable p code h = both (is_key_down p code) (nat_lt (finite.len p.keys) 16) h
   where
-  both : (down room : Bool) → cond down (Some (KeyIsDown code)) (cond room None (Some (TooManyKeys code))) ≡ None → (down ≡ false) × (room ≡ true)
-  both true room h = absurd (cc)
-  both false true h = (refl, refl)
-  both false false h = absurd (cc)
+    both : (down room : Bool) → cond down (Some (KeyIsDown code)) (cond room None (Some (TooManyKeys code))) ≡ None → (down ≡ false) × (room ≡ true)
+    both true room h = absurd (cc)
+    both false true h = (refl, refl)
+    both false false h = absurd (cc)
 
 pub bounded_event : (p : Pressed) (e : Event) → IsBounded p → refusal_of p e ≡ None → IsBounded (after_event p e)
 bounded_event p (Down id x y) bounded fits = record {

@@ -76,13 +76,13 @@ keys_settled told real =
     let lifted = codes_without told real in
     let pressed = codes_without real told in
     finite.same_map nat_cmp_total finite.nat_cmp-IsAntisymmetric _ _ (λ q.
-      let before = finite.get told q in
-      let now = finite.get real q in
-      get-with_all (without told lifted) pressed q
-      ∙ ap (cond (among q pressed) (Some tt)) (get-without told lifted q)
-      ∙ ap (λ b. cond (among q pressed) (Some tt) (cond b None before)) (among-codes_without told real q)
-      ∙ ap (λ b. cond b (Some tt) (cond (only_first before now) None before)) (among-codes_without real told q)
-      ∙ settled_at before now)
+    let before = finite.get told q in
+    let now = finite.get real q in
+    get-with_all (without told lifted) pressed q
+    ∙ ap (cond (among q pressed) (Some tt)) (get-without told lifted q)
+    ∙ ap (λ b. cond (among q pressed) (Some tt) (cond b None before)) (among-codes_without told real q)
+    ∙ ap (λ b. cond b (Some tt) (cond (only_first before now) None before)) (among-codes_without real told q)
+    ∙ settled_at before now)
 
 -- of different codes, a change of one leaves the others
 others : (code q : ℕ) (codes : List ℕ) → IsRising (code ∷ codes) → among q codes ≡ true → eq_by_cmp nat_cmp q code ≡ false
@@ -99,29 +99,27 @@ others code q codes rising there =
 pub lifts_accepted : (p : Pressed) (codes : List ℕ) → IsRising codes → ((q : ℕ) → among q codes ≡ true → finite.contains_key p.keys q ≡ true) → Accepts p (map (Key false) codes)
 lifts_accepted p [] rising down = tt
 lifts_accepted p (code ∷ codes) rising down =
-    let here = down code (ap (λ b. b || among code codes) (tied code code refl)) in
-    (
+    let here = down code (ap (λ b. b || among code codes) (tied code code refl)) in (
       ap (λ b. cond b None (Some (KeyIsUp code))) here,
       lifts_accepted (record p { keys = finite.remove p.keys code }) codes (rising_rest code codes rising) (λ q there.
-        ap is_some (finite.get-remove nat_cmp_total p.keys code q)
-        ∙ ap (λ b. is_some (cond b None (finite.get p.keys q))) (others code q codes rising there)
-        ∙ down q (ap (λ b. b || among q codes) (others code q codes rising there) ∙ there)),
+          ap is_some (finite.get-remove nat_cmp_total p.keys code q)
+          ∙ ap (λ b. is_some (cond b None (finite.get p.keys q))) (others code q codes rising there)
+          ∙ down q (ap (λ b. b || among q codes) (others code q codes rising there) ∙ there)),
     )
 
 pub presses_accepted : (p : Pressed) (codes : List ℕ) → IsRising codes → ((q : ℕ) → among q codes ≡ true → finite.contains_key p.keys q ≡ false) → finite.len p.keys + length codes ≤ 16 → Accepts p (map (Key true) codes)
 presses_accepted p [] rising up few = tt
 presses_accepted p (code ∷ codes) rising up few =
     let here = up code (ap (λ b. b || among code codes) (tied code code refl)) in
-    let more = finite.len-insert nat_cmp_total p.keys code tt ∙ ap (λ b. cond b (finite.len p.keys) (finite.len p.keys + 1)) here in
-    (
+    let more = finite.len-insert nat_cmp_total p.keys code tt ∙ ap (λ b. cond b (finite.len p.keys) (finite.len p.keys + 1)) here in (
       ap (λ b. cond b (Some (KeyIsDown code)) (cond (nat_lt (finite.len p.keys) 16) None (Some (TooManyKeys code)))) here
-      ∙ ap (λ b. cond b None (Some (TooManyKeys code))) (lt-ltb _ _ (omega arith)),
+          ∙ ap (λ b. cond b None (Some (TooManyKeys code))) (lt-ltb _ _ (omega arith)),
       presses_accepted (record p { keys = finite.insert p.keys code tt }) codes (rising_rest code codes rising)
-      (λ q there.
-        ap is_some (finite.get-insert nat_cmp_total p.keys code tt q)
-        ∙ ap (λ b. is_some (cond b (Some tt) (finite.get p.keys q))) (others code q codes rising there)
-        ∙ up q (ap (λ b. b || among q codes) (others code q codes rising there) ∙ there))
-      (omega (arith, more, few)),
+          (λ q there.
+          ap is_some (finite.get-insert nat_cmp_total p.keys code tt q)
+          ∙ ap (λ b. is_some (cond b (Some tt) (finite.get p.keys q))) (others code q codes rising there)
+          ∙ up q (ap (λ b. b || among q codes) (others code q codes rising there) ∙ there))
+          (omega (arith, more, few)),
     )
 
 -- as many keys more as go down
@@ -131,7 +129,7 @@ len-with_all keys (code ∷ codes) rising up =
     let here = up code (ap (λ b. b || among code codes) (tied code code refl)) in
     let more = finite.len-insert nat_cmp_total keys code tt ∙ ap (λ b. cond b (finite.len keys) (finite.len keys + 1)) here in
     let rest = len-with_all (finite.insert keys code tt) codes (rising_rest code codes rising) (λ q there.
-      ap is_some (finite.get-insert nat_cmp_total keys code tt q)
-      ∙ ap (λ b. is_some (cond b (Some tt) (finite.get keys q))) (others code q codes rising there)
-      ∙ up q (ap (λ b. b || among q codes) (others code q codes rising there) ∙ there)) in
+    ap is_some (finite.get-insert nat_cmp_total keys code tt q)
+    ∙ ap (λ b. is_some (cond b (Some tt) (finite.get keys q))) (others code q codes rising there)
+    ∙ up q (ap (λ b. b || among q codes) (others code q codes rising there) ∙ there)) in
     omega (arith, more, rest)

@@ -26,9 +26,9 @@ keys-retain_keys keys p =
     let sorted : T (finite.is_sorted nat_cmp (where_key nat_cmp p (finite.entries keys))) = is_sorted-where_key nat_cmp p (finite.entries keys) (finite.entries_sorted keys) in
     let same : finite.retain_keys keys p ≡ finite.from_sorted (where_key nat_cmp p (finite.entries keys)) =
     finite.same_map nat_cmp_total finite.nat_cmp-IsAntisymmetric _ _ (λ q.
-      finite.get-retain_keys keys p q (respects p q)
-      ∙ ap (λ o. cond (p q) o None) (finite.get-entries keys q)
-      ∙ sym (finite.get-from_sorted nat_cmp (where_key nat_cmp p (finite.entries keys)) q sorted ∙ find-where_key nat_cmp p q (respects p q) (finite.entries keys))) in
+    finite.get-retain_keys keys p q (respects p q)
+    ∙ ap (λ o. cond (p q) o None) (finite.get-entries keys q)
+    ∙ sym (finite.get-from_sorted nat_cmp (where_key nat_cmp p (finite.entries keys)) q sorted ∙ find-where_key nat_cmp p q (respects p q) (finite.entries keys))) in
     ap (λ (m : KeySet). finite.keys m) same
     ∙ ap (map (λ e. e.0)) (finite.entries-from_sorted nat_cmp (where_key nat_cmp p (finite.entries keys)) sorted)
     ∙ keys_where p (finite.entries keys)

@@ -64,9 +64,9 @@ module _ (told real : Pressed) where
       let up = (there_or _ _ (sym (among-codes_without real.keys told.keys q) ∙ there)).1 in
       ap is_some (get-without told.keys lifted q) ∙ still_up (among q lifted) (finite.get told.keys q) up
     where
-    still_up : (b : Bool) (o : Option (Unit {0})) → is_some o ≡ false → is_some (cond b None o) ≡ false
-    still_up true o h = refl
-    still_up false o h = h
+      still_up : (b : Bool) (o : Option (Unit {0})) → is_some o ≡ false → is_some (cond b None o) ≡ false
+      still_up true o h = refl
+      still_up false o h = h
 
   few_keys : finite.len real.keys ≤ 16 → finite.len (without told.keys lifted) + length pressed ≤ 16
   unfolding pressed lifted
@@ -82,11 +82,11 @@ module _ (told real : Pressed) where
       let said = items_said at_last told.contacts real.contacts 16 (ap (λ (p : Pressed). p.contacts) last_keys) in
       finite.same_map nat_cmp_total finite.nat_cmp-IsAntisymmetric _ _ (λ q. said.contacts q ∙ each q (nat_lt q 16) refl)
     where
-    each : (q : ℕ) (b : Bool) → nat_lt q 16 ≡ b → cond b (finite.get real.contacts q) (finite.get told.contacts q) ≡ finite.get real.contacts q
-    each q true e = refl
-    each q false e =
-        let past = ltb-false q 16 e in
-        told_bounded.contacts q past ∙ sym (real_bounded.contacts q past)
+      each : (q : ℕ) (b : Bool) → nat_lt q 16 ≡ b → cond b (finite.get real.contacts q) (finite.get told.contacts q) ≡ finite.get real.contacts q
+      each q true e = refl
+      each q false e =
+          let past = ltb-false q 16 e in
+          told_bounded.contacts q past ∙ sym (real_bounded.contacts q past)
 
   pub changes_mend : IsBounded told → IsBounded real → after told (changes told real) ≡ real
   unfolding contacts

@@ -61,13 +61,13 @@ get_or-set_slot slots id q o h =
       | false ↦ λ e. get_or-set_other slots id q o None (λ same. true_is_false (sym (eq-eqb q id same) ∙ e))
     ] refl
   where
-  true_is_false : true ≡ false → ⊥
-  true_is_false e = absurd (cc)
+    true_is_false : true ≡ false → ⊥
+    true_is_false e = absurd (cc)
 
 -- a change of one slot
 pub contacts_of-set : (slots : List (Option Contact)) (id : ℕ) (o : Option Contact) → id < length slots → contacts_of (set slots id o) ≡ with_contact (contacts_of slots) id o
 contacts_of-set slots id o h =
     finite.same_map nat_cmp_total finite.nat_cmp-IsAntisymmetric _ _ (λ q.
-      contact_in (set slots id o) q
-      ∙ get_or-set_slot slots id q o h
-      ∙ sym (get-with_contact (contacts_of slots) id q o ∙ ap (cond (q == id) o) (contact_in slots q)))
+    contact_in (set slots id o) q
+    ∙ get_or-set_slot slots id q o h
+    ∙ sym (get-with_contact (contacts_of slots) id q o ∙ ap (cond (q == id) o) (contact_in slots q)))

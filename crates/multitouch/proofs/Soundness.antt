@@ -77,19 +77,19 @@ sound_joined k e sound fits =
             told = sound.told;
             few = omega (arith, length-append k.queue (group_of e ∷ []), less);
             acceptable = subst (Accepts k.told) (sym all)
-            (accepts_both k.told (events_of k.queue) (group_of e) sound.acceptable (subst (λ p. Accepts p (group_of e)) (sym told_all) (group_accepted k.real e fits)));
+                (accepts_both k.told (events_of k.queue) (group_of e) sound.acceptable (subst (λ p. Accepts p (group_of e)) (sym told_all) (group_accepted k.real e fits)));
             joined = λ _. ap (after k.told) all ∙ after-append k.told (events_of k.queue) (group_of e) ∙ ap (λ p. after p (group_of e)) told_all ∙ after_group k.real e;
             chosen = subst (λ gap. IsChosen k.under_way (k.queue ++ group_of e ∷ []) gap k.told) (sym room.0)
-            (chosen_push k.under_way k.queue (group_of e) k.told (subst (λ gap. IsChosen k.under_way k.queue gap k.told) room.0 sound.chosen));
+                (chosen_push k.under_way k.queue (group_of e) k.told (subst (λ gap. IsChosen k.under_way k.queue gap k.told) room.0 sound.chosen));
           }
       | false ↦ λ h. record {
-          real = real;
-          told = sound.told;
-          few = sound.few;
-          acceptable = sound.acceptable;
-          joined = λ same. absurd (cc);
-          chosen = chosen_gap k.under_way k.queue k.gap k.told sound.chosen;
-        }
+        real = real;
+        told = sound.told;
+        few = sound.few;
+        acceptable = sound.acceptable;
+        joined = λ same. absurd (cc);
+        chosen = chosen_gap k.under_way k.queue k.gap k.told sound.chosen;
+      }
     ] refl
 
 no_groups : (queue : List (List Event)) → (length queue == 0) ≡ true → queue ≡ []
@@ -99,11 +99,11 @@ no_groups (g ∷ gs) h = absurd (omega (arith, (Decides-eqb (length (g ∷ gs)) 
 pub caught_up : (k : Known) → is_caught_up k ≡ true → (k.queue ≡ []) × (is_told k.told k.real ≡ true)
 caught_up k h = parts (is_none k.under_way) (length k.queue == 0) (is_told k.told k.real) h refl
   where
-  parts : (a b c : Bool) → (a && (b && c)) ≡ true → (length k.queue == 0) ≡ b → (k.queue ≡ []) × (c ≡ true)
-  parts true true true h empty = (no_groups k.queue empty, refl)
-  parts true true false h empty = absurd (cc)
-  parts true false c h empty = absurd (cc)
-  parts false b c h empty = absurd (cc)
+    parts : (a b c : Bool) → (a && (b && c)) ≡ true → (length k.queue == 0) ≡ b → (k.queue ≡ []) × (c ≡ true)
+    parts true true true h empty = (no_groups k.queue empty, refl)
+    parts true true false h empty = absurd (cc)
+    parts true false c h empty = absurd (cc)
+    parts false b c h empty = absurd (cc)
 
 gap_gone : (gap up : Bool) → (gap && not up) ≡ false → gap ≡ true → up ≡ true
 gap_gone true true h g = refl
@@ -140,17 +140,17 @@ sound_begun k sound due = record {
   chosen = choice k.queue due;
 }
   where
-  choice : (queue : List (List Event)) → (not (length queue == 0) || k.gap) ≡ true → IsChosen (Some (oldest_or queue (repair_of k.told k.real))) queue k.gap k.told
-  choice [] due = (due, repair_accepted k.told k.real sound.real)
-  choice (group ∷ groups) due = refl
+    choice : (queue : List (List Event)) → (not (length queue == 0) || k.gap) ≡ true → IsChosen (Some (oldest_or queue (repair_of k.told k.real))) queue k.gap k.told
+    choice [] due = (due, repair_accepted k.told k.real sound.real)
+    choice (group ∷ groups) due = refl
 
 -- the group that is being published can be told
 pub chosen_accepted : (k : Known) (group : List Event) → IsSound k → k.under_way ≡ Some group → Accepts k.told group
 chosen_accepted k group sound is = at k.queue (subst (λ w. IsChosen w k.queue k.gap k.told) is sound.chosen) sound.acceptable
   where
-  at : (queue : List (List Event)) → IsChosen (Some group) queue k.gap k.told → Accepts k.told (events_of queue) → Accepts k.told group
-  at [] chosen fits = chosen.1
-  at (oldest ∷ queue) chosen fits = subst (Accepts k.told) (sym chosen) (accepts_first k.told oldest (events_of queue) fits)
+    at : (queue : List (List Event)) → IsChosen (Some group) queue k.gap k.told → Accepts k.told (events_of queue) → Accepts k.told group
+    at [] chosen fits = chosen.1
+    at (oldest ∷ queue) chosen fits = subst (Accepts k.told) (sym chosen) (accepts_first k.told oldest (events_of queue) fits)
 
 pub sound_let_go : (k : Known) (group : List Event) → IsSound k → k.under_way ≡ Some group → IsSound (let_go k)
 sound_let_go k group sound is =
@@ -165,14 +165,14 @@ sound_let_go k group sound is =
       chosen = tt;
     })
   where
-  at : (queue : List (List Event)) → IsChosen (Some group) queue k.gap k.told → length queue ≤ 16 → Accepts k.told (events_of queue) → (k.gap ≡ false → after k.told (events_of queue) ≡ k.real) → (length (behind queue) ≤ 16) × Accepts (after k.told group) (events_of (behind queue)) × (k.gap ≡ false → after (after k.told group) (events_of (behind queue)) ≡ k.real)
-  at [] chosen few fits joined = (omega arith, tt, λ none. absurd (cc (chosen.0)))
-  at (oldest ∷ queue) chosen few fits joined =
-      let now = ap (after k.told) chosen in (
-        omega arith,
-        subst (λ p. Accepts p (events_of queue)) (sym now) (accepts_rest k.told oldest (events_of queue) fits),
-        λ none. ap (λ p. after p (events_of queue)) now ∙ sym (after-append k.told oldest (events_of queue)) ∙ joined none,
-      )
+    at : (queue : List (List Event)) → IsChosen (Some group) queue k.gap k.told → length queue ≤ 16 → Accepts k.told (events_of queue) → (k.gap ≡ false → after k.told (events_of queue) ≡ k.real) → (length (behind queue) ≤ 16) × Accepts (after k.told group) (events_of (behind queue)) × (k.gap ≡ false → after (after k.told group) (events_of (behind queue)) ≡ k.real)
+    at [] chosen few fits joined = (omega arith, tt, λ none. absurd (cc (chosen.0)))
+    at (oldest ∷ queue) chosen few fits joined =
+        let now = ap (after k.told) chosen in (
+          omega arith,
+          subst (λ p. Accepts p (events_of queue)) (sym now) (accepts_rest k.told oldest (events_of queue) fits),
+          λ none. ap (λ p. after p (events_of queue)) now ∙ sym (after-append k.told oldest (events_of queue)) ∙ joined none,
+        )
 
 pub sound_idle : (k : Known) → IsSound k → IsSound (record k { under_way = None })
 sound_idle k sound = record { real = sound.real; told = sound.told; few = sound.few; acceptable = sound.acceptable; joined = sound.joined; chosen = tt }
@@ -190,12 +190,12 @@ module _ (k : Known) (items after_items : List Event) (e : Event) (joins : Bool)
       ∙ cases joins test
       ∙ ap (λ b. cond b (record k { queue = k.queue ++ group_of e ∷ [] }) (record k { gap = true })) test
     where
-    cases : (b : Bool) → b ≡ (not k.gap && nat_lt (length k.queue) 16) → record k { queue = map group_of (cond b (items ++ e ∷ []) items); gap = not b } ≡ cond b (record k { queue = k.queue ++ group_of e ∷ [] }) (record k { gap = true })
-    cases true test =
-        let open_ : k.gap ≡ false = (room_for k.gap (nat_lt (length k.queue) 16) (sym test)).0 in
-        ap (λ groups. record k { queue = groups; gap = false }) (map-push items e ∙ ap (λ groups. groups ++ group_of e ∷ []) queue)
-        ∙ ap (λ gap. record k { queue = k.queue ++ group_of e ∷ []; gap = gap }) (sym open_)
-    cases false test = ap (λ groups. record k { queue = groups; gap = true }) queue
+      cases : (b : Bool) → b ≡ (not k.gap && nat_lt (length k.queue) 16) → record k { queue = map group_of (cond b (items ++ e ∷ []) items); gap = not b } ≡ cond b (record k { queue = k.queue ++ group_of e ∷ [] }) (record k { gap = true })
+      cases true test =
+          let open_ : k.gap ≡ false = (room_for k.gap (nat_lt (length k.queue) 16) (sym test)).0 in
+          ap (λ groups. record k { queue = groups; gap = false }) (map-push items e ∙ ap (λ groups. groups ++ group_of e ∷ []) queue)
+          ∙ ap (λ gap. record k { queue = k.queue ++ group_of e ∷ []; gap = gap }) (sym open_)
+      cases false test = ap (λ groups. record k { queue = groups; gap = true }) queue
 
 -- the oldest group, by its first event
 pub oldest_first : (items : List Event) (e : Event) (repair : List Event) → Some e ≡ slice_get items 0 → group_of e ≡ oldest_or (map group_of items) repair

@@ -1,3 +1,4 @@
+pub mod History
 pub mod Known
 pub mod Panel
 pub mod Pressed

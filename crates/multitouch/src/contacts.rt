@@ -3,7 +3,7 @@
 ghost use Rattle.std.specs.Prelude.{◌≡◌, ◌≤◌, ◌↔◌, None, IsNone, IsSome, IfOk, IfSome, is_none, length, true, not, nat_lt, ◌&&◌, ◌++◌, ◌∷◌, [], if◌then◌else◌};
 ghost use Rattle.kbd_wire.specs.declared.Event.TheVariants.{Key as EventKey, Motion as EventMotion, Position as EventPosition};
 ghost use Rattle.std.specs.Option.{option_copied};
-ghost use Rattle.multitouch.specs.Known.{accepted, at_rest, begun, event_of, given_up, heard, is_due, next_group, published, refusal_in, settled};
+ghost use Rattle.multitouch.specs.Known.{accepted, at_rest, begun, event_of, given_up, heard, is_caught_up, is_due, next_group, published, refusal_in, settled};
 ghost use Rattle.multitouch.specs.Pressed.{after, refusal_of, Accepts};
 ghost use Rattle.multitouch.specs.Repair.{is_told, repair_of};
 
@@ -123,9 +123,15 @@ impl Contacts {
     fn settle(&mut self)
         ensures { self.new ≡ settled self.old }
     {
-        if self.under_way.is_none() && self.queue.is_empty() && self.repair().is_none() {
+        if self.has_gap && self.is_caught_up() {
             self.has_gap = false;
         }
+    }
+
+    fn is_caught_up(&self) -> bool
+        ensures { result ≡ is_caught_up self.now }
+    {
+        self.under_way.is_none() && self.queue.is_empty() && self.repair().is_none()
     }
 
     /// The group that takes what was told to what is real; None where there is nothing to say.

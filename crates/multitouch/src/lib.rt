@@ -5,9 +5,14 @@
 pub mod contact;
 pub mod contacts;
 pub mod group;
+mod laws;
 mod panel;
 mod repair;
 
 pub use contact::Contact;
 pub use contacts::Contacts;
 pub use group::Group;
+pub use laws::{contacts_take_turns, groups_keep_up};
+
+#[cfg(test)]
+mod tests;

@@ -12,6 +12,6 @@ returns c =
     let contacts = items_below told.contacts real.contacts 16 in
     c.push.ensures
     ∙ ap (λ es. es ++ Syn ∷ []) (
-      c.push_contacts.ensures.contacts
-      ∙ ap (λ es. es ++ contacts) (c.push_keys-2.ensures.keys ∙ ap (λ es. es ++ pressed) (c.push_keys.ensures.keys ∙ ap (λ es. es ++ lifted) c.new-group.ensures))
-      ∙ append_assoc lifted pressed contacts)
+    c.push_contacts.ensures.contacts
+    ∙ ap (λ es. es ++ contacts) (c.push_keys-2.ensures.keys ∙ ap (λ es. es ++ pressed) (c.push_keys.ensures.keys ∙ ap (λ es. es ++ lifted) c.new-group.ensures))
+    ∙ append_assoc lifted pressed contacts)

@@ -14,7 +14,7 @@ invariant_of-self c =
     let has_joined = joined_items next inside.queue.items c.join.new.queue.items c.args.event c.join.result refl c.join.ensures.joins c.join.ensures.queue in (
       c.join.ensures.room,
       subst (λ real. IsSound (record { real = real; told = inside.told; queue = map group_of c.join.new.queue.items; gap = not c.join.result; under_way = inside.under_way })) (sym c.apply.ensures)
-      (subst (λ (k : Known). IsSound k) (sym has_joined) (sound_joined before c.args.event c.self.invariant.1 fits)),
+          (subst (λ (k : Known). IsSound k) (sym has_joined) (sound_joined before c.args.event c.self.invariant.1 fits)),
     )
 
 pub returns : goal.returns

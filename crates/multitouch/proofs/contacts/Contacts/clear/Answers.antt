@@ -6,7 +6,7 @@ use Rattle.multitouch.proofs.contacts.Contacts.clear.Goals as goal
 
 pub invariant_of-self : goal.invariant_of-self
 invariant_of-self c = (
-    ap (λ q. q.capacity) c.clear.ensures ∙ c.self.invariant.0,
-    subst (λ (k : Known). IsSound k)
-    (sym (λ i. record { real = c.new-self-inside.ensures i; told = c.new-self-inside-2.ensures i; queue = map group_of (c.clear.ensures i).items; gap = false; under_way = None })) sound_at_rest,
-  )
+  ap (λ q. q.capacity) c.clear.ensures ∙ c.self.invariant.0,
+  subst (λ (k : Known). IsSound k)
+      (sym (λ i. record { real = c.new-self-inside.ensures i; told = c.new-self-inside-2.ensures i; queue = map group_of (c.clear.ensures i).items; gap = false; under_way = None })) sound_at_rest,
+)

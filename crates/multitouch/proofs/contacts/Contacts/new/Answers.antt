@@ -6,7 +6,7 @@ use Rattle.multitouch.proofs.contacts.Contacts.new.Goals as goal
 
 pub invariant_of-result : goal.invariant_of-result
 invariant_of-result c = (
-    ap (λ q. q.capacity) c.in_ok-queue.ensures,
-    subst (λ (k : Known). IsSound k)
-    (sym (λ i. record { real = c.new.ensures i; told = c.new-2.ensures i; queue = map group_of (c.in_ok-queue.ensures i).items; gap = false; under_way = None })) sound_at_rest,
-  )
+  ap (λ q. q.capacity) c.in_ok-queue.ensures,
+  subst (λ (k : Known). IsSound k)
+      (sym (λ i. record { real = c.new.ensures i; told = c.new-2.ensures i; queue = map group_of (c.in_ok-queue.ensures i).items; gap = false; under_way = None })) sound_at_rest,
+)

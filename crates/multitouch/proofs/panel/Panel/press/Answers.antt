@@ -21,10 +21,10 @@ up c = ap (λ (p : Pressed). is_key_down p c.args.code) c.self.view_is ∙ c.req
 
 pub invariant_of-self : goal.invariant_of-self
 invariant_of-self c = (
-    subst IsRising (sym c.insert.ensures.items) (rising-insert c.self.inside.codes.items c.args.code c.place_of-at.result c.self.invariant.0 (at_place c) (up c)),
-    omega (arith, c.insert.ensures.len, len-keys_of c.self.inside.codes.items c.self.invariant.0, ap (λ (p : Pressed). map.len p.keys) c.self.view_is, c.requires.room),
-    c.self.invariant.2,
-  )
+  subst IsRising (sym c.insert.ensures.items) (rising-insert c.self.inside.codes.items c.args.code c.place_of-at.result c.self.invariant.0 (at_place c) (up c)),
+  omega (arith, c.insert.ensures.len, len-keys_of c.self.inside.codes.items c.self.invariant.0, ap (λ (p : Pressed). map.len p.keys) c.self.view_is, c.requires.room),
+  c.self.invariant.2,
+)
 
 pub returns : goal.returns
 returns c =

@@ -19,10 +19,10 @@ present c = ap (λ (p : Pressed). is_key_down p c.args.code) c.self.view_is ∙ 
 
 pub invariant_of-self : goal.invariant_of-self
 invariant_of-self c = (
-    subst IsRising (sym c.remove.ensures.items) (rising-remove c.self.inside.codes.items c.args.code c.place_of-at.result c.self.invariant.0 (at_place c) (present c)),
-    omega (arith, c.remove.ensures.len, c.self.invariant.1),
-    c.self.invariant.2,
-  )
+  subst IsRising (sym c.remove.ensures.items) (rising-remove c.self.inside.codes.items c.args.code c.place_of-at.result c.self.invariant.0 (at_place c) (present c)),
+  omega (arith, c.remove.ensures.len, c.self.invariant.1),
+  c.self.invariant.2,
+)
 
 pub returns : goal.returns
 returns c =

@@ -94,3 +94,20 @@ Fits Syn = Unit {0}
 -- an event comes back from its words
 abbrev pub EventsReadBack : Type 0
 EventsReadBack = (e : Event) → Fits e → event_of (event_words e) ≡ Some e
+
+-- no octet of these words of an event is set but those of its fields: a pressed key has 1 in its octet, and a SYN the contact 0
+abbrev pub IsPlain : Event → List ℕ → Type 0
+IsPlain (Motion x y z) words = (slice_index words 0 < 2 ^ 8) × (drop 4 words ≡ replicate 6 0)
+IsPlain (Key pressed code) words = (slice_index words 0 < 2 ^ 16) × (second_of words < 2) × (drop 2 words ≡ replicate 8 0)
+IsPlain (Position x y z) words = (slice_index words 0 < 2 ^ 8) × (drop 4 words ≡ replicate 6 0)
+IsPlain (Down contact x y) words = (slice_index words 0 < 2 ^ 24) × (slice_index words 1 ≡ 0) × (drop 4 words ≡ replicate 6 0)
+IsPlain (Up contact) words = (slice_index words 0 < 2 ^ 24) × (drop 1 words ≡ replicate 9 0)
+IsPlain (Move contact x y) words = (slice_index words 0 < 2 ^ 24) × (slice_index words 1 ≡ 0) × (drop 4 words ≡ replicate 6 0)
+IsPlain Syn words = (slice_index words 0 < 2 ^ 16) × (drop 1 words ≡ replicate 9 0)
+
+-- such words come back from their event
+abbrev pub WordsReadBack : Type 0
+WordsReadBack =
+    (a b c d : ℕ) (rest : List ℕ) (e : Event) → a < 2 ^ 32 → b < 2 ^ 32 → c < 2 ^ 32 → d < 2 ^ 32
+    → let words = a ∷ b ∷ c ∷ d ∷ rest in
+    event_of words ≡ Some e → IsPlain e words → event_words e ≡ words

@@ -4,7 +4,7 @@
 #![tactic(auto)]
 
 ghost use Rattle.std.specs.Prelude.{◌≡◌, ◌↔◌, IsNone};
-ghost use Rattle.kbd_wire.specs.Wire.{event_of, event_words, is_set, touch_at, touch_words, axes_words, EventsReadBack, IsNoEvent};
+ghost use Rattle.kbd_wire.specs.Wire.{event_of, event_words, is_set, touch_at, touch_words, axes_words, EventsReadBack, IsNoEvent, WordsReadBack};
 
 mod fields;
 
@@ -118,6 +118,11 @@ fn decode_touch(kind: u8, contact: u8, w: &[u32; 10]) -> Option<Event>
 /// An event comes back from its words.
 pub fn events_read_back()
     ensures { EventsReadBack }
+{}
+
+/// Words of an event come back from it, where no octet is set but those of its fields.
+pub fn words_read_back()
+    ensures { WordsReadBack }
 {}
 
 #[cfg(test)]

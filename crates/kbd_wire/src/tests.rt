@@ -30,6 +30,7 @@ fn writes_and_reads_each_event(rt: HostRuntime) {
         assert_eq!(rt; decode(&words), Some(event));
     }
     events_read_back();
+    words_read_back();
 }
 
 #[test]

@@ -160,10 +160,8 @@ fn tells_a_lift_that_found_no_room(rt: HostRuntime) -> Result<(), Fail> {
     contacts.take(Touch::Up(1))?;
     contacts.take(Touch::Down(1, 5, 5))?;
     if let Some(group) = contacts.under_way() {
-        assert_eq!(rt;
-            group.events(),
-            &[Event::Up(0), Event::Down(1, 5, 5), Event::Syn]
-        );
+        let told = [Event::Up(0), Event::Down(1, 5, 5), Event::Syn];
+        assert_eq!(rt; group.events(), told.as_slice());
     }
     assert!(rt; contacts.under_way().is_some());
     contacts.published();

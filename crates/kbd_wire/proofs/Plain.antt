@@ -1,10 +1,10 @@
 -- Words in which no octet is set but those of an event's fields are those of the event.
-use Rattle.std.proofs.Common.{◌≡◌, ℕ, ◌+◌, ◌*◌, ◌/◌, ◌%◌, ◌^◌, ◌<◌, Bool, true, false, cond, not, ◌==◌, List, [], ◌∷◌, replicate, Option, Some, None, refl, sym, ap, ◌∙◌, subst, arith, w32, slice_index, ℤ, pos}
+use Rattle.std.proofs.Common.{◌≡◌, ℕ, ◌/◌, ◌%◌, ◌^◌, ◌<◌, Bool, true, false, cond, not, ◌==◌, List, ◌∷◌, replicate, Some, None, refl, sym, ap, ◌∙◌, subst, arith, w32}
 use Rattle.std.proofs.lemmas.Bool.Decides.{Decides-eqb}
 use Rattle.std.proofs.lemmas.Int.{of_z-to_z}
 use Rattle.kbd_wire.specs.declared.Event.{Event}
 use Rattle.kbd_wire.specs.declared.Event.TheVariants.{Motion, Key, Position, Down, Up, Move, Syn}
-use Rattle.kbd_wire.specs.Wire.{event_of, event_words, head_of, is_set, kind_of, second_of, signed_at, third_of, touch_at, word_of, IsPlain, WordsReadBack}
+use Rattle.kbd_wire.specs.Wire.{event_words, head_of, is_set, signed_at, touch_at, word_of, IsPlain, WordsReadBack}
 
 head_one : (a k : ℕ) → a < 2 ^ 8 → a % 2 ^ 8 ≡ k → head_of k 0 0 ≡ a
 head_one a k h is = omega arith
@@ -22,8 +22,8 @@ number_of_set s h =
       | false ↦ λ e. let above = λ (z : s ≡ 0). not_both (sym e ∙ (Decides-eqb s 0).1 z) in omega (arith, above)
     ] refl
   where
-  not_both : false ≡ true → ⊥
-  not_both h = absurd (cc)
+    not_both : false ≡ true → ⊥
+    not_both h = absurd (cc)
 
 module _ (a b c d : ℕ) (rest : List ℕ) (b_fits : b < 2 ^ 32) (c_fits : c < 2 ^ 32) (d_fits : d < 2 ^ 32) where
   Back : Event → Type 0
@@ -58,8 +58,8 @@ module _ (a b c d : ℕ) (rest : List ℕ) (b_fits : b < 2 ^ 32) (c_fits : c < 2
   read e true b3 b4 b5 k1 k3 k4 k5 h = same _ e (λ plain. axes 1 plain.0 (is_kind 1 k1) plain.1) h
   read e false true b4 b5 k1 k3 k4 k5 h =
       same _ e (λ plain.
-        let set : cond (is_set (a / 2 ^ 8 % 2 ^ 8)) 1 0 ≡ a / 2 ^ 8 % 2 ^ 8 = number_of_set (a / 2 ^ 8 % 2 ^ 8) plain.1 in
-        λ i. (ap (λ s. head_of 3 s 0) set ∙ head_two a 3 (a / 2 ^ 8 % 2 ^ 8) plain.0 (is_kind 3 k3) refl) i ∷ b ∷ sym plain.2 i) h
+      let set : cond (is_set (a / 2 ^ 8 % 2 ^ 8)) 1 0 ≡ a / 2 ^ 8 % 2 ^ 8 = number_of_set (a / 2 ^ 8 % 2 ^ 8) plain.1 in
+      λ i. (ap (λ s. head_of 3 s 0) set ∙ head_two a 3 (a / 2 ^ 8 % 2 ^ 8) plain.0 (is_kind 3 k3) refl) i ∷ b ∷ sym plain.2 i) h
   read e false false true b5 k1 k3 k4 k5 h = same _ e (λ plain. axes 4 plain.0 (is_kind 4 k4) plain.1) h
   read e false false false true k1 k3 k4 k5 h = touched e _ _ _ _ (is_kind 5 k5) refl refl refl refl h
   read e false false false false k1 k3 k4 k5 h = absurd (cc)

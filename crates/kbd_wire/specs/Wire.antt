@@ -1,6 +1,6 @@
 -- The events of kbdif.h of Xen's public headers, as lists of ten words. A word is a number below 2 ^ 32, stored with its low
 -- octet first.
-use Rattle.std.specs.Prelude.{◌≡◌, ◌≢◌, ℕ, ◌+◌, ◌*◌, ◌/◌, ◌%◌, ◌^◌, ◌<◌, ◌⊎◌, ℤ, pos, FitsSigned, List, [], ◌∷◌, ◌++◌, drop, slice_index, replicate, if◌then◌else◌, ◌==◌, Bool, true, false, not, Option, Some, None}
+use Rattle.std.specs.Prelude.{◌≡◌, ◌≢◌, ℕ, ◌+◌, ◌*◌, ◌/◌, ◌%◌, ◌^◌, ◌<◌, ◌⊎◌, ℤ, pos, FitsSigned, List, ◌∷◌, drop, slice_index, replicate, if◌then◌else◌, ◌==◌, Bool, not, Option, Some, None}
 use Rattle.std.specs.Int.{w32, cast_signed, cast_unsigned}
 use Rattle.kbd_wire.specs.declared.Event.{Event}
 use Rattle.kbd_wire.specs.declared.Event.TheVariants.{Motion, Key, Position, Down, Up, Move, Syn}

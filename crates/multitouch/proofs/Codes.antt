@@ -1,5 +1,5 @@
 -- The codes of keys that rise, as a set: which are in it, where one is put in, and where one is taken out.
-use Rattle.std.proofs.Common.{◌≡◌, ℕ, suc, ◌+◌, ◌<◌, ◌≤◌, Bool, true, false, cond, not, ◌&&◌, ◌||◌, List, [], ◌∷◌, map, length, nat_lt, nat_eq, refl, sym, ap, ◌∙◌, subst, arith, T, nat_cmp, take, drop, one-add, Ordering, Less, Equal, Greater, is_eq, is_lt, ◌==◌, Option, Some, None}
+use Rattle.std.proofs.Common.{◌≡◌, ℕ, suc, ◌+◌, ◌<◌, ◌≤◌, Bool, true, false, cond, not, ◌&&◌, ◌||◌, List, [], ◌∷◌, map, length, nat_lt, nat_eq, refl, sym, ap, ◌∙◌, subst, arith, T, nat_cmp, one-add, Less, Equal, Greater, is_eq, is_lt, Option, None}
 use Rattle.std.proofs.lemmas.Bool.{lt-ltb, le-ltb}
 use Rattle.std.proofs.lemmas.List.Recursion.{is_count_by}
 use Rattle.multitouch.proofs.Slots.{untied}

@@ -1,14 +1,12 @@
 -- What is said of contacts, one after another.
-use Rattle.std.proofs.Common.{◌≡◌, ℕ, zero, suc, ◌+◌, ◌<◌, ◌≤◌, Bool, true, false, cond, ◌&&◌, ◌==◌, List, [], ◌∷◌, ◌++◌, nat_lt, Option, Some, None, is_some, refl, sym, ap, ◌∙◌, subst, arith, eq-eqb, int_eq}
+use Rattle.std.proofs.Common.{◌≡◌, ℕ, zero, suc, ◌<◌, ◌≤◌, Bool, true, false, cond, ◌&&◌, ◌==◌, [], ◌∷◌, nat_lt, Option, Some, None, is_some, refl, sym, ap, ◌∙◌, subst, arith, int_eq}
 use Rattle.std.proofs.lemmas.Bool.{lt-ltb, le-ltb}
 use Rattle.std.proofs.lemmas.Bool.Decides.{Decides-eqb, Decides-int_eq, nat_tests}
 use Rattle.std.specs.FinMap as finite
-use Rattle.kbd_wire.specs.declared.Event.{Event}
-use Rattle.kbd_wire.specs.declared.Event.TheVariants.{Down, Up, Move}
-use Rattle.pv_words.specs.declared.device.HostRefusal.{HostRefusal}
+use Rattle.kbd_wire.specs.declared.Event.TheVariants.{Move}
 use Rattle.pv_words.specs.declared.device.HostRefusal.TheVariants.{AlreadyDown, NotDown, TooMany}
 use Rattle.multitouch.specs.declared.contact.Contact.{Contact}
-use Rattle.multitouch.specs.Pressed.{ContactMap, KeySet, Pressed, after, down_refusal, is_down, lift_refusal, Accepts}
+use Rattle.multitouch.specs.Pressed.{ContactMap, Pressed, after, is_down, lift_refusal, Accepts}
 use Rattle.multitouch.specs.Repair.{is_same, item, items_below}
 use Rattle.multitouch.proofs.Events.{after-append, accepts_both}
 use Rattle.multitouch.proofs.Slots.{get-with_contact}

@@ -1,17 +1,16 @@
 -- What holds of a history holds of what happens next.
-use Rattle.std.proofs.Common.{◌≡◌, ℕ, ◌+◌, ◌<◌, ◌≤◌, Bool, true, false, cond, not, ◌&&◌, ◌||◌, ◌==◌, List, [], ◌∷◌, ◌++◌, length, nat_lt, Option, Some, None, is_none, refl, sym, ap, ◌∙◌, subst, arith}
+use Rattle.std.proofs.Common.{◌≡◌, Bool, true, false, cond, not, ◌&&◌, ◌==◌, List, [], ◌∷◌, ◌++◌, length, nat_lt, Option, Some, None, is_none, refl, sym, ap, ◌∙◌, subst, arith}
 use Rattle.std.proofs.lemmas.Bool.Decides.{nat_tests}
 use Rattle.kbd_wire.specs.declared.Event.{Event}
-use Rattle.pv_words.specs.declared.device.HostRefusal.{HostRefusal}
 use Rattle.multitouch.specs.History.{History, Move, closed_by, followed, history_from, start, IsAimed, IsKept}
 use Rattle.multitouch.specs.History as move
-use Rattle.multitouch.specs.Known.{Known, accepted, begun, behind, given_up, group_of, heard, is_caught_up, is_due, joined, let_go, next_group, oldest_or, published, settled, told_after, unless}
+use Rattle.multitouch.specs.Known.{Known, accepted, begun, behind, group_of, is_caught_up, is_due, let_go, oldest_or, settled, told_after, unless}
 use Rattle.multitouch.specs.Pressed.{Pressed, nothing, after, after_event, refusal_of, Accepts}
 use Rattle.multitouch.specs.Repair.{is_told, repair_of}
 use Rattle.multitouch.specs.Sound.{events_of, IsChosen, IsSound}
 use Rattle.multitouch.proofs.Events.{accepts_both, after-append}
 use Rattle.multitouch.proofs.Mending.{repair_mends}
-use Rattle.multitouch.proofs.Soundness.{chosen_accepted, nothing_bounded, sound_at_rest, sound_begun, sound_idle, sound_joined, sound_let_go, sound_settled}
+use Rattle.multitouch.proofs.Soundness.{chosen_accepted, sound_at_rest, sound_begun, sound_idle, sound_joined, sound_let_go, sound_settled}
 
 kept_start : IsKept start
 kept_start = record { sound = sound_at_rest; gap = λ h. absurd (cc); aimed = tt; differs = λ h. absurd (cc); in_turn = tt; told = refl }

@@ -1,15 +1,14 @@
 -- Keys that come up and go down, one after another.
-use Rattle.std.proofs.Common.{◌≡◌, ℕ, ◌+◌, ◌<◌, ◌≤◌, Bool, true, false, cond, not, ◌&&◌, ◌||◌, List, [], ◌∷◌, map, length, nat_lt, nat_cmp, Option, Some, None, is_some, refl, sym, ap, ◌∙◌, subst, arith}
+use Rattle.std.proofs.Common.{◌≡◌, ℕ, ◌+◌, ◌≤◌, Bool, true, false, cond, not, ◌||◌, List, [], ◌∷◌, map, length, nat_lt, nat_cmp, Option, Some, None, is_some, refl, sym, ap, ◌∙◌, arith}
 use Rattle.std.proofs.lemmas.Bool.{lt-ltb}
 use Rattle.std.specs.List.{list_any}
 use Rattle.std.specs.Ordering.{eq_by_cmp}
 use Rattle.std.specs.Cmp.{nat_cmp_total, Equal-is}
 use Rattle.std.specs.FinMap as finite
 use Rattle.kbd_wire.specs.declared.Event.TheVariants.{Key}
-use Rattle.pv_words.specs.declared.device.HostRefusal.{HostRefusal}
 use Rattle.pv_words.specs.declared.device.HostRefusal.TheVariants.{KeyIsDown, KeyIsUp, TooManyKeys}
 use Rattle.multitouch.specs.Panel.{IsRising}
-use Rattle.multitouch.specs.Pressed.{KeySet, Pressed, after, press_refusal, release_refusal, Accepts}
+use Rattle.multitouch.specs.Pressed.{KeySet, Pressed, after, Accepts}
 use Rattle.multitouch.specs.Repair.{codes_without}
 use Rattle.multitouch.proofs.Codes.{rising_apart, rising_rest}
 use Rattle.multitouch.proofs.Slots.{tied}

@@ -1,11 +1,11 @@
 -- A repair takes what was told to what is real, by events that can be.
-use Rattle.std.proofs.Common.{◌≡◌, ℕ, ◌+◌, ◌<◌, ◌≤◌, Bool, true, false, cond, not, ◌==◌, List, [], ◌∷◌, ◌++◌, map, length, nat_lt, Option, Some, None, is_some, refl, sym, ap, ◌∙◌, subst, arith}
+use Rattle.std.proofs.Common.{◌≡◌, ℕ, ◌+◌, ◌≤◌, Bool, true, false, cond, List, [], ◌∷◌, ◌++◌, map, length, nat_lt, Option, Some, None, is_some, refl, sym, ap, ◌∙◌, arith}
 use Rattle.std.proofs.lemmas.Bool.{ltb-false}
 use Rattle.std.specs.Cmp.{nat_cmp_total}
 use Rattle.std.specs.FinMap as finite
 use Rattle.kbd_wire.specs.declared.Event.{Event}
 use Rattle.kbd_wire.specs.declared.Event.TheVariants.{Key, Syn}
-use Rattle.multitouch.specs.Pressed.{ContactMap, KeySet, Pressed, after, Accepts, IsBounded}
+use Rattle.multitouch.specs.Pressed.{KeySet, Pressed, after, Accepts, IsBounded}
 use Rattle.multitouch.specs.Repair.{changes, codes_without, items_below, repair_of}
 use Rattle.multitouch.proofs.Codes.{rising-keys}
 use Rattle.multitouch.proofs.ContactChanges.{items_accepted, items_said}

@@ -1,12 +1,11 @@
 -- What holds of what a device knows stays so, whatever it is told and however a Publish ends.
-use Rattle.std.proofs.Common.{◌≡◌, ℕ, ◌+◌, ◌<◌, ◌≤◌, Bool, true, false, cond, not, ◌&&◌, ◌||◌, ◌==◌, List, [], ◌∷◌, ◌++◌, length, nat_lt, Option, Some, None, is_none, refl, sym, ap, ◌∙◌, subst, arith, length-append, append-nil, append_assoc, nat_cmp, map, drop, slice_get}
+use Rattle.std.proofs.Common.{◌≡◌, ◌≤◌, Bool, true, false, cond, not, ◌&&◌, ◌||◌, ◌==◌, List, [], ◌∷◌, ◌++◌, length, nat_lt, Option, Some, None, is_none, refl, sym, ap, ◌∙◌, subst, arith, length-append, append-nil, append_assoc, nat_cmp, map, drop, slice_get}
 use Rattle.std.proofs.lemmas.Bool.{ltb-true}
 use Rattle.std.proofs.lemmas.List.{map-append, length-map}
 use Rattle.std.proofs.lemmas.Bool.Decides.{Decides-eqb}
 use Rattle.std.specs.FinMap as finite
 use Rattle.kbd_wire.specs.declared.Event.{Event}
 use Rattle.kbd_wire.specs.declared.Event.TheVariants.{Motion, Key, Position, Down, Up, Move, Syn}
-use Rattle.multitouch.specs.declared.contact.Contact.{Contact}
 use Rattle.multitouch.specs.Known.{Known, at_rest, begun, behind, group_of, is_caught_up, is_due, joined, let_go, oldest_or, settled, told_after}
 use Rattle.multitouch.specs.Pressed.{Pressed, after, after_event, nothing, refusal_of, Accepts, IsBounded}
 use Rattle.multitouch.specs.Repair.{is_told, repair_of}
@@ -216,3 +215,12 @@ let_go_of k items rest told group under_way queue is chosen follows none =
     let now : told ≡ told_after k.told k.under_way = follows ∙ sym (ap (told_after k.told) chosen) in
     let left : map group_of rest ≡ behind k.queue = ap (map group_of) is ∙ behind-map items ∙ ap behind queue in
     λ i. record { real = k.real; told = now i; queue = left i; gap = k.gap; under_way = none i }
+
+closed_gap : (gap up : Bool) → up ≡ true → (gap && not up) ≡ false
+closed_gap true true h = refl
+closed_gap true false h = absurd (cc)
+closed_gap false up h = refl
+
+-- a gap that is gone
+pub sound_closed : (k : Known) → IsSound k → is_caught_up k ≡ true → IsSound (record k { gap = false })
+sound_closed k sound up = subst (λ gap. IsSound (record k { gap = gap })) (closed_gap k.gap (is_caught_up k) up) (sound_settled k sound)

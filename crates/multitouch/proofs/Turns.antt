@@ -6,7 +6,6 @@ use Rattle.std.specs.Cmp.{nat_eq_equiv}
 use Rattle.std.specs.FinMap as finite
 use Rattle.kbd_wire.specs.declared.Event.{Event}
 use Rattle.kbd_wire.specs.declared.Event.TheVariants.{Motion, Key, Position, Down, Up, Move, Syn}
-use Rattle.pv_words.specs.declared.device.HostRefusal.{HostRefusal}
 use Rattle.pv_words.specs.declared.device.HostRefusal.TheVariants.{AlreadyDown, NotDown, TooMany}
 use Rattle.multitouch.specs.declared.contact.Contact.{Contact}
 use Rattle.multitouch.specs.History.{TakeTurns}

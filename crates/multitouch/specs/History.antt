@@ -1,11 +1,11 @@
 -- What can happen to what a device knows, one after another, and what always holds of it.
-use Rattle.std.specs.Prelude.{◌≡◌, ℕ, Bool, true, false, not, List, [], ◌∷◌, ◌++◌, length, Option, Some, None, is_none, if◌then◌else◌, ◌&&◌, ◌==◌}
+use Rattle.std.specs.Prelude.{◌≡◌, ℕ, Bool, true, false, List, [], ◌∷◌, ◌++◌, length, Option, Some, None, is_none, if◌then◌else◌, ◌&&◌, ◌==◌}
 use Rattle.std.specs.Bool.{MatchBool}
 use Rattle.kbd_wire.specs.declared.Event.{Event}
 use Rattle.kbd_wire.specs.declared.Event.TheVariants.{Motion, Key, Position, Down, Up, Move as Moved, Syn}
 use Rattle.multitouch.specs.Known.{Known, at_rest, begun, given_up, heard, is_due, published}
 use Rattle.multitouch.specs.Pressed.{Pressed, nothing, after, Accepts}
-use Rattle.multitouch.specs.Repair.{is_told, repair_of}
+use Rattle.multitouch.specs.Repair.{is_told}
 use Rattle.multitouch.specs.Sound.{events_of, IsSound}
 
 -- a host tells an event; a Publish begins, and ends with its group published, or without that; a connection is closed

@@ -1,6 +1,6 @@
 -- What a device of contacts and keys knows: what is real and what was told, the groups of events that wait, and whether there
 -- is a gap, since some group was dropped.
-use Rattle.std.specs.Prelude.{◌≡◌, ℕ, nat_lt, Bool, true, false, not, List, [], ◌∷◌, ◌++◌, length, Option, Some, None, is_none, Result, Ok, Err, if◌then◌else◌, refl, ◌&&◌, ◌||◌, ◌==◌}
+use Rattle.std.specs.Prelude.{nat_lt, Bool, true, false, not, List, [], ◌∷◌, ◌++◌, map, length, Option, Some, None, is_none, Result, Ok, Err, if◌then◌else◌, refl, ◌&&◌, ◌||◌, ◌==◌}
 use Rattle.std.specs.Coded.{Coded, code_by, coded×, coded_bool, coded_list, coded_option}
 use Rattle.kbd_wire.specs.declared.Event.{Event}
 use Rattle.kbd_wire.specs.declared.Event.TheVariants.{Motion, Key, Position, Down, Up, Move, Syn}
@@ -38,10 +38,15 @@ pub record Known : Type 0 where
 
 abbrev pub known_code : Coded Known
 known_code =
+    let events = coded_list event.the_row.coded in
     code_by ((Pressed × Pressed) × ((List (List Event) × Bool) × Option (List Event)))
-    (coded× (coded× pressed_code pressed_code) (coded× (coded× (coded_list (coded_list event.the_row.coded)) coded_bool) (coded_option (coded_list event.the_row.coded))))
+    (coded× (coded× pressed_code pressed_code) (coded× (coded× (coded_list events) coded_bool) (coded_option events)))
     (λ k. ((k.real, k.told), ((k.queue, k.gap), k.under_way)))
     (λ p. record { real = p.0.0; told = p.0.1; queue = p.1.0.0; gap = p.1.0.1; under_way = p.1.1 }) (λ _. refl)
+
+-- what is known, where of each group that waits the first event is kept
+abbrev pub known_of : Pressed → Pressed → List Event → Bool → Option (List Event) → Known
+known_of real told first gap under_way = record { real = real; told = told; queue = map group_of first; gap = gap; under_way = under_way }
 
 -- nothing is down, and nothing waits
 abbrev pub at_rest : Known

@@ -1,5 +1,5 @@
 -- What is down, as a panel keeps it: a slot for each contact, and the codes of keys in rising order.
-use Rattle.std.specs.Prelude.{◌≡◌, ℕ, suc, ◌≤◌, List, [], ◌∷◌, map, length, Option, Some, None, IsTrue, count_by, nat_lt, if◌then◌else◌, not}
+use Rattle.std.specs.Prelude.{ℕ, suc, List, [], ◌∷◌, map, Option, Some, None, IsTrue, count_by, nat_lt, if◌then◌else◌, not}
 use Rattle.std.specs.Ordering.{nat_cmp}
 use Rattle.std.specs.FinMap as finite
 use Rattle.multitouch.specs.declared.contact.Contact.{Contact}

@@ -6,6 +6,7 @@ ghost use Rattle.std.specs.Option.{option_copied};
 ghost use Rattle.multitouch.specs.Known.{accepted, at_rest, begun, event_of, given_up, heard, is_caught_up, is_due, next_group, published, refusal_in, settled};
 ghost use Rattle.multitouch.specs.Pressed.{after, refusal_of, Accepts};
 ghost use Rattle.multitouch.specs.Repair.{is_told, repair_of};
+ghost use Rattle.multitouch.specs.Sound.{IsSound};
 
 use crate::group::Group;
 use crate::panel::Panel;
@@ -32,17 +33,17 @@ pub struct Contacts {
 }
 
 impl Model for Contacts {
-    ghost use Rattle.std.specs.Prelude.{◌≡◌, map};
-    ghost use Rattle.multitouch.specs.Known.{Known, group_of, known_code};
+    ghost use Rattle.std.specs.Prelude.{◌≡◌};
+    ghost use Rattle.multitouch.specs.Known.{Known, known_code, known_of};
     ghost use Rattle.multitouch.specs.Sound.{IsSound};
 
     ghost Value = { Known };
 
     ghost coded = { known_code };
 
-    ghost view = { λ c. record { real = c.real; told = c.told; queue = map group_of c.queue.items; gap = c.has_gap; under_way = c.under_way } };
+    ghost view = { λ c. known_of c.real c.told c.queue.items c.has_gap c.under_way };
 
-    ghost invariant = { λ c. (c.queue.capacity ≡ 16) × IsSound (record { real = c.real; told = c.told; queue = map group_of c.queue.items; gap = c.has_gap; under_way = c.under_way }) };
+    ghost invariant = { λ c. (c.queue.capacity ≡ 16) × IsSound (known_of c.real c.told c.queue.items c.has_gap c.under_way) };
 }
 
 impl Contacts {
@@ -128,6 +129,7 @@ impl Contacts {
         }
     }
 
+    // Whether there is nothing left to say of a gap.
     fn is_caught_up(&self) -> bool
         ensures { result ≡ is_caught_up self.now }
     {
@@ -153,7 +155,8 @@ impl Contacts {
 
     /// Whether something is to be published: a group waits, or there is a gap.
     pub fn is_due(&self) -> bool
-        ensures { result ≡ is_due self.now }
+        ensures due { result ≡ is_due self.now }
+        ensures sound { IsSound self.now }
     {
         !self.queue.is_empty() || self.has_gap
     }

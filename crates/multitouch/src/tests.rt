@@ -171,5 +171,7 @@ fn tells_a_lift_that_found_no_room(rt: HostRuntime) -> Result<(), Fail> {
     assert!(rt; !contacts.is_due());
     contacts.clear();
     assert_eq!(rt; contacts.take(Touch::Up(1)), Err(HostRefusal::NotDown(1)));
+    groups_keep_up();
+    contacts_take_turns();
     Ok(())
 }

@@ -1,4 +1,4 @@
-use Rattle.std.proofs.Common.{ap, ◌∙◌, subst, is_some}
+use Rattle.std.proofs.Common.{ap, subst, is_some}
 use Rattle.std.specs.Ordering.{nat_cmp}
 use Rattle.std.specs.FinMap as finite
 use Rattle.multitouch.specs.History.{TakeTurns, history_from, start}

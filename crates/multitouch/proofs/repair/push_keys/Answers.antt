@@ -1,4 +1,4 @@
-use Rattle.std.proofs.Common.{List, ℕ, ◌++◌, not, sym, ap, ◌∙◌, map, take, take_all}
+use Rattle.std.proofs.Common.{List, ℕ, ◌++◌, not, sym, ap, ◌∙◌, map, take_all}
 use Rattle.std.specs.List.{filter}
 use Rattle.kbd_wire.specs.declared.Event.TheVariants.{Key}
 use Rattle.multitouch.specs.Pressed.{is_key_down}

@@ -1,4 +1,4 @@
-use Rattle.std.proofs.Common.{◌++◌, ◌∷◌, [], true, false, sym, ap, ◌∙◌, map, append_assoc}
+use Rattle.std.proofs.Common.{◌++◌, ◌∷◌, [], true, false, ap, ◌∙◌, map, append_assoc}
 use Rattle.kbd_wire.specs.declared.Event.TheVariants.{Key, Syn}
 use Rattle.multitouch.specs.Repair.{codes_without, items_below}
 use Rattle.multitouch.proofs.repair.repair_group.Goals as goal

@@ -1,5 +1,5 @@
-use Rattle.std.proofs.Common.{sym, ap, ◌∙◌, subst, map, false, None}
-use Rattle.multitouch.specs.Known.{Known, at_rest, group_of}
+use Rattle.std.proofs.Common.{sym, ap, subst, map, false, None}
+use Rattle.multitouch.specs.Known.{Known, group_of}
 use Rattle.multitouch.specs.Sound.{IsSound}
 use Rattle.multitouch.proofs.Soundness.{sound_at_rest}
 use Rattle.multitouch.proofs.contacts.Contacts.new.Goals as goal

@@ -1,7 +1,6 @@
-use Rattle.std.proofs.Common.{◌≡◌, true, false, sym, ap, ◌∙◌, subst, arith, length, refl}
+use Rattle.std.proofs.Common.{◌≡◌, sym, ap, ◌∙◌, subst, arith, length, refl}
 use Rattle.multitouch.specs.Known.{Known}
 use Rattle.multitouch.specs.Pressed.{after, Accepts}
-use Rattle.multitouch.specs.Repair.{repair_of}
 use Rattle.multitouch.proofs.Mending.{repair_accepted, repair_mends}
 use Rattle.multitouch.proofs.Told.{nothing_said, something_said}
 use Rattle.multitouch.proofs.contacts.Contacts.repair.Goals as goal

@@ -1,4 +1,4 @@
-use Rattle.std.proofs.Common.{sym, ap, ◌∙◌, arith, length}
+use Rattle.std.proofs.Common.{sym, ap, ◌∙◌, arith}
 use Rattle.std.specs.FinMap as map
 use Rattle.multitouch.proofs.Slots.{contact_in, contact_past}
 use Rattle.multitouch.proofs.panel.Panel.contact.Goals as goal

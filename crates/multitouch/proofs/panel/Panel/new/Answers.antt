@@ -1,4 +1,4 @@
-use Rattle.std.proofs.Common.{ap, ◌∙◌, []}
+use Rattle.std.proofs.Common.{ap, ◌∙◌}
 use Rattle.std.specs.FinMap as finite
 use Rattle.multitouch.specs.Panel.{keys_of}
 use Rattle.multitouch.proofs.Codes.{no_keys}

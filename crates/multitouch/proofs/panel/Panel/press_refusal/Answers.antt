@@ -1,7 +1,6 @@
-use Rattle.std.proofs.Common.{◌≡◌, ℕ, false, sym, ap, ◌∙◌, arith, cond, Some, None, Option, Bool, nat_lt, length}
+use Rattle.std.proofs.Common.{◌≡◌, ℕ, false, sym, ap, ◌∙◌, arith, cond, Some, None, Bool, nat_lt}
 use Rattle.std.proofs.lemmas.Bool.{lt-ltb, le-ltb}
 use Rattle.std.specs.FinMap as map
-use Rattle.pv_words.specs.declared.device.HostRefusal.{HostRefusal}
 use Rattle.pv_words.specs.declared.device.HostRefusal.TheVariants.{KeyIsDown, TooManyKeys}
 use Rattle.multitouch.specs.Pressed.{Pressed, is_key_down, press_refusal}
 use Rattle.multitouch.proofs.Codes.{len-keys_of}

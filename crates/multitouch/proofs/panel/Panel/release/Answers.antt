@@ -1,4 +1,4 @@
-use Rattle.std.proofs.Common.{◌≡◌, true, sym, ap, ◌∙◌, subst, arith, length, List, ℕ}
+use Rattle.std.proofs.Common.{◌≡◌, true, sym, ap, ◌∙◌, subst, arith, List, ℕ}
 use Rattle.std.specs.FinMap as map
 use Rattle.multitouch.specs.Panel.{contacts_of, keys_of, place, IsRising}
 use Rattle.multitouch.specs.Pressed.{Pressed, is_key_down}

@@ -1,0 +1,11 @@
+mod Codes
+mod ContactChanges
+mod Events
+mod Histories
+mod KeyChanges
+mod Keys
+mod Mending
+mod Slots
+mod Soundness
+mod Told
+mod Turns

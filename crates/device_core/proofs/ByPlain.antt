@@ -53,9 +53,11 @@ module _ {S W O N R E : Type 0} (r : Rules W O) (d : Reading S W O N R E) (May :
         Tells = Tells;
         Meets = λ w want note. IsUntouched note;
         begins = λ w x p s o. let b = plain.begins w x p s o in (b.0, λ k t. fits_carried x k p t.1 (b.1 k.own t.0));
-        begins_run = λ w x p v s t n o. let b = plain.begins_run w x p v.naming v.sight s n o in
-            (b.0, subst (λ m. IsRun (HappensTo (is_worded v.sight) d.table) (shown r d w v) (d.began w v.naming) m) (untouched x v t.1)
-                (subst (λ m. IsRun (HappensTo (is_worded v.sight) d.table) m (d.began w v.naming) (shown_as r d x v.naming v.sight [])) (untouched w v t.1) b.1));
+        begins_run = λ w x p v s t n o. let b = plain.begins_run w x p v.naming v.sight s n o in (
+          b.0,
+          subst (λ m. IsRun (HappensTo (is_worded v.sight) d.table) (shown r d w v) (d.began w v.naming) m) (untouched x v t.1)
+              (subst (λ m. IsRun (HappensTo (is_worded v.sight) d.table) m (d.began w v.naming) (shown_as r d x v.naming v.sight [])) (untouched w v t.1) b.1),
+        );
         settles = λ w o k s q. plain.settles w o k.own s q.0;
         rests = λ w x s e. let b = plain.rests w x s e in (b.0, λ k t. ((b.1 k.own t.0, t.1), λ n i. ((b.2 n i).0, stays w x n k.touched t.1 (b.2 n i).1)));
         tells = λ w o k t n s q i e. let b = plain.tells w o k.own t n s q.0 i e in

@@ -74,7 +74,7 @@ module _ {X A V Y M : Type 0} (D : Lawful X A V Y M) where
         let same : all_refs t.kind w.seen 0 parts ≡ refs = ap (λ k. all_refs k w.seen 0 parts) (sym l.kind_is) in
         let plan = connect_all (site D) refs in
         let fits = λ (k : Carried Learned) (e : Tells s w k).
-            plain_fits D new k plan (subst (λ (x : Holds). Fit frames grants dom (EndsSo D new) x plan) (sym (bare_pages bare k.own.holds e.0)) (fits_all D new sane refl still bare.1 refs same)) (found_all D new refl none refs k.own.found same) in
+        plain_fits D new k plan (subst (λ (x : Holds). Fit frames grants dom (EndsSo D new) x plan) (sym (bare_pages bare k.own.holds e.0)) (fits_all D new sane refl still bare.1 refs same)) (found_all D new refl none refs k.own.found same) in
         chosen D w v new p plan (λ n. begins_by s t r w n action.Connect)
         (sane, fits, (λ n sight ts named. (named, (shown_of D new n sight ts, record { free = refl; move = (still, a, refl); names = refl; touched = refl; owes = refl }, refl)))) o
 

@@ -118,9 +118,9 @@ module _ {X A V Y M : Type 0} (D : Lawful X A V Y M) where
           let new : Work X V = record w { service = y } in
           let sane : IsSane D new = record { own = q.own; whole = q.whole; sane = b.0; opened = inr (serving, subst (λ (z : Option Hand). l.Has (is_some z) y) (sym has) b.1); kept = q.kept } in
           let fits = λ (c : Carried Learned) (e : Tells s w c).
-              fits_mapped (λ (j : Carried Learned) want note. IsProper frames grants dom j.own.holds want note × l.Meets y want note) (carrying (learning frames)) (λ a. Own a) (λ (j : Carried Learned) o. Tells s (settled s (site D) new o) j × EndsWell D new j o) c x
-              (fits_so (λ (j : Carried Learned) want note. IsProper frames grants dom j.own.holds want note × l.Meets y want note) (carrying (learning frames)) (λ (j : Carried Learned) a. AreHeld j.own.holds (s.pages (s.after y a) ++ all_pages w.parts) × l.EndsOwn y j.own.found j.touched a) (λ (j : Carried Learned) a. Tells s (settled s (site D) new (Own a)) j × EndsWell D new j (Own a))
-              (λ j a g. ((g.0, (λ why i. absurd (no_reason w.kept why none i))), ((serving, (h, has), b.1), g.1))) c x (b.2 (all_pages w.parts) c e.0)) in (
+          fits_mapped (λ (j : Carried Learned) want note. IsProper frames grants dom j.own.holds want note × l.Meets y want note) (carrying (learning frames)) (λ a. Own a) (λ (j : Carried Learned) o. Tells s (settled s (site D) new o) j × EndsWell D new j o) c x
+          (fits_so (λ (j : Carried Learned) want note. IsProper frames grants dom j.own.holds want note × l.Meets y want note) (carrying (learning frames)) (λ (j : Carried Learned) a. AreHeld j.own.holds (s.pages (s.after y a) ++ all_pages w.parts) × l.EndsOwn y j.own.found j.touched a) (λ (j : Carried Learned) a. Tells s (settled s (site D) new (Own a)) j × EndsWell D new j (Own a))
+          (λ j a g. ((g.0, (λ why i. absurd (no_reason w.kept why none i))), ((serving, (h, has), b.1), g.1))) c x (b.2 (all_pages w.parts) c e.0)) in (
             sane,
             fits,
             λ n sight ts named.
@@ -185,9 +185,9 @@ module _ {X A V Y M : Type 0} (D : Lawful X A V Y M) where
     begins_deed x xs (Runs pl) j serving empty is at event o =
         let has = has_none (s.at x) j empty at in
         let fits = λ (c : Carried Learned) (e : Tells s w c).
-            fits_mapped (λ (k : Carried Learned) want note. IsProper frames grants dom k.own.holds want note × l.Meets w.service want note) (carrying (learning frames)) (λ a. Done a) (λ (k : Carried Learned) o. Tells s (settled s (site D) w o) k × EndsWell D w k o) c pl
-            (fits_so (λ (k : Carried Learned) want note. IsProper frames grants dom k.own.holds want note × l.Meets w.service want note) (carrying (learning frames)) (λ (k : Carried Learned) a. AreHeld k.own.holds (s.pages (s.after w.service a) ++ all_pages w.parts) × l.EndsDone x w.service k.own.found k.touched a) (λ (k : Carried Learned) a. Tells s (settled s (site D) w (Done a)) k × EndsWell D w k (Done a))
-            (λ k a z. ((z.0, (λ why i. absurd (no_reason w.kept why none i))), ((serving, empty, has), (x, xs, is, z.1)))) c pl (l.serves w.service x pl q.sane has event (all_pages w.parts) c e.0)) in
+        fits_mapped (λ (k : Carried Learned) want note. IsProper frames grants dom k.own.holds want note × l.Meets w.service want note) (carrying (learning frames)) (λ a. Done a) (λ (k : Carried Learned) o. Tells s (settled s (site D) w o) k × EndsWell D w k o) c pl
+        (fits_so (λ (k : Carried Learned) want note. IsProper frames grants dom k.own.holds want note × l.Meets w.service want note) (carrying (learning frames)) (λ (k : Carried Learned) a. AreHeld k.own.holds (s.pages (s.after w.service a) ++ all_pages w.parts) × l.EndsDone x w.service k.own.found k.touched a) (λ (k : Carried Learned) a. Tells s (settled s (site D) w (Done a)) k × EndsWell D w k (Done a))
+        (λ k a z. ((z.0, (λ why i. absurd (no_reason w.kept why none i))), ((serving, empty, has), (x, xs, is, z.1)))) c pl (l.serves w.service x pl q.sane has event (all_pages w.parts) c e.0)) in
         chosen D w v w p (mapped (λ a. Done a) pl) (λ n. []) (same_work D w v p q (mapped (λ a. Done a) pl) fits) o
     begins_deed x xs (Raises words) j serving empty is at event o =
         begins_raising (Some x) (s.at x) words j (nat_lt j.prod limit) (record { serving = serving; none = empty; has = has_none (s.at x) j empty at; raise = (words, event, refl); oldest = (xs, is) }) at (λ n. l.event_short w.service x words n event) refl o

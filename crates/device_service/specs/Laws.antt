@@ -105,7 +105,6 @@ pub record Laws {X A V Y M : Type 0} (s : Service X A V) (t : Table Y V) (r : Sh
   pub EndsOwn : X → Found → List Touch → A → Type 0
   pub EndsDone : V → X → Found → List Touch → A → Type 0
   pub Meets : X → Want → Note → Type 0
-
   -- 1. its nodes and the host's events are those of the machine
   pub kind_is : s.kind ≡ t.kind
   pub waits_is : (e : HostEvent) → s.waits e ≡ t.waits e

@@ -2,6 +2,7 @@
 -- number below 2 ^ 32, stored with its low octet first.
 use Rattle.std.specs.Prelude.{◌≡◌, ℕ, ◌+◌, ◌*◌, ◌/◌, ◌%◌, ◌^◌, ◌<◌, ℤ, FitsSigned, List, [], ◌∷◌, ◌++◌, slice_index, replicate, if◌then◌else◌, ◌==◌, Bool, ◌&&◌}
 use Rattle.std.specs.Int.{w32, cast_signed, cast_unsigned}
+pub use Rattle.wire_fields.specs.Fields.{id_of, operation_of, head_of, u64_at, u64_words}
 use Rattle.displ_wire.specs.declared.Asked.{Asked}
 use Rattle.displ_wire.specs.declared.Asked.TheVariants.{Create as AskedCreate, Destroy, Attach as AskedAttach, Detach, Config as AskedConfig, Flip, Other}
 use Rattle.displ_wire.specs.declared.Attach.{Attach}
@@ -10,26 +11,6 @@ use Rattle.displ_wire.specs.declared.Create.{Create}
 use Rattle.displ_wire.specs.declared.Event.{Event}
 use Rattle.displ_wire.specs.declared.Reply.{Reply}
 use Rattle.displ_wire.specs.declared.Request.{Request}
-
--- the id of a message: the low half of its first word
-abbrev pub id_of : List ℕ → ℕ
-id_of words = slice_index words 0 % 2 ^ 16
-
--- the operation of a message: octet 2 of its first word. Octet 3 is reserved
-abbrev pub operation_of : List ℕ → ℕ
-operation_of words = slice_index words 0 / 2 ^ 16 % 2 ^ 8
-
--- the first word of a message with this id and operation
-abbrev pub head_of : ℕ → ℕ → ℕ
-head_of id op = id + 2 ^ 16 * op
-
--- the number of 64 bits in the word at a place and the next one, its low half first
-abbrev pub u64_at : List ℕ → ℕ → ℕ
-u64_at words place = slice_index words place + 2 ^ 32 * slice_index words (place + 1)
-
--- the two words of a number of 64 bits, its low half first
-abbrev pub u64_words : ℕ → List ℕ
-u64_words n = (n % 2 ^ 32) ∷ (n / 2 ^ 32) ∷ []
 
 -- struct xendispl_dbuf_create_req
 abbrev pub create_of : List ℕ → Create

@@ -7,10 +7,9 @@ ghost use Rattle.std.specs.Prelude.{◌≡◌, ◌∷◌, ◌↔◌, IsTrue};
 ghost use Rattle.displ_wire.specs.Wire.{all_zero, asked_of, attach_of, attach_words, config_of, config_words, cookie_words, create_of, create_words, event_of, event_words, reply_of, reply_words, request_of, request_words, EventsReadBack, IsZero, RepliesReadBack, RequestsReadBack};
 
 mod buffer;
-mod fields;
 
 pub use crate::buffer::{Buffer, Refused};
-use crate::fields::{head_fields, head_word, i32_of, u64_of, word_of_i32, words_of_u64};
+use wire_fields::{head_fields, head_word, i32_of, u64_of, word_of_i32, words_of_u64};
 
 /// The operation that makes a display buffer (`XENDISPL_OP_DBUF_CREATE`).
 pub const CREATE: u8 = 0;

@@ -41,7 +41,7 @@ none_in None e = refl
 none_in (Some y) e = absurd (true≢false e)
 
 module _ {X A V Y M : Type 0} (D : Lawful X A V Y M) where
-  open D use {s, t, r, frames, grants, dom, parts, l}
+  open D use {s, t, r, known, frames, grants, dom, parts, l}
 
   -- a reason that is kept is due, as the words show that were found last
   kept_due : (w : Work X V) (k : Carried Learned) (why : Reason) → w.kept ≡ Some why → IsKept w why → Tells s w k → IsDue D w k.own.found why
@@ -100,7 +100,7 @@ module _ {X A V Y M : Type 0} (D : Lawful X A V Y M) where
         let open_so = opened_at D w v p q o.part j at in
         let hand = l.owes_idle w.service o (is_some w.hand) owes open_so.1 in
         let empty : w.hand ≡ None = none_in w.hand hand in
-        let has : l.Has false w.service = subst (λ (b : Bool). l.Has b w.service) hand open_so.1 in
+        let has : known.Has false w.service = subst (λ (b : Bool). known.Has b w.service) hand open_so.1 in
         begins_raising D w v p q none None o.part o.words j (nat_lt j.prod limit) (record { serving = open_so.0; none = empty; has = has; raise = (o, owes, refl); oldest = tt }) at (λ n. l.owes_short w.service o n owes) refl offers
 
     begins_owing : (x : Option Owed) → w.closing ≡ false → w.kept ≡ None → s.owes w.service ≡ x → Offers (with_owed s (site D) w x) v p → BeginsSo D w v p (λ n. begins_owed s t r w n x)
@@ -132,7 +132,7 @@ module _ {X A V Y M : Type 0} (D : Lawful X A V Y M) where
   meets w n want (Takes key index) u = (u.0, u.1, record { before = u.2.before; cells = u.2.cells; behind = u.2.behind; live = u.2.live; is = u.2.is })
   meets w n want (Puts key index) u = (u.0, u.1, u.2, record { before = u.3.before; cells = u.3.cells; behind = u.3.behind; live = u.3.live; is = u.3.is })
 
-  meets_heard : (w : Work X V) (news : News) (want : Want) (note : Note) → l.Meets w.service want note → l.Meets (told s w news).service want note
+  meets_heard : (w : Work X V) (news : News) (want : Want) (note : Note) → known.Meets w.service want note → known.Meets (told s w news).service want note
   meets_heard w (Sets front nodes) want note u = u
   meets_heard w (Hosts e) want note u = u
 
@@ -147,7 +147,7 @@ module _ {X A V Y M : Type 0} (D : Lawful X A V Y M) where
         Named = IsNamed D;
         EndsWell = EndsWell D;
         Tells = Tells s;
-        Meets = λ w want note. l.Meets w.service want note;
+        Meets = λ w want note. known.Meets w.service want note;
         begins = λ w v p q o. let b = begins w v p q o in (b.0, b.1);
         begins_run = λ w v p view q e named o. (begins w v p q o).2 view.naming view.sight view.carried.touched named;
         settles = λ w o k q e. settles D w o k q e;

@@ -29,9 +29,9 @@ use Rattle.device_service.proofs.SoundSettles.{no_reason}
 use Rattle.device_service.proofs.SoundWork.{Lawful, site, IsSane, EndsHeld, EndsFound, EndsSo, EndsFoundSo}
 
 module _ {X A V Y M : Type 0} (D : Lawful X A V Y M) where
-  open D use {s, t, r, frames, grants, dom, parts, l}
+  open D use {s, t, r, known, frames, grants, dom, parts, l}
 
-  shut_pages : (w : Work X V) (k : Hold) → l.Sane w.service → s.pages w.service ≡ [] → times k (s.pages (shut s w).service ++ []) ≡ 0
+  shut_pages : (w : Work X V) (k : Hold) → known.Sane w.service → s.pages w.service ≡ [] → times k (s.pages (shut s w).service ++ []) ≡ 0
   shut_pages w k sane bare = ap (λ hs. times k (hs ++ [])) ((l.drops w.service sane).1 ∙ bare)
 
   -- what it holds
@@ -67,8 +67,8 @@ module _ {X A V Y M : Type 0} (D : Lawful X A V Y M) where
     unfolding settled
     fits_all (Err problem) e = ((refl, (λ k. sym (shut_pages w k q.sane bare))), (still, bare))
     fits_all (Ok refs) e =
-        let known = all_asked t.kind (site D) w.read 0 parts refs (omega arith) e in
-        fits_parts refs e refs [] tt (omega (arith, known.1))
+        let asked = all_asked t.kind (site D) w.read 0 parts refs (omega arith) e in
+        fits_parts refs e refs [] tt (omega (arith, asked.1))
 
   -- what it finds
   module _ (w : Work X V) (connecting : w.connecting ≡ true) (none : w.kept ≡ None) where

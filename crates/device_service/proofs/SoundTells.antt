@@ -72,7 +72,7 @@ none_made t old f (said.Published n) i = refl
 none_made t old f (said.Closed why) i = refl
 
 module _ {X A V Y M : Type 0} (D : Lawful X A V Y M) where
-  open D use {s, t, r, frames, grants, dom, parts, l}
+  open D use {s, t, r, known, frames, grants, dom, parts, l}
 
   abbrev row : Work X V → Naming M → Rows Y V
   row w n = rows_of s t r w n
@@ -232,7 +232,7 @@ module _ {X A V Y M : Type 0} (D : Lawful X A V Y M) where
   tells_state w v k n b what enters none bare named f =
       let empty = l.begun_shows w.read in
       tells_as w k n (said.State b) what [] [] v (unnamed s t r n) f (
-        subst (λ x. l.Named x r.unnamed) (sym none) empty.0,
+        subst (λ x. known.Named x r.unnamed) (sym none) empty.0,
         record {
           move = enters;
           names = λ sight. ap (λ (x : X). all_drawn sight (r.names x r.unnamed)) none ∙ (ap (all_drawn sight) empty.2 ∙ sym (ap (all_drawn sight) (l.bare w.service n.service named bare)));

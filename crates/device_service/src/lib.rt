@@ -3,3 +3,7 @@
 #![tactic(auto)]
 
 mod laws;
+mod serve;
+
+pub use laws::services_run;
+pub use serve::Serve;

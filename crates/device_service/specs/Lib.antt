@@ -3,6 +3,8 @@ pub mod Laws
 pub mod Nodes
 pub mod Raise
 pub mod Reading
+pub mod Refusing
+pub mod RefusingKept
 pub mod Rows
 pub mod Service
 pub mod Work

@@ -3,7 +3,9 @@
 #![tactic(auto)]
 
 mod laws;
+mod refusing;
 mod serve;
 
 pub use laws::services_run;
+pub use refusing::{refusing_runs, Refusing};
 pub use serve::Serve;

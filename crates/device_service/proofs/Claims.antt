@@ -1,21 +1,21 @@
 -- What the laws of a service are for, proved of every service at once.
-use Rattle.std.proofs.Common.{◌≡◌, ℕ, true, List, [], refl, subst}
+use Rattle.std.proofs.Common.{ℕ, true, List, [], refl, subst}
 use Rattle.pv_words.specs.Along.{after}
 use Rattle.pv_words.specs.Held.{IsProper, KeepsToGrants, holds_of}
 use Rattle.pv_words.specs.Memory.{zeros}
 use Rattle.device_core.specs.Learned.{Learned, learned_of, learning}
-use Rattle.device_core.specs.Machine.{AreTrueTo, HappensTo, Happening, IsRun, Snapshot, View, shown}
+use Rattle.device_core.specs.Machine.{AreTrueTo, HappensTo, IsRun, Snapshot, View, shown}
 use Rattle.device_core.specs.Names.{Words}
 use Rattle.device_core.specs.Order.{Own, followed, made_by}
 use Rattle.device_core.proofs.Extending.{history_less}
 use Rattle.device_core.proofs.Learning.{along_learned}
 use Rattle.device_core.proofs.MachineRun.{proper_after, run_after, snapshot_at, view_after}
-use Rattle.device_service.specs.Claims.{IsMachineRun, IsWork, Keeps, KeepsLaws, Runs, first_station, first_view, site_of}
+use Rattle.device_service.specs.Claims.{IsMachineRun, IsWork, Keeps, KeepsLaws, Runs, first_station, first_view}
 use Rattle.device_service.specs.Laws.{Facts}
 use Rattle.device_service.specs.Reading.{Naming, Shows, first_naming, reading}
 use Rattle.device_service.specs.Rows.{Rows, Table}
 use Rattle.device_service.specs.Service.{Service}
-use Rattle.device_service.specs.Work.{Work, device, first_work}
+use Rattle.device_service.specs.Work.{device, first_work}
 use Rattle.device_service.proofs.Sound.{Lies, first_carried, first_good, sound}
 use Rattle.device_service.proofs.SoundWork.{Lawful, learned, site}
 

@@ -1,13 +1,12 @@
 -- The order of work is sound, whatever its service, where the service keeps its laws.
-use Rattle.std.proofs.Common.{◌≡◌, inl, inr, ℕ, nat_lt, Bool, true, false, List, [], ◌∷◌, ◌++◌, Option, Some, None, is_some, refl, sym, ◌∙◌, ap, subst, slice_get}
+use Rattle.std.proofs.Common.{◌≡◌, inl, nat_lt, Bool, true, false, [], ◌++◌, Option, Some, None, is_some, refl, sym, ◌∙◌, ap, subst, slice_get}
 use Rattle.std.proofs.lemmas.Bool.{true≢false}
 use Rattle.pv_words.specs.declared.device.Reason.{Reason}
 use Rattle.pv_words.specs.declared.device.Reason.TheVariants as reason
 use Rattle.pv_words.specs.declared.device.State.{State}
 use Rattle.pv_words.specs.declared.device.State.TheVariants as state
-use Rattle.pv_words.specs.declared.place.Place.{Place}
 use Rattle.pv_words.specs.Held.{Holds, IsProper, holds_of}
-use Rattle.pv_words.specs.Plan.{Plan, Finished, Want, Load, Store, Note, Plain, Begins, Frames, Undoes, Ends, Takes, Puts}
+use Rattle.pv_words.specs.Plan.{Plan, Finished, Want, Note, Plain, Begins, Frames, Undoes, Ends, Takes, Puts}
 use Rattle.page_directory.specs.Same.{AreSame, times}
 use Rattle.xenbus_states.specs.declared.back.Action.{Action}
 use Rattle.xenbus_states.specs.declared.back.Action.TheVariants as action
@@ -16,15 +15,13 @@ use Rattle.link_core.specs.Activities.{Joined}
 use Rattle.device_core.specs.Learned.{Learned, learned_of}
 use Rattle.device_core.specs.Machine as machine
 use Rattle.device_core.specs.Machine.{Sound}
-use Rattle.device_core.specs.Names.{Sight}
-use Rattle.device_core.specs.Order.{News, Sets, Hosts, Act, Offers}
-use Rattle.device_core.specs.Touched.{Carried, Touch}
-use Rattle.device_service.specs.Laws.{Laws, IsTouching}
-use Rattle.device_service.specs.Nodes.{Refs, Problem, all_refs}
+use Rattle.device_core.specs.Order.{News, Sets, Hosts, Offers}
+use Rattle.device_core.specs.Touched.{Carried}
+use Rattle.device_service.specs.Laws.{IsTouching}
+use Rattle.device_service.specs.Nodes.{all_refs}
 use Rattle.device_service.specs.Raise.{limit}
 use Rattle.device_service.specs.Reading.{Naming, begins_by, begins_of, begins_owed, begins_pays, begins_state, begins_with, first_naming}
-use Rattle.device_service.specs.Rows.{Hand, Rows}
-use Rattle.device_service.specs.Service.{Service, Owed}
+use Rattle.device_service.specs.Service.{Owed}
 use Rattle.device_service.specs.Work.{Work, End, Left, Renewed, all_pages, beginning, choice, connect_all, device, entered, first_work, pays, settled, told, with_action, with_closing, with_kept, with_owed, with_state}
 use Rattle.device_service.proofs.SoundActions.{connects_apart, closes_asked, renews_again, closed_apart}
 use Rattle.device_service.proofs.SoundBegins.{BeginsSo, begins_leaving, chosen, opened_at, plain_fits, same_work, shown_of}
@@ -32,9 +29,9 @@ use Rattle.device_service.proofs.SoundConnect.{fits_all, found_all}
 use Rattle.device_service.proofs.SoundPlans.{Fit}
 use Rattle.device_service.proofs.SoundSame.{none_same}
 use Rattle.device_service.proofs.SoundServes.{begins_raising, begins_with_hand}
-use Rattle.device_service.proofs.SoundSettles.{no_reason, none_kept, rests, settles}
+use Rattle.device_service.proofs.SoundSettles.{no_reason, rests, settles}
 use Rattle.device_service.proofs.SoundTells.{quiet, tells}
-use Rattle.device_service.proofs.SoundWork.{Lawful, held_pages, TellsHeld, KeptFound, IsFoundIn, IsKept, Tells, IsServing, site, learned, IsNamed, IsBare, IsDue, IsSane, EndsSo, EndsWell, bare_unless, hears_move, hears_owed, hears_said, hears_sane, hears_told, hears_well}
+use Rattle.device_service.proofs.SoundWork.{Lawful, held_pages, TellsHeld, IsKept, Tells, site, learned, IsNamed, IsBare, IsDue, IsSane, EndsSo, EndsWell, bare_unless, hears_move, hears_owed, hears_said, hears_sane, hears_told, hears_well}
 
 none_in : {A : Type 0} (x : Option A) → is_some x ≡ false → x ≡ None
 none_in None e = refl
@@ -74,7 +71,7 @@ module _ {X A V Y M : Type 0} (D : Lawful X A V Y M) where
         let same : all_refs t.kind w.seen 0 parts ≡ refs = ap (λ k. all_refs k w.seen 0 parts) (sym l.kind_is) in
         let plan = connect_all (site D) refs in
         let fits = λ (k : Carried Learned) (e : Tells s w k).
-            plain_fits D new k plan (subst (λ (x : Holds). Fit frames grants dom (EndsSo D new) x plan) (sym (bare_pages bare k.own.holds e.0)) (fits_all D new sane refl still bare.1 refs same)) (found_all D new refl none refs k.own.found same) in
+        plain_fits D new k plan (subst (λ (x : Holds). Fit frames grants dom (EndsSo D new) x plan) (sym (bare_pages bare k.own.holds e.0)) (fits_all D new sane refl still bare.1 refs same)) (found_all D new refl none refs k.own.found same) in
         chosen D w v new p plan (λ n. begins_by s t r w n action.Connect)
         (sane, fits, (λ n sight ts named. (named, (shown_of D new n sight ts, record { free = refl; move = (still, a, refl); names = refl; touched = refl; owes = refl }, refl)))) o
 

@@ -1,10 +1,10 @@
 -- What it is for an activity that may be chosen to begin as it should; a Close does.
-use Rattle.std.proofs.Common.{◌≡◌, inl, inr, ℕ, ◌+◌, Bool, true, false, List, [], ◌∷◌, ◌++◌, map, Option, Some, None, is_some, refl, sym, ◌∙◌, ap, subst, arith, slice_get}
+use Rattle.std.proofs.Common.{◌≡◌, inl, inr, ℕ, Bool, true, false, List, [], ◌∷◌, ◌++◌, map, Option, Some, None, is_some, refl, sym, ◌∙◌, ap, subst, arith, slice_get}
 use Rattle.pv_words.specs.declared.device.Reason.{Reason}
 use Rattle.pv_words.specs.declared.grant.Hold.{Hold}
 use Rattle.pv_words.specs.Found.{Found, finding}
 use Rattle.pv_words.specs.Held.{Holds, IsProper, holding, holds_of}
-use Rattle.pv_words.specs.Plan.{Plan, Finished, Want, Note, FitsFrom, IsUntouched, mapped}
+use Rattle.pv_words.specs.Plan.{Plan, Finished, Note, FitsFrom, IsUntouched, mapped}
 use Rattle.pv_words.proofs.Fits.{fits_mapped}
 use Rattle.page_directory.specs.Same.{AreSame, times}
 use Rattle.page_directory.proofs.Counts.{times_append}
@@ -14,21 +14,20 @@ use Rattle.link_core.proofs.Shown.{FitFound, answer_none, found_any, unmaps_foun
 use Rattle.device_core.specs.Learned.{Learned, learning}
 use Rattle.device_core.specs.Machine as machine
 use Rattle.device_core.specs.Machine.{Happening, HappensTo, IsRun, Snapshot, shown_as}
-use Rattle.device_core.specs.Names.{Name, Drawn, Sight, Loses, all_drawn, is_worded, words_in}
+use Rattle.device_core.specs.Names.{Name, Drawn, Sight, all_drawn, is_worded, words_in}
 use Rattle.device_core.specs.Order.{Act, Offers}
 use Rattle.device_core.specs.Touched.{Carried, Touch, carrying, numbered}
-use Rattle.device_service.specs.Laws.{Laws, AreLost, SameNumbers}
-use Rattle.device_service.specs.Reading.{Naming, Shows, all_gone, numbers, rows_of, names_of, begins_close}
+use Rattle.device_service.specs.Laws.{AreLost, SameNumbers}
+use Rattle.device_service.specs.Reading.{Naming, numbers, rows_of, names_of, begins_close}
 use Rattle.device_service.specs.Rows.{Rows, Hand, Event}
-use Rattle.device_service.specs.Service.{Service}
 use Rattle.device_service.specs.Work.{Work, End, Saw, Answered, Shut, ring_hold, ring_page, all_pages, answer_of, counted, part_of, close, leaving, nothing, after_answer, settled, device}
 use Rattle.device_service.proofs.Fitting.{fits_carried}
 use Rattle.device_service.proofs.SoundParts.{part_in, counted_pages, fits_answer}
-use Rattle.device_service.proofs.SoundPlans.{Fit, IsOwn, AllOwn, own_in, own_are, fits_drop}
+use Rattle.device_service.proofs.SoundPlans.{Fit, IsOwn, own_in, own_are, fits_drop}
 use Rattle.device_service.proofs.SoundSame.{IsIn, in_right, in_same, are_append}
 use Rattle.device_service.proofs.SoundSettles.{no_reason}
 use Rattle.device_service.proofs.SoundTells.{numbers_same}
-use Rattle.device_service.proofs.SoundWork.{Lawful, held_pages, TellsHeld, KeptFound, Tells, IsServing, site, learned, IsNamed, IsDue, IsSane, EndsHeld, EndsFound, EndsWell, EndsSo, EndsFoundSo}
+use Rattle.device_service.proofs.SoundWork.{Lawful, held_pages, TellsHeld, KeptFound, Tells, IsServing, site, learned, IsNamed, IsDue, IsSane, EndsWell, EndsSo, EndsFoundSo}
 
 pub unkept_found : {X V : Type 0} (w : Work X V) (f : Found) → w.kept ≡ None → KeptFound w f
 unkept_found w f none why e = absurd (no_reason w.kept why none e)

@@ -1,12 +1,12 @@
 -- What a connected device chooses to do begins as it should: the request in hand, an event that waits or is owed, and the round.
-use Rattle.std.proofs.Common.{◌≡◌, inl, inr, ℕ, zero, suc, ◌+◌, ◌<◌, ◌≤◌, nat_lt, Bool, true, false, List, [], ◌∷◌, ◌++◌, Option, Some, None, is_some, refl, sym, ◌∙◌, ap, subst, arith, length, slice_get}
+use Rattle.std.proofs.Common.{◌≡◌, inl, inr, ℕ, zero, suc, ◌<◌, ◌≤◌, nat_lt, Bool, true, false, List, [], ◌∷◌, ◌++◌, Option, Some, None, is_some, refl, sym, ◌∙◌, ap, subst, arith, length, slice_get}
 use Rattle.std.proofs.lemmas.Bool.Decides.{nat_tests}
 use Rattle.std.proofs.lemmas.Option.{slice_get_within}
 use Rattle.pv_words.specs.declared.device.Reason.TheVariants as reason
 use Rattle.pv_words.specs.declared.grant.Hold.{Hold}
 use Rattle.pv_words.specs.Found.{Found, finding}
-use Rattle.pv_words.specs.Held.{Holds, IsProper, holding, holds_of}
-use Rattle.pv_words.specs.Plan.{Plan, Finished, Note, IsUntouched, mapped}
+use Rattle.pv_words.specs.Held.{IsProper}
+use Rattle.pv_words.specs.Plan.{Plan, Note, IsUntouched, mapped}
 use Rattle.pv_words.proofs.Fits.{fits_mapped, fits_so}
 use Rattle.page_directory.specs.Same.{AreSame, times}
 use Rattle.page_directory.proofs.Counts.{times_append}
@@ -18,22 +18,22 @@ use Rattle.link_core.specs.Activities.{Joined, look_plan, take_plan}
 use Rattle.link_core.proofs.Shown.{found_any, looks_show, take_none}
 use Rattle.device_core.specs.Learned.{Learned, learning}
 use Rattle.device_core.specs.Machine.{Snapshot}
-use Rattle.device_core.specs.Names.{Name, Sight, all_drawn, is_worded}
-use Rattle.device_core.specs.Order.{Act, Either, Offers}
-use Rattle.device_core.specs.Touched.{Carried, Touch, carrying}
-use Rattle.device_service.specs.Laws.{Laws, AreHeld, Leads, WantsFor}
+use Rattle.device_core.specs.Names.{Name, all_drawn, is_worded}
+use Rattle.device_core.specs.Order.{Offers}
+use Rattle.device_core.specs.Touched.{Carried, carrying}
+use Rattle.device_service.specs.Laws.{AreHeld, Leads, WantsFor}
 use Rattle.device_service.specs.Nodes.{Kind, Ringed, Ringless}
 use Rattle.device_service.specs.Raise.{Put, Stored, Full, BadCons, raise_plan, limit}
-use Rattle.device_service.specs.Reading.{Naming, all_gone, rows_of, begins_event, begins_part, begins_raise, begins_ready, begins_serve, begins_waiting, begins_hand}
+use Rattle.device_service.specs.Reading.{all_gone, rows_of, begins_event, begins_part, begins_raise, begins_ready, begins_serve, begins_waiting, begins_hand}
 use Rattle.device_service.specs.Rows.{Hand, Rows}
-use Rattle.device_service.specs.Service.{Service, Job, Works, Starves, Deed, Runs, Raises}
+use Rattle.device_service.specs.Service.{Job, Works, Starves, Deed, Runs, Raises}
 use Rattle.device_service.specs.Work.{Work, Round, Looks, Sleeps, Idles, End, Saw, Took, Own, Done, Slept, Raised, all_pages, sleep_all, ring_page, with_event, raises_if, does_event, answer_of, looks_at, in_round, takes_from, with_left, with_rings, does, decides, decides_by, part_of, serves_by, with_waiting, with_hand, after_look, after_sleep, after_raise, settled}
-use Rattle.device_service.proofs.SoundBegins.{BeginsSo, FitsAll, RunsTo, answer_fits, begins_leaving, begins_nothing, chosen, lost_run, mapped_fits, opened_at, page_held, ring_held, ring_own, run_to, same_work, shown_of, touched_of, unkept_found}
+use Rattle.device_service.proofs.SoundBegins.{BeginsSo, RunsTo, answer_fits, begins_leaving, begins_nothing, chosen, lost_run, mapped_fits, opened_at, page_held, ring_held, ring_own, run_to, same_work, shown_of, touched_of, unkept_found}
 use Rattle.device_service.proofs.SoundFound.{raise_shows, sleeps_none}
 use Rattle.device_service.proofs.SoundParts.{event_in, evented_pages, fits_look, fits_take, fits_sleeps, fits_raise}
 use Rattle.device_service.proofs.SoundPlans.{own_in}
 use Rattle.device_service.proofs.SoundSettles.{found_index, no_reason}
-use Rattle.device_service.proofs.SoundWork.{Lawful, held_pages, KeptFound, IsFoundIn, Tells, IsServing, site, learned, IsNamed, IsSane, IsRaising, EndsWell, EndsSo, EndsFoundSo, look_pages, sleep_pages}
+use Rattle.device_service.proofs.SoundWork.{Lawful, held_pages, KeptFound, IsFoundIn, Tells, IsServing, site, learned, IsSane, IsRaising, EndsWell, EndsSo, EndsFoundSo, look_pages, sleep_pages}
 
 module _ {X A V Y M : Type 0} (D : Lawful X A V Y M) where
   open D use {s, t, r, known, frames, grants, dom, parts, l}
@@ -118,9 +118,9 @@ module _ {X A V Y M : Type 0} (D : Lawful X A V Y M) where
           let new : Work X V = record w { service = y } in
           let sane : IsSane D new = record { own = q.own; whole = q.whole; sane = b.0; opened = inr (serving, subst (λ (z : Option Hand). known.Has (is_some z) y) (sym has) b.1); kept = q.kept } in
           let fits = λ (c : Carried Learned) (e : Tells s w c).
-              fits_mapped (λ (j : Carried Learned) want note. IsProper frames grants dom j.own.holds want note × known.Meets y want note) (carrying (learning frames)) (λ a. Own a) (λ (j : Carried Learned) o. Tells s (settled s (site D) new o) j × EndsWell D new j o) c x
-              (fits_so (λ (j : Carried Learned) want note. IsProper frames grants dom j.own.holds want note × known.Meets y want note) (carrying (learning frames)) (λ (j : Carried Learned) a. AreHeld j.own.holds (s.pages (s.after y a) ++ all_pages w.parts) × known.EndsOwn y j.own.found j.touched a) (λ (j : Carried Learned) a. Tells s (settled s (site D) new (Own a)) j × EndsWell D new j (Own a))
-              (λ j a g. ((g.0, (λ why i. absurd (no_reason w.kept why none i))), ((serving, (h, has), b.1), g.1))) c x (b.2 (all_pages w.parts) c e.0)) in (
+          fits_mapped (λ (j : Carried Learned) want note. IsProper frames grants dom j.own.holds want note × known.Meets y want note) (carrying (learning frames)) (λ a. Own a) (λ (j : Carried Learned) o. Tells s (settled s (site D) new o) j × EndsWell D new j o) c x
+          (fits_so (λ (j : Carried Learned) want note. IsProper frames grants dom j.own.holds want note × known.Meets y want note) (carrying (learning frames)) (λ (j : Carried Learned) a. AreHeld j.own.holds (s.pages (s.after y a) ++ all_pages w.parts) × known.EndsOwn y j.own.found j.touched a) (λ (j : Carried Learned) a. Tells s (settled s (site D) new (Own a)) j × EndsWell D new j (Own a))
+          (λ j a g. ((g.0, (λ why i. absurd (no_reason w.kept why none i))), ((serving, (h, has), b.1), g.1))) c x (b.2 (all_pages w.parts) c e.0)) in (
             sane,
             fits,
             λ n sight ts named.
@@ -185,9 +185,9 @@ module _ {X A V Y M : Type 0} (D : Lawful X A V Y M) where
     begins_deed x xs (Runs pl) j serving empty is at event o =
         let has = has_none (s.at x) j empty at in
         let fits = λ (c : Carried Learned) (e : Tells s w c).
-            fits_mapped (λ (k : Carried Learned) want note. IsProper frames grants dom k.own.holds want note × known.Meets w.service want note) (carrying (learning frames)) (λ a. Done a) (λ (k : Carried Learned) o. Tells s (settled s (site D) w o) k × EndsWell D w k o) c pl
-            (fits_so (λ (k : Carried Learned) want note. IsProper frames grants dom k.own.holds want note × known.Meets w.service want note) (carrying (learning frames)) (λ (k : Carried Learned) a. AreHeld k.own.holds (s.pages (s.after w.service a) ++ all_pages w.parts) × known.EndsDone x w.service k.own.found k.touched a) (λ (k : Carried Learned) a. Tells s (settled s (site D) w (Done a)) k × EndsWell D w k (Done a))
-            (λ k a z. ((z.0, (λ why i. absurd (no_reason w.kept why none i))), ((serving, empty, has), (x, xs, is, z.1)))) c pl (l.serves w.service x pl q.sane has event (all_pages w.parts) c e.0)) in
+        fits_mapped (λ (k : Carried Learned) want note. IsProper frames grants dom k.own.holds want note × known.Meets w.service want note) (carrying (learning frames)) (λ a. Done a) (λ (k : Carried Learned) o. Tells s (settled s (site D) w o) k × EndsWell D w k o) c pl
+        (fits_so (λ (k : Carried Learned) want note. IsProper frames grants dom k.own.holds want note × known.Meets w.service want note) (carrying (learning frames)) (λ (k : Carried Learned) a. AreHeld k.own.holds (s.pages (s.after w.service a) ++ all_pages w.parts) × known.EndsDone x w.service k.own.found k.touched a) (λ (k : Carried Learned) a. Tells s (settled s (site D) w (Done a)) k × EndsWell D w k (Done a))
+        (λ k a z. ((z.0, (λ why i. absurd (no_reason w.kept why none i))), ((serving, empty, has), (x, xs, is, z.1)))) c pl (l.serves w.service x pl q.sane has event (all_pages w.parts) c e.0)) in
         chosen D w v w p (mapped (λ a. Done a) pl) (λ n. []) (same_work D w v p q (mapped (λ a. Done a) pl) fits) o
     begins_deed x xs (Raises words) j serving empty is at event o =
         begins_raising (Some x) (s.at x) words j (nat_lt j.prod limit) (record { serving = serving; none = empty; has = has_none (s.at x) j empty at; raise = (words, event, refl); oldest = (xs, is) }) at (λ n. l.event_short w.service x words n event) refl o

@@ -18,8 +18,7 @@ use Rattle.device_core.specs.Learned.{Learned}
 use Rattle.device_core.specs.Machine.{Stays}
 use Rattle.device_core.specs.Order.{Order, Rest}
 use Rattle.device_core.specs.Site.{Site}
-use Rattle.device_core.specs.Touched.{Carried, Touch}
-use Rattle.device_service.specs.Laws.{Laws}
+use Rattle.device_core.specs.Touched.{Carried}
 use Rattle.device_service.specs.Nodes.{Kind, Ringed, Ringless}
 use Rattle.device_service.specs.Raise.{Put, Stored, Full, BadCons, limit}
 use Rattle.device_service.specs.Reading.{Naming}
@@ -29,7 +28,7 @@ use Rattle.device_service.specs.Work.{Work, Round, Looks, Sleeps, Idles, End, Sa
 use Rattle.device_service.proofs.SoundActions.{closed_apart}
 use Rattle.device_service.proofs.SoundParts.{counted_pages, counted_length, counted_none, evented_pages, evented_length, evented_none}
 use Rattle.device_service.proofs.SoundPlans.{AllOwn}
-use Rattle.device_service.proofs.SoundWork.{Lawful, Tells, IsServing, IsKept, HasParts, IsPut, site, learned, IsNamed, IsBare, IsSane, IsRaising, EndsHeld, EndsFound, EndsWell, bare_unless}
+use Rattle.device_service.proofs.SoundWork.{Lawful, Tells, IsServing, IsKept, IsPut, site, learned, IsNamed, IsBare, IsSane, IsRaising, EndsWell, bare_unless}
 
 -- an overrun is true
 found_in : (b c : Bool) (ready prod rsp x y : ℕ) → (c ≡ false → 32 < ready) → cond b looked.Nothing (cond c (looked.Ready ready) (looked.Overrun prod rsp)) ≡ looked.Overrun x y → (x ≡ prod) × ((y ≡ rsp) × (32 < ready))

@@ -1,5 +1,5 @@
 -- What is known of a device's work between two activities, and of an activity's end, where its service keeps its laws.
-use Rattle.std.proofs.Common.{◌≡◌, ◌⊎◌, ℕ, ◌<◌, ◌≤◌, ◌||◌, Bool, true, false, List, [], ◌∷◌, ◌++◌, Option, Some, None, is_some, Ok, refl, sym, ap, ◌∙◌, subst, inl, inr, length, arith}
+use Rattle.std.proofs.Common.{◌≡◌, ◌⊎◌, ℕ, ◌<◌, ◌||◌, Bool, true, false, List, [], ◌∷◌, ◌++◌, Option, Some, None, is_some, Ok, refl, sym, ap, ◌∙◌, subst, inl, inr, length}
 use Rattle.pv_words.specs.declared.device.HostEvent.{HostEvent}
 use Rattle.pv_words.specs.declared.device.HostRefusal.{HostRefusal}
 use Rattle.pv_words.specs.declared.device.NodeValue.{NodeValue}
@@ -9,14 +9,13 @@ use Rattle.pv_words.specs.declared.device.State.{State}
 use Rattle.pv_words.specs.declared.device.State.TheVariants as state
 use Rattle.pv_words.specs.declared.grant.Hold.{Hold}
 use Rattle.pv_words.specs.Found.{Found}
-use Rattle.pv_words.specs.Held.{Holds, holds_of}
+use Rattle.pv_words.specs.Held.{Holds}
 use Rattle.page_directory.specs.Same.{AreSame}
 use Rattle.ring_words.specs.declared.Looked.{Looked}
 use Rattle.ring_words.specs.declared.Looked.TheVariants as looked
 use Rattle.ring_words.specs.Ring.{looked_of, since}
 use Rattle.xenbus_states.specs.Connection.{Connection, first_ending, heard, is_start}
 use Rattle.host_events.specs.Queue.{unless}
-use Rattle.link_core.specs.Activities.{Joined}
 use Rattle.device_core.specs.Learned.{Learned, learning}
 use Rattle.device_core.specs.Machine.{Reading, Passes, extended}
 use Rattle.device_core.specs.Order.{News, Sets, Hosts, refused_by}

@@ -1,5 +1,5 @@
 -- The least service: it knows no operation, and answers each request that it is not supported (EOPNOTSUPP of errno.h, 95).
-use Rattle.std.specs.Prelude.{◌≡◌, ℕ, ℤ, negsuc, Bool, true, false, List, [], ◌∷◌, Option, Some, None, is_some, slice_index}
+use Rattle.std.specs.Prelude.{◌≡◌, ℕ, ℤ, negsuc, true, false, List, [], ◌∷◌, Option, Some, None, is_some, slice_index}
 use Rattle.pv_words.specs.declared.device.Said.TheVariants as said
 use Rattle.pv_words.specs.Plan.{Finished, IsUntouched}
 use Rattle.host_events.specs.Queue.{refusal_of}

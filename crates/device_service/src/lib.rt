@@ -7,5 +7,5 @@ mod refusing;
 mod serve;
 
 pub use laws::services_run;
-pub use refusing::{refusing_runs, Refusing};
+pub use refusing::{Refusing, refusing_runs};
 pub use serve::Serve;

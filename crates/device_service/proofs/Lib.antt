@@ -1,3 +1,4 @@
+pub mod Claims
 pub mod Fitting
 pub mod Sound
 mod SoundActions
@@ -12,3 +13,4 @@ mod SoundServes
 mod SoundSettles
 mod SoundTells
 pub mod SoundWork
+mod Telling

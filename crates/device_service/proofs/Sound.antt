@@ -1,13 +1,12 @@
 -- The order of work is sound, whatever its service, where the service keeps its laws.
-use Rattle.std.proofs.Common.{◌≡◌, inl, inr, ℕ, nat_lt, Bool, true, false, List, [], ◌∷◌, ◌++◌, Option, Some, None, is_some, refl, sym, ◌∙◌, ap, subst, slice_get}
+use Rattle.std.proofs.Common.{◌≡◌, inl, nat_lt, Bool, true, false, [], ◌++◌, Option, Some, None, is_some, refl, sym, ◌∙◌, ap, subst, slice_get}
 use Rattle.std.proofs.lemmas.Bool.{true≢false}
 use Rattle.pv_words.specs.declared.device.Reason.{Reason}
 use Rattle.pv_words.specs.declared.device.Reason.TheVariants as reason
 use Rattle.pv_words.specs.declared.device.State.{State}
 use Rattle.pv_words.specs.declared.device.State.TheVariants as state
-use Rattle.pv_words.specs.declared.place.Place.{Place}
 use Rattle.pv_words.specs.Held.{Holds, IsProper, holds_of}
-use Rattle.pv_words.specs.Plan.{Plan, Finished, Want, Load, Store, Note, Plain, Begins, Frames, Undoes, Ends, Takes, Puts}
+use Rattle.pv_words.specs.Plan.{Plan, Finished, Want, Note, Plain, Begins, Frames, Undoes, Ends, Takes, Puts}
 use Rattle.page_directory.specs.Same.{AreSame, times}
 use Rattle.xenbus_states.specs.declared.back.Action.{Action}
 use Rattle.xenbus_states.specs.declared.back.Action.TheVariants as action
@@ -16,15 +15,13 @@ use Rattle.link_core.specs.Activities.{Joined}
 use Rattle.device_core.specs.Learned.{Learned, learned_of}
 use Rattle.device_core.specs.Machine as machine
 use Rattle.device_core.specs.Machine.{Sound}
-use Rattle.device_core.specs.Names.{Sight}
-use Rattle.device_core.specs.Order.{News, Sets, Hosts, Act, Offers}
-use Rattle.device_core.specs.Touched.{Carried, Touch}
-use Rattle.device_service.specs.Laws.{Laws, IsTouching}
-use Rattle.device_service.specs.Nodes.{Refs, Problem, all_refs}
+use Rattle.device_core.specs.Order.{News, Sets, Hosts, Offers}
+use Rattle.device_core.specs.Touched.{Carried}
+use Rattle.device_service.specs.Laws.{IsTouching}
+use Rattle.device_service.specs.Nodes.{all_refs}
 use Rattle.device_service.specs.Raise.{limit}
 use Rattle.device_service.specs.Reading.{Naming, begins_by, begins_of, begins_owed, begins_pays, begins_state, begins_with, first_naming}
-use Rattle.device_service.specs.Rows.{Hand, Rows}
-use Rattle.device_service.specs.Service.{Service, Owed}
+use Rattle.device_service.specs.Service.{Owed}
 use Rattle.device_service.specs.Work.{Work, End, Left, Renewed, all_pages, beginning, choice, connect_all, device, entered, first_work, pays, settled, told, with_action, with_closing, with_kept, with_owed, with_state}
 use Rattle.device_service.proofs.SoundActions.{connects_apart, closes_asked, renews_again, closed_apart}
 use Rattle.device_service.proofs.SoundBegins.{BeginsSo, begins_leaving, chosen, opened_at, plain_fits, same_work, shown_of}
@@ -32,16 +29,16 @@ use Rattle.device_service.proofs.SoundConnect.{fits_all, found_all}
 use Rattle.device_service.proofs.SoundPlans.{Fit}
 use Rattle.device_service.proofs.SoundSame.{none_same}
 use Rattle.device_service.proofs.SoundServes.{begins_raising, begins_with_hand}
-use Rattle.device_service.proofs.SoundSettles.{no_reason, none_kept, rests, settles}
+use Rattle.device_service.proofs.SoundSettles.{no_reason, rests, settles}
 use Rattle.device_service.proofs.SoundTells.{quiet, tells}
-use Rattle.device_service.proofs.SoundWork.{Lawful, held_pages, TellsHeld, KeptFound, IsFoundIn, IsKept, Tells, IsServing, site, learned, IsNamed, IsBare, IsDue, IsSane, EndsSo, EndsWell, bare_unless, hears_move, hears_owed, hears_said, hears_sane, hears_told, hears_well}
+use Rattle.device_service.proofs.SoundWork.{Lawful, held_pages, TellsHeld, IsKept, Tells, site, learned, IsNamed, IsBare, IsDue, IsSane, EndsSo, EndsWell, bare_unless, hears_move, hears_owed, hears_said, hears_sane, hears_told, hears_well}
 
 none_in : {A : Type 0} (x : Option A) → is_some x ≡ false → x ≡ None
 none_in None e = refl
 none_in (Some y) e = absurd (true≢false e)
 
 module _ {X A V Y M : Type 0} (D : Lawful X A V Y M) where
-  open D use {s, t, r, frames, grants, dom, parts, l}
+  open D use {s, t, r, known, frames, grants, dom, parts, l}
 
   -- a reason that is kept is due, as the words show that were found last
   kept_due : (w : Work X V) (k : Carried Learned) (why : Reason) → w.kept ≡ Some why → IsKept w why → Tells s w k → IsDue D w k.own.found why
@@ -100,7 +97,7 @@ module _ {X A V Y M : Type 0} (D : Lawful X A V Y M) where
         let open_so = opened_at D w v p q o.part j at in
         let hand = l.owes_idle w.service o (is_some w.hand) owes open_so.1 in
         let empty : w.hand ≡ None = none_in w.hand hand in
-        let has : l.Has false w.service = subst (λ (b : Bool). l.Has b w.service) hand open_so.1 in
+        let has : known.Has false w.service = subst (λ (b : Bool). known.Has b w.service) hand open_so.1 in
         begins_raising D w v p q none None o.part o.words j (nat_lt j.prod limit) (record { serving = open_so.0; none = empty; has = has; raise = (o, owes, refl); oldest = tt }) at (λ n. l.owes_short w.service o n owes) refl offers
 
     begins_owing : (x : Option Owed) → w.closing ≡ false → w.kept ≡ None → s.owes w.service ≡ x → Offers (with_owed s (site D) w x) v p → BeginsSo D w v p (λ n. begins_owed s t r w n x)
@@ -132,7 +129,7 @@ module _ {X A V Y M : Type 0} (D : Lawful X A V Y M) where
   meets w n want (Takes key index) u = (u.0, u.1, record { before = u.2.before; cells = u.2.cells; behind = u.2.behind; live = u.2.live; is = u.2.is })
   meets w n want (Puts key index) u = (u.0, u.1, u.2, record { before = u.3.before; cells = u.3.cells; behind = u.3.behind; live = u.3.live; is = u.3.is })
 
-  meets_heard : (w : Work X V) (news : News) (want : Want) (note : Note) → l.Meets w.service want note → l.Meets (told s w news).service want note
+  meets_heard : (w : Work X V) (news : News) (want : Want) (note : Note) → known.Meets w.service want note → known.Meets (told s w news).service want note
   meets_heard w (Sets front nodes) want note u = u
   meets_heard w (Hosts e) want note u = u
 
@@ -147,7 +144,7 @@ module _ {X A V Y M : Type 0} (D : Lawful X A V Y M) where
         Named = IsNamed D;
         EndsWell = EndsWell D;
         Tells = Tells s;
-        Meets = λ w want note. l.Meets w.service want note;
+        Meets = λ w want note. known.Meets w.service want note;
         begins = λ w v p q o. let b = begins w v p q o in (b.0, b.1);
         begins_run = λ w v p view q e named o. (begins w v p q o).2 view.naming view.sight view.carried.touched named;
         settles = λ w o k q e. settles D w o k q e;

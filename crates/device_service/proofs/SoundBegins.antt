@@ -1,10 +1,10 @@
 -- What it is for an activity that may be chosen to begin as it should; a Close does.
-use Rattle.std.proofs.Common.{◌≡◌, inl, inr, ℕ, ◌+◌, Bool, true, false, List, [], ◌∷◌, ◌++◌, map, Option, Some, None, is_some, refl, sym, ◌∙◌, ap, subst, arith, slice_get}
+use Rattle.std.proofs.Common.{◌≡◌, inl, inr, ℕ, Bool, true, false, List, [], ◌∷◌, ◌++◌, map, Option, Some, None, is_some, refl, sym, ◌∙◌, ap, subst, arith, slice_get}
 use Rattle.pv_words.specs.declared.device.Reason.{Reason}
 use Rattle.pv_words.specs.declared.grant.Hold.{Hold}
 use Rattle.pv_words.specs.Found.{Found, finding}
 use Rattle.pv_words.specs.Held.{Holds, IsProper, holding, holds_of}
-use Rattle.pv_words.specs.Plan.{Plan, Finished, Want, Note, FitsFrom, IsUntouched, mapped}
+use Rattle.pv_words.specs.Plan.{Plan, Finished, Note, FitsFrom, IsUntouched, mapped}
 use Rattle.pv_words.proofs.Fits.{fits_mapped}
 use Rattle.page_directory.specs.Same.{AreSame, times}
 use Rattle.page_directory.proofs.Counts.{times_append}
@@ -14,21 +14,20 @@ use Rattle.link_core.proofs.Shown.{FitFound, answer_none, found_any, unmaps_foun
 use Rattle.device_core.specs.Learned.{Learned, learning}
 use Rattle.device_core.specs.Machine as machine
 use Rattle.device_core.specs.Machine.{Happening, HappensTo, IsRun, Snapshot, shown_as}
-use Rattle.device_core.specs.Names.{Name, Drawn, Sight, Loses, all_drawn, is_worded, words_in}
+use Rattle.device_core.specs.Names.{Name, Drawn, Sight, all_drawn, is_worded, words_in}
 use Rattle.device_core.specs.Order.{Act, Offers}
 use Rattle.device_core.specs.Touched.{Carried, Touch, carrying, numbered}
-use Rattle.device_service.specs.Laws.{Laws, AreLost, SameNumbers}
-use Rattle.device_service.specs.Reading.{Naming, Shows, all_gone, numbers, rows_of, names_of, begins_close}
+use Rattle.device_service.specs.Laws.{AreLost, SameNumbers}
+use Rattle.device_service.specs.Reading.{Naming, numbers, rows_of, names_of, begins_close}
 use Rattle.device_service.specs.Rows.{Rows, Hand, Event}
-use Rattle.device_service.specs.Service.{Service}
 use Rattle.device_service.specs.Work.{Work, End, Saw, Answered, Shut, ring_hold, ring_page, all_pages, answer_of, counted, part_of, close, leaving, nothing, after_answer, settled, device}
 use Rattle.device_service.proofs.Fitting.{fits_carried}
 use Rattle.device_service.proofs.SoundParts.{part_in, counted_pages, fits_answer}
-use Rattle.device_service.proofs.SoundPlans.{Fit, IsOwn, AllOwn, own_in, own_are, fits_drop}
+use Rattle.device_service.proofs.SoundPlans.{Fit, IsOwn, own_in, own_are, fits_drop}
 use Rattle.device_service.proofs.SoundSame.{IsIn, in_right, in_same, are_append}
 use Rattle.device_service.proofs.SoundSettles.{no_reason}
 use Rattle.device_service.proofs.SoundTells.{numbers_same}
-use Rattle.device_service.proofs.SoundWork.{Lawful, held_pages, TellsHeld, KeptFound, Tells, IsServing, site, learned, IsNamed, IsDue, IsSane, EndsHeld, EndsFound, EndsWell, EndsSo, EndsFoundSo}
+use Rattle.device_service.proofs.SoundWork.{Lawful, held_pages, TellsHeld, KeptFound, Tells, IsServing, site, learned, IsNamed, IsDue, IsSane, EndsWell, EndsSo, EndsFoundSo}
 
 pub unkept_found : {X V : Type 0} (w : Work X V) (f : Found) → w.kept ≡ None → KeptFound w f
 unkept_found w f none why e = absurd (no_reason w.kept why none e)
@@ -54,7 +53,7 @@ all_lost sight (n ∷ names) =
     (all_drawn sight names, record { before = []; words = words_in sight n.cells; behind = all_drawn sight names; old_is = refl; new_is = refl }, all_lost sight names)
 
 module _ {X A V Y M : Type 0} (D : Lawful X A V Y M) where
-  open D use {s, t, r, frames, grants, dom, parts, l}
+  open D use {s, t, r, known, frames, grants, dom, parts, l}
 
   -- what a work shows of the machine, and what happens to the machine from one to another
   abbrev pub touched_of : X → Naming M → List Touch → List Touch
@@ -69,7 +68,7 @@ module _ {X A V Y M : Type 0} (D : Lawful X A V Y M) where
   -- an activity fits
   abbrev pub FitsAll : Work X V → Carried Learned → Plan (End A V) → Type 0
   FitsAll w k p =
-      FitsFrom (λ (j : Carried Learned) want note. IsProper frames grants dom j.own.holds want note × l.Meets w.service want note) (carrying (learning frames)) (λ (j : Carried Learned) o. Tells s (settled s (site D) w o) j × EndsWell D w j o) k p
+      FitsFrom (λ (j : Carried Learned) want note. IsProper frames grants dom j.own.holds want note × known.Meets w.service want note) (carrying (learning frames)) (λ (j : Carried Learned) o. Tells s (settled s (site D) w o) j × EndsWell D w j o) k p
 
   -- an activity that is chosen begins as it should
   abbrev pub BeginsSo : Work X V → Work X V → Plan (End A V) → (Naming M → List (Happening Event)) → Type 0
@@ -85,7 +84,7 @@ module _ {X A V Y M : Type 0} (D : Lawful X A V Y M) where
   -- one that touches no word of a name, by what it holds and what it finds
   pub plain_fits : (w : Work X V) (k : Carried Learned) (p : Plan (End A V)) → Fit frames grants dom (EndsSo D w) k.own.holds p → FitFound (EndsFoundSo D w) k.own.found p → FitsAll w k p
   plain_fits w k p a b =
-      fits_carried frames (IsProper frames grants dom) (l.Meets w.service) (λ want note u. l.meets_plain w.service want note u) (EndsSo D w) (EndsFoundSo D w) (λ (j : Carried Learned) o. Tells s (settled s (site D) w o) j × EndsWell D w j o)
+      fits_carried frames (IsProper frames grants dom) (known.Meets w.service) (λ want note u. l.meets_plain w.service want note u) (EndsSo D w) (EndsFoundSo D w) (λ (j : Carried Learned) o. Tells s (settled s (site D) w o) j × EndsWell D w j o)
       (λ j o x y. ((x.0, y.0), (x.1, y.1 j.touched))) k p a b
 
   -- where just these pages are held
@@ -108,7 +107,7 @@ module _ {X A V Y M : Type 0} (D : Lawful X A V Y M) where
   ring_held w k j h e at = page_held w h (ring_hold j.event j.ring) e (part_in w.parts k j at)
 
   -- the pages after an answer are the same
-  answered_same : (w : Work X V) (x : Option Hand) → IsSane D w → l.Has true w.service → s.ready w.service ≡ true → AreSame (held_pages s w) (held_pages s (after_answer s w x))
+  answered_same : (w : Work X V) (x : Option Hand) → IsSane D w → known.Has true w.service → s.ready w.service ≡ true → AreSame (held_pages s w) (held_pages s (after_answer s w x))
   answered_same w None q has ready k = refl
   answered_same w (Some h) q has ready k =
       let a = (l.answers w.service q.sane has ready).2 k in
@@ -120,7 +119,7 @@ module _ {X A V Y M : Type 0} (D : Lawful X A V Y M) where
   answer_kept w (Some h) = refl
 
   -- an answer fits
-  pub answer_fits : (w : Work X V) (h : Hand) (j : Joined) → IsSane D w → w.kept ≡ None → IsServing w → w.hand ≡ Some h → part_of s w h ≡ Some j → l.Has true w.service → s.ready w.service ≡ true → (k : Carried Learned) → Tells s w k → FitsAll w k (answer_of s w.service j)
+  pub answer_fits : (w : Work X V) (h : Hand) (j : Joined) → IsSane D w → w.kept ≡ None → IsServing w → w.hand ≡ Some h → part_of s w h ≡ Some j → known.Has true w.service → s.ready w.service ≡ true → (k : Carried Learned) → Tells s w k → FitsAll w k (answer_of s w.service j)
   unfolding settled
   answer_fits w h j q none serving has at is ready k e =
       let same = answered_same w w.hand q is ready in
@@ -148,7 +147,7 @@ module _ {X A V Y M : Type 0} (D : Lawful X A V Y M) where
         chosen w v w p (Finished (Saw looked.Nothing)) (λ n. []) (same_work (Finished (Saw looked.Nothing)) (λ k e. (e, ((serving, (0, 0, refl)), tt)))) o
 
     -- while a part is connected, the service has come so far
-    pub opened_at : (k : ℕ) (j : Joined) → slice_get w.parts k ≡ Some j → IsServing w × l.Has (is_some w.hand) w.service
+    pub opened_at : (k : ℕ) (j : Joined) → slice_get w.parts k ≡ Some j → IsServing w × known.Has (is_some w.hand) w.service
     opened_at k j at = elim q.opened [ inl bare ↦ absurd (no_part w.parts k j bare.0 at) | inr o ↦ o ]
 
     -- a Close

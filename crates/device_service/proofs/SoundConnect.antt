@@ -1,7 +1,5 @@
 -- A Connect maps the pages of each part, or unmaps all that it mapped.
-use Rattle.std.proofs.Common.{◌≡◌, ◌⊎◌, inl, inr, ℕ, zero, suc, ◌+◌, true, false, List, [], ◌∷◌, ◌++◌, Option, Some, None, Result, Ok, Err, refl, sym, ◌∙◌, ap, subst, arith, length, length-append}
-use Rattle.pv_words.specs.declared.device.Reason.{Reason}
-use Rattle.pv_words.specs.declared.device.Reason.TheVariants as reason
+use Rattle.std.proofs.Common.{◌≡◌, ◌⊎◌, inl, inr, ℕ, suc, ◌+◌, true, false, List, [], ◌∷◌, ◌++◌, Some, None, Result, Ok, Err, refl, sym, ◌∙◌, ap, subst, arith, length, length-append}
 use Rattle.pv_words.specs.declared.grant.GrantRefusal.{GrantRefusal}
 use Rattle.pv_words.specs.declared.grant.Hold.{Hold}
 use Rattle.pv_words.specs.declared.grant.Mode.TheVariants.{Write}
@@ -10,28 +8,25 @@ use Rattle.pv_words.specs.Held.{Holds, IsProper, holding, holds_of}
 use Rattle.pv_words.specs.Plan.{Plan, Finished, Note, IsUntouched}
 use Rattle.pv_words.proofs.Fits.{fits_joined, fits_then}
 use Rattle.grant_table.specs.Laws.{IsHold}
-use Rattle.page_directory.specs.Same.{AreSame, times}
+use Rattle.page_directory.specs.Same.{times}
 use Rattle.page_directory.proofs.Counts.{times_append}
 use Rattle.link_core.specs.Activities as link
 use Rattle.link_core.specs.Activities.{Connected, Joined, Joins, Refuses, connect_plan, unmaps}
 use Rattle.link_core.specs.Laws.{IsRing, IsRefused, HasShown}
 use Rattle.link_core.proofs.PlanFits.{fits_connect}
 use Rattle.link_core.proofs.Shown.{FitFound, connects_show, unmaps_found}
-use Rattle.device_core.specs.Touched.{Touch}
-use Rattle.device_service.specs.Laws.{Laws}
 use Rattle.device_service.specs.Nodes.{Refs, Problem, IsAskedFor, all_refs}
-use Rattle.device_service.specs.Service.{Service}
-use Rattle.device_service.specs.Work.{Work, End, Met, Denied, Lacked, all_pages, after_part, connect_parts, connect_all, shut, settled}
+use Rattle.device_service.specs.Work.{Work, End, Denied, all_pages, after_part, connect_parts, connect_all, shut, settled}
 use Rattle.device_service.proofs.SoundParts.{pages_last}
 use Rattle.device_service.proofs.SoundPlans.{Fit, AllOwn, own_append, own_joined, own_are, refused_own, fits_drop}
 use Rattle.device_service.proofs.SoundRefs.{AllAsked, IsRingAsked, all_asked}
 use Rattle.device_service.proofs.SoundSettles.{no_reason}
-use Rattle.device_service.proofs.SoundWork.{Lawful, site, IsSane, EndsHeld, EndsFound, EndsSo, EndsFoundSo}
+use Rattle.device_service.proofs.SoundWork.{Lawful, site, IsSane, EndsSo, EndsFoundSo}
 
 module _ {X A V Y M : Type 0} (D : Lawful X A V Y M) where
-  open D use {s, t, r, frames, grants, dom, parts, l}
+  open D use {s, t, r, known, frames, grants, dom, parts, l}
 
-  shut_pages : (w : Work X V) (k : Hold) → l.Sane w.service → s.pages w.service ≡ [] → times k (s.pages (shut s w).service ++ []) ≡ 0
+  shut_pages : (w : Work X V) (k : Hold) → known.Sane w.service → s.pages w.service ≡ [] → times k (s.pages (shut s w).service ++ []) ≡ 0
   shut_pages w k sane bare = ap (λ hs. times k (hs ++ [])) ((l.drops w.service sane).1 ∙ bare)
 
   -- what it holds
@@ -67,8 +62,8 @@ module _ {X A V Y M : Type 0} (D : Lawful X A V Y M) where
     unfolding settled
     fits_all (Err problem) e = ((refl, (λ k. sym (shut_pages w k q.sane bare))), (still, bare))
     fits_all (Ok refs) e =
-        let known = all_asked t.kind (site D) w.read 0 parts refs (omega arith) e in
-        fits_parts refs e refs [] tt (omega (arith, known.1))
+        let asked = all_asked t.kind (site D) w.read 0 parts refs (omega arith) e in
+        fits_parts refs e refs [] tt (omega (arith, asked.1))
 
   -- what it finds
   module _ (w : Work X V) (connecting : w.connecting ≡ true) (none : w.kept ≡ None) where

@@ -1,5 +1,5 @@
 -- What a Sleep over all parts and a Raise find, and that they touch no word of a name.
-use Rattle.std.proofs.Common.{◌≡◌, ℕ, ◌<◌, ◌==◌, nat_lt, Bool, true, false, cond, List, [], ◌∷◌, length, Option, Some, refl, arith}
+use Rattle.std.proofs.Common.{◌≡◌, ℕ, ◌<◌, ◌==◌, nat_lt, Bool, true, false, cond, List, [], ◌∷◌, length, Some, refl, arith}
 use Rattle.std.proofs.lemmas.Bool.Decides.{nat_tests}
 use Rattle.pv_words.specs.Found.{Found, finding}
 use Rattle.pv_words.specs.Plan.{Plan, Finished, Make, Note, IsUntouched, joined}

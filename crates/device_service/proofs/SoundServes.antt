@@ -1,12 +1,12 @@
 -- What a connected device chooses to do begins as it should: the request in hand, an event that waits or is owed, and the round.
-use Rattle.std.proofs.Common.{◌≡◌, inl, inr, ℕ, zero, suc, ◌+◌, ◌<◌, ◌≤◌, nat_lt, Bool, true, false, List, [], ◌∷◌, ◌++◌, Option, Some, None, is_some, refl, sym, ◌∙◌, ap, subst, arith, length, slice_get}
+use Rattle.std.proofs.Common.{◌≡◌, inl, inr, ℕ, zero, suc, ◌<◌, ◌≤◌, nat_lt, Bool, true, false, List, [], ◌∷◌, ◌++◌, Option, Some, None, is_some, refl, sym, ◌∙◌, ap, subst, arith, length, slice_get}
 use Rattle.std.proofs.lemmas.Bool.Decides.{nat_tests}
 use Rattle.std.proofs.lemmas.Option.{slice_get_within}
 use Rattle.pv_words.specs.declared.device.Reason.TheVariants as reason
 use Rattle.pv_words.specs.declared.grant.Hold.{Hold}
 use Rattle.pv_words.specs.Found.{Found, finding}
-use Rattle.pv_words.specs.Held.{Holds, IsProper, holding, holds_of}
-use Rattle.pv_words.specs.Plan.{Plan, Finished, Note, IsUntouched, mapped}
+use Rattle.pv_words.specs.Held.{IsProper}
+use Rattle.pv_words.specs.Plan.{Plan, Note, IsUntouched, mapped}
 use Rattle.pv_words.proofs.Fits.{fits_mapped, fits_so}
 use Rattle.page_directory.specs.Same.{AreSame, times}
 use Rattle.page_directory.proofs.Counts.{times_append}
@@ -18,25 +18,25 @@ use Rattle.link_core.specs.Activities.{Joined, look_plan, take_plan}
 use Rattle.link_core.proofs.Shown.{found_any, looks_show, take_none}
 use Rattle.device_core.specs.Learned.{Learned, learning}
 use Rattle.device_core.specs.Machine.{Snapshot}
-use Rattle.device_core.specs.Names.{Name, Sight, all_drawn, is_worded}
-use Rattle.device_core.specs.Order.{Act, Either, Offers}
-use Rattle.device_core.specs.Touched.{Carried, Touch, carrying}
-use Rattle.device_service.specs.Laws.{Laws, AreHeld, Leads, WantsFor}
+use Rattle.device_core.specs.Names.{Name, all_drawn, is_worded}
+use Rattle.device_core.specs.Order.{Offers}
+use Rattle.device_core.specs.Touched.{Carried, carrying}
+use Rattle.device_service.specs.Laws.{AreHeld, Leads, WantsFor}
 use Rattle.device_service.specs.Nodes.{Kind, Ringed, Ringless}
 use Rattle.device_service.specs.Raise.{Put, Stored, Full, BadCons, raise_plan, limit}
-use Rattle.device_service.specs.Reading.{Naming, all_gone, rows_of, begins_event, begins_part, begins_raise, begins_ready, begins_serve, begins_waiting, begins_hand}
+use Rattle.device_service.specs.Reading.{all_gone, rows_of, begins_event, begins_part, begins_raise, begins_ready, begins_serve, begins_waiting, begins_hand}
 use Rattle.device_service.specs.Rows.{Hand, Rows}
-use Rattle.device_service.specs.Service.{Service, Job, Works, Starves, Deed, Runs, Raises}
+use Rattle.device_service.specs.Service.{Job, Works, Starves, Deed, Runs, Raises}
 use Rattle.device_service.specs.Work.{Work, Round, Looks, Sleeps, Idles, End, Saw, Took, Own, Done, Slept, Raised, all_pages, sleep_all, ring_page, with_event, raises_if, does_event, answer_of, looks_at, in_round, takes_from, with_left, with_rings, does, decides, decides_by, part_of, serves_by, with_waiting, with_hand, after_look, after_sleep, after_raise, settled}
-use Rattle.device_service.proofs.SoundBegins.{BeginsSo, FitsAll, RunsTo, answer_fits, begins_leaving, begins_nothing, chosen, lost_run, mapped_fits, opened_at, page_held, ring_held, ring_own, run_to, same_work, shown_of, touched_of, unkept_found}
+use Rattle.device_service.proofs.SoundBegins.{BeginsSo, RunsTo, answer_fits, begins_leaving, begins_nothing, chosen, lost_run, mapped_fits, opened_at, page_held, ring_held, ring_own, run_to, same_work, shown_of, touched_of, unkept_found}
 use Rattle.device_service.proofs.SoundFound.{raise_shows, sleeps_none}
 use Rattle.device_service.proofs.SoundParts.{event_in, evented_pages, fits_look, fits_take, fits_sleeps, fits_raise}
 use Rattle.device_service.proofs.SoundPlans.{own_in}
 use Rattle.device_service.proofs.SoundSettles.{found_index, no_reason}
-use Rattle.device_service.proofs.SoundWork.{Lawful, held_pages, KeptFound, IsFoundIn, Tells, IsServing, site, learned, IsNamed, IsSane, IsRaising, EndsWell, EndsSo, EndsFoundSo, look_pages, sleep_pages}
+use Rattle.device_service.proofs.SoundWork.{Lawful, held_pages, KeptFound, IsFoundIn, Tells, IsServing, site, learned, IsSane, IsRaising, EndsWell, EndsSo, EndsFoundSo, look_pages, sleep_pages}
 
 module _ {X A V Y M : Type 0} (D : Lawful X A V Y M) where
-  open D use {s, t, r, frames, grants, dom, parts, l}
+  open D use {s, t, r, known, frames, grants, dom, parts, l}
 
   sleep_kept : (w : Work X V) (quiet : Bool) → (after_sleep s w quiet).kept ≡ w.kept
   sleep_kept w true = refl
@@ -83,8 +83,8 @@ module _ {X A V Y M : Type 0} (D : Lawful X A V Y M) where
     begins_round Idles serving o = absurd o
 
     -- where no request is in hand, a part that is connected is there for a service without one
-    has_none : (k : ℕ) (j : Joined) → w.hand ≡ None → slice_get w.parts k ≡ Some j → l.Has false w.service
-    has_none k j empty at = subst (λ (x : Option Hand). l.Has (is_some x) w.service) empty (opened_at D w v p q k j at).1
+    has_none : (k : ℕ) (j : Joined) → w.hand ≡ None → slice_get w.parts k ≡ Some j → known.Has false w.service
+    has_none k j empty at = subst (λ (x : Option Hand). known.Has (is_some x) w.service) empty (opened_at D w v p q k j at).1
 
     few_parts : length w.parts ≤ parts
     few_parts = elim q.whole [ inl bare ↦ subst (λ (js : List Joined). length js ≤ parts) (sym bare) (omega arith) | inr all ↦ omega (arith, all) ]
@@ -110,16 +110,16 @@ module _ {X A V Y M : Type 0} (D : Lawful X A V Y M) where
     begins_rings Ringless serving empty o = absurd o
 
     -- the activity of the request in hand
-    module _ (h : Hand) (serving : IsServing w) (has : w.hand ≡ Some h) (come : l.Has true w.service) where
+    module _ (h : Hand) (serving : IsServing w) (has : w.hand ≡ Some h) (come : known.Has true w.service) where
       own_begins : (y : X) (x : Plan A) → s.ready w.service ≡ false → Leads (s.job (site D) w.service) y x → BeginsSo D w (record w { service = y }) (mapped (λ a. Own a) x) (λ n. all_gone (r.goes w.service n.service))
       unfolding settled
       own_begins y x apart leads =
           let b = l.begins w.service y x q.sane come apart leads in
           let new : Work X V = record w { service = y } in
-          let sane : IsSane D new = record { own = q.own; whole = q.whole; sane = b.0; opened = inr (serving, subst (λ (z : Option Hand). l.Has (is_some z) y) (sym has) b.1); kept = q.kept } in
+          let sane : IsSane D new = record { own = q.own; whole = q.whole; sane = b.0; opened = inr (serving, subst (λ (z : Option Hand). known.Has (is_some z) y) (sym has) b.1); kept = q.kept } in
           let fits = λ (c : Carried Learned) (e : Tells s w c).
-          fits_mapped (λ (j : Carried Learned) want note. IsProper frames grants dom j.own.holds want note × l.Meets y want note) (carrying (learning frames)) (λ a. Own a) (λ (j : Carried Learned) o. Tells s (settled s (site D) new o) j × EndsWell D new j o) c x
-          (fits_so (λ (j : Carried Learned) want note. IsProper frames grants dom j.own.holds want note × l.Meets y want note) (carrying (learning frames)) (λ (j : Carried Learned) a. AreHeld j.own.holds (s.pages (s.after y a) ++ all_pages w.parts) × l.EndsOwn y j.own.found j.touched a) (λ (j : Carried Learned) a. Tells s (settled s (site D) new (Own a)) j × EndsWell D new j (Own a))
+          fits_mapped (λ (j : Carried Learned) want note. IsProper frames grants dom j.own.holds want note × known.Meets y want note) (carrying (learning frames)) (λ a. Own a) (λ (j : Carried Learned) o. Tells s (settled s (site D) new o) j × EndsWell D new j o) c x
+          (fits_so (λ (j : Carried Learned) want note. IsProper frames grants dom j.own.holds want note × known.Meets y want note) (carrying (learning frames)) (λ (j : Carried Learned) a. AreHeld j.own.holds (s.pages (s.after y a) ++ all_pages w.parts) × known.EndsOwn y j.own.found j.touched a) (λ (j : Carried Learned) a. Tells s (settled s (site D) new (Own a)) j × EndsWell D new j (Own a))
           (λ j a g. ((g.0, (λ why i. absurd (no_reason w.kept why none i))), ((serving, (h, has), b.1), g.1))) c x (b.2 (all_pages w.parts) c e.0)) in (
             sane,
             fits,
@@ -134,7 +134,7 @@ module _ {X A V Y M : Type 0} (D : Lawful X A V Y M) where
       starved_begins j u at apart wants =
           let b = l.starves w.service u q.sane come apart wants in
           let new : Work X V = record w { service = u } in
-          let sane : IsSane D new = record { own = q.own; whole = q.whole; sane = b.0; opened = inr (serving, subst (λ (z : Option Hand). l.Has (is_some z) u) (sym has) b.1); kept = q.kept } in
+          let sane : IsSane D new = record { own = q.own; whole = q.whole; sane = b.0; opened = inr (serving, subst (λ (z : Option Hand). known.Has (is_some z) u) (sym has) b.1); kept = q.kept } in
           let pages = λ (k : Hold). let same = b.3 k in
           let all : times k (held_pages s w) ≡ times k (held_pages s new) = omega (arith, same, times_append k (s.pages w.service) (all_pages w.parts), times_append k (s.pages u) (all_pages w.parts)) in all in (
             sane,
@@ -161,7 +161,7 @@ module _ {X A V Y M : Type 0} (D : Lawful X A V Y M) where
     begins_in_hand : (h : Hand) (x : Option Joined) → IsServing w → w.hand ≡ Some h → part_of s w h ≡ x → Offers (decides_by s (site D) w x) v p → BeginsSo D w v p (λ n. begins_part s t r w n x)
     begins_in_hand h None serving has at o = begins_nothing D w v p q serving o
     begins_in_hand h (Some j) serving has at o =
-        begins_decides h serving has (subst (λ (z : Option Hand). l.Has (is_some z) w.service) has (opened_at D w v p q h.part j at).1) j (s.ready w.service) at refl o
+        begins_decides h serving has (subst (λ (z : Option Hand). known.Has (is_some z) w.service) has (opened_at D w v p q h.part j at).1) j (s.ready w.service) at refl o
 
     -- an event is raised
     pub begins_raising : (e : Option V) (part : ℕ) (words : ℕ → List ℕ) (j : Joined) (b : Bool) → IsRaising D w part e → slice_get w.parts part ≡ Some j → ((n : ℕ) → length (words n) ≤ 16) → nat_lt j.prod limit ≡ b → Offers (raises_if s w e part words j b) v p → BeginsSo D w v p (λ n. begins_raise s t r w n b)
@@ -185,8 +185,8 @@ module _ {X A V Y M : Type 0} (D : Lawful X A V Y M) where
     begins_deed x xs (Runs pl) j serving empty is at event o =
         let has = has_none (s.at x) j empty at in
         let fits = λ (c : Carried Learned) (e : Tells s w c).
-        fits_mapped (λ (k : Carried Learned) want note. IsProper frames grants dom k.own.holds want note × l.Meets w.service want note) (carrying (learning frames)) (λ a. Done a) (λ (k : Carried Learned) o. Tells s (settled s (site D) w o) k × EndsWell D w k o) c pl
-        (fits_so (λ (k : Carried Learned) want note. IsProper frames grants dom k.own.holds want note × l.Meets w.service want note) (carrying (learning frames)) (λ (k : Carried Learned) a. AreHeld k.own.holds (s.pages (s.after w.service a) ++ all_pages w.parts) × l.EndsDone x w.service k.own.found k.touched a) (λ (k : Carried Learned) a. Tells s (settled s (site D) w (Done a)) k × EndsWell D w k (Done a))
+        fits_mapped (λ (k : Carried Learned) want note. IsProper frames grants dom k.own.holds want note × known.Meets w.service want note) (carrying (learning frames)) (λ a. Done a) (λ (k : Carried Learned) o. Tells s (settled s (site D) w o) k × EndsWell D w k o) c pl
+        (fits_so (λ (k : Carried Learned) want note. IsProper frames grants dom k.own.holds want note × known.Meets w.service want note) (carrying (learning frames)) (λ (k : Carried Learned) a. AreHeld k.own.holds (s.pages (s.after w.service a) ++ all_pages w.parts) × known.EndsDone x w.service k.own.found k.touched a) (λ (k : Carried Learned) a. Tells s (settled s (site D) w (Done a)) k × EndsWell D w k (Done a))
         (λ k a z. ((z.0, (λ why i. absurd (no_reason w.kept why none i))), ((serving, empty, has), (x, xs, is, z.1)))) c pl (l.serves w.service x pl q.sane has event (all_pages w.parts) c e.0)) in
         chosen D w v w p (mapped (λ a. Done a) pl) (λ n. []) (same_work D w v p q (mapped (λ a. Done a) pl) fits) o
     begins_deed x xs (Raises words) j serving empty is at event o =

@@ -18,8 +18,7 @@ use Rattle.device_core.specs.Learned.{Learned}
 use Rattle.device_core.specs.Machine.{Stays}
 use Rattle.device_core.specs.Order.{Order, Rest}
 use Rattle.device_core.specs.Site.{Site}
-use Rattle.device_core.specs.Touched.{Carried, Touch}
-use Rattle.device_service.specs.Laws.{Laws}
+use Rattle.device_core.specs.Touched.{Carried}
 use Rattle.device_service.specs.Nodes.{Kind, Ringed, Ringless}
 use Rattle.device_service.specs.Raise.{Put, Stored, Full, BadCons, limit}
 use Rattle.device_service.specs.Reading.{Naming}
@@ -29,7 +28,7 @@ use Rattle.device_service.specs.Work.{Work, Round, Looks, Sleeps, Idles, End, Sa
 use Rattle.device_service.proofs.SoundActions.{closed_apart}
 use Rattle.device_service.proofs.SoundParts.{counted_pages, counted_length, counted_none, evented_pages, evented_length, evented_none}
 use Rattle.device_service.proofs.SoundPlans.{AllOwn}
-use Rattle.device_service.proofs.SoundWork.{Lawful, Tells, IsServing, IsKept, HasParts, IsPut, site, learned, IsNamed, IsBare, IsSane, IsRaising, EndsHeld, EndsFound, EndsWell, bare_unless}
+use Rattle.device_service.proofs.SoundWork.{Lawful, Tells, IsServing, IsKept, IsPut, site, learned, IsNamed, IsBare, IsSane, IsRaising, EndsWell, bare_unless}
 
 -- an overrun is true
 found_in : (b c : Bool) (ready prod rsp x y : ℕ) → (c ≡ false → 32 < ready) → cond b looked.Nothing (cond c (looked.Ready ready) (looked.Overrun prod rsp)) ≡ looked.Overrun x y → (x ≡ prod) × ((y ≡ rsp) × (32 < ready))
@@ -60,7 +59,7 @@ pub no_reason : (x : Option Reason) (why : Reason) → x ≡ None → x ≡ Some
 no_reason x why n e = cc
 
 module _ {X A V Y M : Type 0} (D : Lawful X A V Y M) where
-  open D use {s, t, r, frames, grants, dom, parts, l}
+  open D use {s, t, r, known, frames, grants, dom, parts, l}
 
   -- the place in the round is no matter, and neither are the requests that are left
   look_sane : (w : Work X V) (x : Looked) (rsp prod : ℕ) → IsSane D w → IsServing w → x ≡ looked_of rsp prod → IsSane D (after_look s (site D) w x)
@@ -85,7 +84,7 @@ module _ {X A V Y M : Type 0} (D : Lawful X A V Y M) where
   sleep_sane w true q = record { own = q.own; whole = q.whole; sane = q.sane; opened = q.opened; kept = q.kept }
   sleep_sane w false q = record { own = q.own; whole = q.whole; sane = q.sane; opened = q.opened; kept = q.kept }
 
-  answer_sane : (w : Work X V) (x : Option Hand) → IsSane D w → IsServing w → l.Has true w.service → s.ready w.service ≡ true → IsSane D (after_answer s w x)
+  answer_sane : (w : Work X V) (x : Option Hand) → IsSane D w → IsServing w → known.Has true w.service → s.ready w.service ≡ true → IsSane D (after_answer s w x)
   answer_sane w None q serving has ready = q
   answer_sane w (Some h) q serving has ready =
       let a = l.answers w.service q.sane has ready in
@@ -97,7 +96,7 @@ module _ {X A V Y M : Type 0} (D : Lawful X A V Y M) where
         kept = q.kept;
       }
 
-  take_sane : (w : Work X V) (words : List ℕ) → IsSane D w → IsServing w → l.Has false w.service → IsSane D (settled s (site D) w (Took words))
+  take_sane : (w : Work X V) (words : List ℕ) → IsSane D w → IsServing w → known.Has false w.service → IsSane D (settled s (site D) w (Took words))
   unfolding settled
   take_sane w words q serving has =
       let k = l.takes w.service words q.sane has in
@@ -107,13 +106,13 @@ module _ {X A V Y M : Type 0} (D : Lawful X A V Y M) where
   unfolding settled
   own_sane w k a q e =
       let b = l.ends w.service k.own.found k.touched a q.sane e.0.2 e.1 in
-      record { own = q.own; whole = q.whole; sane = b.0; opened = inr (e.0.0, subst (λ (x : Option Hand). l.Has (is_some x) (s.after w.service a)) (sym e.0.1.1) b.1); kept = q.kept }
+      record { own = q.own; whole = q.whole; sane = b.0; opened = inr (e.0.0, subst (λ (x : Option Hand). known.Has (is_some x) (s.after w.service a)) (sym e.0.1.1) b.1); kept = q.kept }
 
   done_sane : (w : Work X V) (k : Carried Learned) (a : A) → IsSane D w → EndsWell D w k (Done a) → IsSane D (settled s (site D) w (Done a))
   unfolding settled
   done_sane w k a q e =
       let b = l.served w.service e.1.0 k.own.found k.touched a q.sane e.0.2 e.1.3 in
-      record { own = q.own; whole = q.whole; sane = b.0; opened = inr (e.0.0, subst (λ (x : Option Hand). l.Has (is_some x) (s.after w.service a)) (sym e.0.1) b.1); kept = q.kept }
+      record { own = q.own; whole = q.whole; sane = b.0; opened = inr (e.0.0, subst (λ (x : Option Hand). known.Has (is_some x) (s.after w.service a)) (sym e.0.1) b.1); kept = q.kept }
 
   raise_sane : (w : Work X V) (part : ℕ) (e : Option V) (p : Put) → IsSane D w → IsRaising D w part e → IsPut p → IsSane D (after_raise s w part e p)
   raise_sane w part e Stored q i put =
@@ -122,12 +121,12 @@ module _ {X A V Y M : Type 0} (D : Lawful X A V Y M) where
         own = subst (λ hs. AllOwn frames grants dom hs) (sym (evented_pages w.parts part (slice_get w.parts part) refl)) q.own;
         whole = elim q.whole [ inl none ↦ inl (evented_none w.parts part (slice_get w.parts part) none) | inr all ↦ inr (evented_length w.parts part (slice_get w.parts part) ∙ all) ];
         sane = k.0;
-        opened = inr (i.serving, subst (λ (x : Option Hand). l.Has (is_some x) (s.after_put w.service e)) (sym i.none) k.1);
+        opened = inr (i.serving, subst (λ (x : Option Hand). known.Has (is_some x) (s.after_put w.service e)) (sym i.none) k.1);
         kept = q.kept;
       }
   raise_sane w part e Full q i put =
       let k = (l.raises w.service e part q.sane i.has i.raise).1 in
-      record { own = q.own; whole = q.whole; sane = k.0; opened = inr (i.serving, subst (λ (x : Option Hand). l.Has (is_some x) (s.after_full w.service e)) (sym i.none) k.1); kept = q.kept }
+      record { own = q.own; whole = q.whole; sane = k.0; opened = inr (i.serving, subst (λ (x : Option Hand). known.Has (is_some x) (s.after_full w.service e)) (sym i.none) k.1); kept = q.kept }
   raise_sane w part e (BadCons prod cons) q i put =
       record {
         own = q.own;
@@ -145,7 +144,7 @@ module _ {X A V Y M : Type 0} (D : Lawful X A V Y M) where
       record {
         own = subst (λ js. AllOwn frames grants dom (all_pages js)) (sym same) q.own;
         whole = subst (λ (js : List Joined). (js ≡ []) ⊎ (length js ≡ parts)) (sym same) q.whole;
-        sane = subst l.Sane (sym none) b.0;
+        sane = subst known.Sane (sym none) b.0;
         opened = inl (same ∙ bare.0, ap (λ (x : X). s.pages x) none ∙ b.2);
         kept = λ why e. absurd (no_reason v.kept why unkept e);
       }
@@ -274,7 +273,7 @@ module _ {X A V : Type 0} (s : Service X A V) (w v : Work X V) where
     pauses e = rests_closing w.closing e
 
 module _ {X A V Y M : Type 0} (D : Lawful X A V Y M) where
-  open D use {s, t, r, frames, grants, dom, parts, l}
+  open D use {s, t, r, known, frames, grants, dom, parts, l}
 
   -- what is known, told and shown where it rests
   abbrev pub RestsAs : Work X V → Work X V → Type 0

@@ -1,7 +1,6 @@
 -- What is said at an activity's end is a move of the machine, and where nothing is said, nothing is shown otherwise.
-use Rattle.std.proofs.Common.{◌≡◌, ◌⊎◌, inl, inr, ℕ, suc, ◌<◌, Bool, true, false, List, [], ◌∷◌, Option, Some, None, map, refl, sym, ◌∙◌, ap, subst, slice_get}
+use Rattle.std.proofs.Common.{◌≡◌, ◌⊎◌, inl, inr, ℕ, suc, Bool, true, false, List, [], ◌∷◌, Option, Some, None, map, refl, sym, ◌∙◌, ap, subst, slice_get}
 use Rattle.std.proofs.lemmas.Bool.{true≢false}
-use Rattle.pv_words.specs.declared.device.NodeValue.{NodeValue}
 use Rattle.pv_words.specs.declared.device.Reason.{Reason}
 use Rattle.pv_words.specs.declared.device.Reason.TheVariants as reason
 use Rattle.pv_words.specs.declared.device.Said.{Said}
@@ -20,15 +19,14 @@ use Rattle.device_core.specs.Machine.{Stays}
 use Rattle.device_core.specs.Names.{Sight, all_drawn, with_name, words_in}
 use Rattle.device_core.specs.Site.{Site}
 use Rattle.device_core.specs.Touched.{Carried, Touch, Took as Taken, Put as Wrote, numbered}
-use Rattle.device_service.specs.Laws.{Laws, Same, SameNumbers, IsOfService, IsTold, evidence}
+use Rattle.device_service.specs.Laws.{IsOfService, IsTold, evidence}
 use Rattle.device_service.specs.Raise.{Put, Stored, Full, BadCons}
-use Rattle.device_service.specs.Reading.{Naming, Shows, rows_of, names_of, unnamed, named_by, named_after, made_by, made_at, taken_at}
+use Rattle.device_service.specs.Reading.{Naming, rows_of, names_of, unnamed, named_by, named_after, made_by, made_at, taken_at}
 use Rattle.device_service.specs.Rows.{Table, Rows, Hand, Evidence, Says, Enters, hand_in, makes}
 use Rattle.device_service.specs.Rows as rows
-use Rattle.device_service.specs.Service.{Service}
 use Rattle.device_service.specs.Work.{Work, End, Saw, Took, Own, Done, Answered, Slept, Met, Denied, Lacked, Shut, Left, Renewed, Raised, waits_after, with_event, after_look, after_sleep, after_answer, after_raise, shut, entered, settled, replied_in, raise_said, said_at, device}
 use Rattle.device_service.proofs.SoundActions.{renews_from, closed_apart}
-use Rattle.device_service.proofs.SoundWork.{Lawful, IsServing, site, learned, IsNamed, IsDue, IsSane, IsShut, IsRaising, EndsWell, bare_unless}
+use Rattle.device_service.proofs.SoundWork.{Lawful, site, learned, IsNamed, IsDue, IsSane, IsShut, IsRaising, EndsWell, bare_unless}
 
 same_said : (a b : Said) → Some a ≡ Some b → a ≡ b
 same_said a b e = cc
@@ -72,7 +70,7 @@ none_made t old f (said.Published n) i = refl
 none_made t old f (said.Closed why) i = refl
 
 module _ {X A V Y M : Type 0} (D : Lawful X A V Y M) where
-  open D use {s, t, r, frames, grants, dom, parts, l}
+  open D use {s, t, r, known, frames, grants, dom, parts, l}
 
   abbrev row : Work X V → Naming M → Rows Y V
   row w n = rows_of s t r w n
@@ -232,7 +230,7 @@ module _ {X A V Y M : Type 0} (D : Lawful X A V Y M) where
   tells_state w v k n b what enters none bare named f =
       let empty = l.begun_shows w.read in
       tells_as w k n (said.State b) what [] [] v (unnamed s t r n) f (
-        subst (λ x. l.Named x r.unnamed) (sym none) empty.0,
+        subst (λ x. known.Named x r.unnamed) (sym none) empty.0,
         record {
           move = enters;
           names = λ sight. ap (λ (x : X). all_drawn sight (r.names x r.unnamed)) none ∙ (ap (all_drawn sight) empty.2 ∙ sym (ap (all_drawn sight) (l.bare w.service n.service named bare)));

@@ -1,5 +1,5 @@
 -- What is known of a device's work between two activities, and of an activity's end, where its service keeps its laws.
-use Rattle.std.proofs.Common.{◌≡◌, ◌⊎◌, ℕ, ◌<◌, ◌≤◌, ◌||◌, Bool, true, false, List, [], ◌∷◌, ◌++◌, Option, Some, None, is_some, Ok, refl, sym, ap, ◌∙◌, subst, inl, inr, length, arith}
+use Rattle.std.proofs.Common.{◌≡◌, ◌⊎◌, ℕ, ◌<◌, ◌||◌, Bool, true, false, List, [], ◌∷◌, ◌++◌, Option, Some, None, is_some, Ok, refl, sym, ap, ◌∙◌, subst, inl, inr, length}
 use Rattle.pv_words.specs.declared.device.HostEvent.{HostEvent}
 use Rattle.pv_words.specs.declared.device.HostRefusal.{HostRefusal}
 use Rattle.pv_words.specs.declared.device.NodeValue.{NodeValue}
@@ -9,20 +9,20 @@ use Rattle.pv_words.specs.declared.device.State.{State}
 use Rattle.pv_words.specs.declared.device.State.TheVariants as state
 use Rattle.pv_words.specs.declared.grant.Hold.{Hold}
 use Rattle.pv_words.specs.Found.{Found}
-use Rattle.pv_words.specs.Held.{Holds, holds_of}
+use Rattle.pv_words.specs.Held.{Holds}
 use Rattle.page_directory.specs.Same.{AreSame}
 use Rattle.ring_words.specs.declared.Looked.{Looked}
 use Rattle.ring_words.specs.declared.Looked.TheVariants as looked
 use Rattle.ring_words.specs.Ring.{looked_of, since}
 use Rattle.xenbus_states.specs.Connection.{Connection, first_ending, heard, is_start}
 use Rattle.host_events.specs.Queue.{unless}
-use Rattle.link_core.specs.Activities.{Joined}
 use Rattle.device_core.specs.Learned.{Learned, learning}
 use Rattle.device_core.specs.Machine.{Reading, Passes, extended}
 use Rattle.device_core.specs.Order.{News, Sets, Hosts, refused_by}
 use Rattle.device_core.specs.Site.{Site}
 use Rattle.device_core.specs.Touched.{Carried, Touch}
-use Rattle.device_service.specs.Laws.{Laws, AreHeld, IsRaise}
+use Rattle.device_service.specs.Claims.{site_of}
+use Rattle.device_service.specs.Laws.{Facts, Laws, AreHeld, IsRaise}
 use Rattle.device_service.specs.Nodes.{Kind, Refs, all_refs}
 use Rattle.device_service.specs.Raise.{Put, Stored, Full, BadCons, slots}
 use Rattle.device_service.specs.Reading.{Naming, Shows, reading, rows_of}
@@ -30,10 +30,6 @@ use Rattle.device_service.specs.Rows.{Table, Rows, Hand, Event, Hears, IsReason,
 use Rattle.device_service.specs.Service.{Service}
 use Rattle.device_service.specs.Work.{Work, End, Saw, Took, Own, Done, Answered, Slept, Met, Denied, Lacked, Shut, Left, Renewed, Raised, all_pages, after_look, after_sleep, after_answer, after_raise, device, refused_at, replied_in, raise_said, said_at, settled, told}
 use Rattle.device_service.proofs.SoundPlans.{AllOwn}
-
--- what the domain has, and how many parts
-abbrev pub the_site : (frames grants : ℕ → ℕ) → (dom parts : ℕ) → Site
-the_site frames grants dom parts = record { dom = dom; parts = parts; frames = frames dom; grants = grants dom }
 
 -- a service of a device of this domain, how it is read, and that it keeps its laws
 pub record Lawful (X A V Y M : Type 0) : Type 1 where
@@ -44,7 +40,8 @@ pub record Lawful (X A V Y M : Type 0) : Type 1 where
   pub grants : ℕ → ℕ
   pub dom : ℕ
   pub parts : ℕ
-  pub l : Laws s t r (the_site frames grants dom parts) frames grants
+  pub known : Facts X A V M
+  pub l : Laws s t r known (site_of frames grants dom parts) frames grants
 
 -- the pages of the service, then those of the parts
 abbrev pub held_pages : {X A V : Type 0} → Service X A V → Work X V → List Hold
@@ -111,17 +108,17 @@ due_heard kind site c connecting read front f (reason.BadCons p x) h = h
 due_heard kind site c connecting read front f (reason.Spent p) h = h
 
 module _ {X A V Y M : Type 0} (D : Lawful X A V Y M) where
-  open D use {s, t, r, frames, grants, dom, parts, l}
+  open D use {s, t, r, known, frames, grants, dom, parts, l}
 
   abbrev pub site : Site
-  site = the_site frames grants dom parts
+  site = site_of frames grants dom parts
 
   -- the reading, of all that the accesses told
   abbrev pub learned : Reading Learned (Work X V) (End A V) (Naming M) (Rows Y V) Event
   learned = extended (reading s t r site) (λ (k : Learned). k.found) (learning frames)
 
   abbrev pub IsNamed : Work X V → Naming M → Type 0
-  IsNamed w n = l.Named w.service n.service
+  IsNamed w n = known.Named w.service n.service
 
   -- no page is held
   abbrev pub IsBare : Work X V → Type 0
@@ -135,8 +132,8 @@ module _ {X A V Y M : Type 0} (D : Lawful X A V Y M) where
   pub record IsSane (w : Work X V) : Type 0 where
     pub own : AllOwn frames grants dom (all_pages w.parts)
     pub whole : HasParts parts w
-    pub sane : l.Sane w.service
-    pub opened : IsBare w ⊎ (IsServing w × l.Has (is_some w.hand) w.service)
+    pub sane : known.Sane w.service
+    pub opened : IsBare w ⊎ (IsServing w × known.Has (is_some w.hand) w.service)
     pub kept : (why : Reason) → w.kept ≡ Some why → IsKept w why × (w.closing ≡ false)
 
   pub bare_unless : (w : Work X V) → IsSane w → (IsServing w → ⊥) → IsBare w
@@ -150,17 +147,17 @@ module _ {X A V Y M : Type 0} (D : Lawful X A V Y M) where
   pub record IsRaising (w : Work X V) (part : ℕ) (e : Option V) : Type 0 where
     pub serving : IsServing w
     pub none : w.hand ≡ None
-    pub has : l.Has false w.service
+    pub has : known.Has false w.service
     pub raise : IsRaise s w.service e part
     pub oldest : IsOldest e w.waiting
 
   -- how an activity ends, of the work in which it was chosen
   abbrev pub EndsHeld : Work X V → End A V → Type 0
   EndsHeld w (Saw x) = IsServing w × ((rsp : ℕ) × (prod : ℕ) × (x ≡ looked_of rsp prod))
-  EndsHeld w (Took words) = IsServing w × (w.hand ≡ None) × (w.at < parts) × l.Has false w.service
-  EndsHeld w (Own a) = IsServing w × HasHand w × l.Has true w.service
-  EndsHeld w (Done a) = IsServing w × (w.hand ≡ None) × l.Has false w.service
-  EndsHeld w (Answered notified) = IsServing w × HasHand w × l.Has true w.service × (s.ready w.service ≡ true)
+  EndsHeld w (Took words) = IsServing w × (w.hand ≡ None) × (w.at < parts) × known.Has false w.service
+  EndsHeld w (Own a) = IsServing w × HasHand w × known.Has true w.service
+  EndsHeld w (Done a) = IsServing w × (w.hand ≡ None) × known.Has false w.service
+  EndsHeld w (Answered notified) = IsServing w × HasHand w × known.Has true w.service × (s.ready w.service ≡ true)
   EndsHeld w (Slept quiet) = Unit {0}
   EndsHeld w (Met ps) =
       (w.connecting ≡ true) × AllOwn frames grants dom (all_pages ps) × (length ps ≡ parts) × ((refs : List Refs) × (all_refs t.kind w.read 0 parts ≡ Ok refs)) × (s.pages w.service ≡ [])
@@ -173,11 +170,11 @@ module _ {X A V Y M : Type 0} (D : Lawful X A V Y M) where
 
   -- the oldest event that waits is done
   abbrev pub IsDone : Work X V → Found → List Touch → A → Type 0
-  IsDone w f ts a = (e : V) × (later : List V) × (w.waiting ≡ e ∷ later) × l.EndsDone e w.service f ts a
+  IsDone w f ts a = (e : V) × (later : List V) × (w.waiting ≡ e ∷ later) × known.EndsDone e w.service f ts a
 
   -- and as the words show that were found last, and those of names that were touched
   abbrev pub EndsFound : Work X V → Found → List Touch → End A V → Type 0
-  EndsFound w f ts (Own a) = l.EndsOwn w.service f ts a
+  EndsFound w f ts (Own a) = known.EndsOwn w.service f ts a
   EndsFound w f ts (Done a) = IsDone w f ts a
   EndsFound w f ts (Denied why) = IsDue w f (reason.Refused why)
   EndsFound w f ts (Lacked problem) = IsDue w f (reason.Node problem.part problem.key problem.fault)

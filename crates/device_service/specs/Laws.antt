@@ -1,5 +1,5 @@
 -- What a service owes to the order of work, of its own definitions alone.
-use Rattle.std.specs.Prelude.{◌≡◌, ℕ, ◌<◌, ◌≤◌, Bool, true, false, List, [], ◌∷◌, ◌++◌, length, map, slice_get, Option, Some, None}
+use Rattle.std.specs.Prelude.{◌≡◌, ℕ, ◌≤◌, Bool, true, false, List, [], ◌∷◌, ◌++◌, length, map, slice_get, Option, Some, None}
 use Rattle.pv_words.specs.declared.device.HostEvent.{HostEvent}
 use Rattle.pv_words.specs.declared.device.NodeValue.{NodeValue}
 use Rattle.pv_words.specs.declared.device.Said.{Said}
@@ -95,62 +95,122 @@ FitsBeside s frames grants dom Meets Ends x y p =
     → FitsFrom (λ j want note. IsProper frames grants dom j.own.holds want note × Meets y want note) (carrying (learning frames))
     (λ j a. AreHeld j.own.holds (s.pages (s.after y a) ++ rest) × Ends y j.own.found j.touched a) k p
 
-pub record Laws {X A V Y M : Type 0} (s : Service X A V) (t : Table Y V) (r : Shows X Y M) (site : Site) (frames grants : ℕ → ℕ) : Type 1 where
-  -- what is always true of what it knows, and while the device serves, with a request in hand or without; the numbers of the names
-  -- are those of what it knows
+-- What is known of a service: what is always true of what it knows, and while its device serves, with a request in hand or without;
+-- that the numbers of the names are those of what it knows; how its activities end, of the request in hand, and of an event that
+-- waited; and how they touch words of names.
+pub record Facts (X A V M : Type 0) : Type 1 where
   pub Sane : X → Type 0
   pub Has : Bool → X → Type 0
   pub Named : X → M → Type 0
-  -- how its activities end: of the request in hand, and of an event that waited; and how they touch words of names
   pub EndsOwn : X → Found → List Touch → A → Type 0
   pub EndsDone : V → X → Found → List Touch → A → Type 0
   pub Meets : X → Want → Note → Type 0
+
+pub record Laws {X A V Y M : Type 0} (s : Service X A V) (t : Table Y V) (r : Shows X Y M) (known : Facts X A V M) (site : Site) (frames grants : ℕ → ℕ) : Type 0 where
   -- 1. its nodes and the host's events are those of the machine
   pub kind_is : s.kind ≡ t.kind
   pub waits_is : (e : HostEvent) → s.waits e ≡ t.waits e
   pub refusal_is : (b : State) (vs : List V) (e : HostEvent) → s.refusal b vs e ≡ t.refusal b vs e
   -- 2. the pages are the domain's, and a reply has at most sixteen words
-  pub pages_are : (x : X) → Sane x → AreOf (grants site.dom) site.dom (s.pages x)
+  pub pages_are : (x : X) → known.Sane x → AreOf (grants site.dom) site.dom (s.pages x)
   pub short : (x : X) → length (s.reply x) ≤ 16
   -- 3. with nothing
-  pub begun_sane : (nodes : List NodeValue) → Sane (s.begun nodes) × Has false (s.begun nodes) × (s.pages (s.begun nodes) ≡ [])
-  pub begun_shows : (nodes : List NodeValue) → Named (s.begun nodes) r.unnamed × (r.rows (s.begun nodes) r.unnamed ≡ t.begun nodes) × (r.names (s.begun nodes) r.unnamed ≡ [])
+  pub begun_sane :
+      (nodes : List NodeValue) → known.Sane (s.begun nodes) × known.Has false (s.begun nodes) × (s.pages (s.begun nodes) ≡ [])
+  pub begun_shows :
+      (nodes : List NodeValue)
+      → known.Named (s.begun nodes) r.unnamed × (r.rows (s.begun nodes) r.unnamed ≡ t.begun nodes)
+      × (r.names (s.begun nodes) r.unnamed ≡ [])
   -- 4. a Close: no page is left, no name, and all rows; then the request in hand is dropped
-  pub strips : (x : X) → Sane x → Sane (s.stripped x) × (s.pages (s.stripped x) ≡ [])
-  pub strips_shows : (x : X) (m : M) → Sane x → Named x m → Named (s.stripped x) m × (r.rows (s.stripped x) m ≡ r.rows x m) × (r.names (s.stripped x) m ≡ []) × SameNumbers r x (s.stripped x) m
-  pub drops : (x : X) → Sane x → Sane (s.dropped x) × (s.pages (s.dropped x) ≡ s.pages x)
-  pub drops_shows : (x : X) (m : M) → Named x m → Named (s.dropped x) m × (r.rows (s.dropped x) m ≡ t.dropped (r.rows x m)) × (r.names (s.dropped x) m ≡ r.names x m)
-  pub bare : (x : X) (m : M) → Named x m → s.pages x ≡ [] → r.names x m ≡ []
+  pub strips : (x : X) → known.Sane x → known.Sane (s.stripped x) × (s.pages (s.stripped x) ≡ [])
+  pub strips_shows :
+      (x : X) (m : M) → known.Sane x → known.Named x m
+      → known.Named (s.stripped x) m × (r.rows (s.stripped x) m ≡ r.rows x m) × (r.names (s.stripped x) m ≡ [])
+      × SameNumbers r x (s.stripped x) m
+  pub drops : (x : X) → known.Sane x → known.Sane (s.dropped x) × (s.pages (s.dropped x) ≡ s.pages x)
+  pub drops_shows :
+      (x : X) (m : M) → known.Named x m
+      → known.Named (s.dropped x) m × (r.rows (s.dropped x) m ≡ t.dropped (r.rows x m)) × (r.names (s.dropped x) m ≡ r.names x m)
+  pub bare : (x : X) (m : M) → known.Named x m → s.pages x ≡ [] → r.names x m ≡ []
   -- 5. a request comes in hand
-  pub takes : (x : X) (words : List ℕ) → Sane x → Has false x → Sane (s.taken x words) × Has true (s.taken x words)
+  pub takes :
+      (x : X) (words : List ℕ) → known.Sane x → known.Has false x → known.Sane (s.taken x words) × known.Has true (s.taken x words)
   pub takes_pages : (x : X) (words : List ℕ) → s.pages (s.taken x words) ≡ s.pages x
-  pub takes_shows : (x : X) (words : List ℕ) (m : M) → Named x m → Named (s.taken x words) m × (r.rows (s.taken x words) m ≡ t.taken (r.rows x m) words) × (r.names (s.taken x words) m ≡ r.names x m)
+  pub takes_shows :
+      (x : X) (words : List ℕ) (m : M) → known.Named x m
+      → known.Named (s.taken x words) m × (r.rows (s.taken x words) m ≡ t.taken (r.rows x m) words)
+      × (r.names (s.taken x words) m ≡ r.names x m)
   -- 6. what it leads to
-  pub begins : (x y : X) (p : Plan A) → Sane x → Has true x → s.ready x ≡ false → Leads (s.job site x) y p → Sane y × Has true y × FitsBeside s frames grants site.dom Meets EndsOwn x y p
-  pub begins_shows : (x y : X) (p : Plan A) (m : M) → Sane x → Has true x → s.ready x ≡ false → Leads (s.job site x) y p → Named x m → Named y m × (r.rows y m ≡ r.rows x m) × SameNumbers r x y m
-  pub begins_names : (x y : X) (p : Plan A) (m : M) (sight : Sight) → Sane x → Has true x → s.ready x ≡ false → Leads (s.job site x) y p → Named x m → AreLost (r.goes x m) (all_drawn sight (r.names x m)) (all_drawn sight (r.names y m))
-  pub starves : (x y : X) → Sane x → Has true x → s.ready x ≡ false → WantsFor (s.job site x) y → Sane y × Has true y × (s.ready y ≡ true) × AreSame (s.pages x) (s.pages y)
-  pub starves_shows : (x y : X) (m : M) → Sane x → Has true x → s.ready x ≡ false → WantsFor (s.job site x) y → Named x m → Same r Named x y m × (r.goes x m ≡ [])
+  pub begins :
+      (x y : X) (p : Plan A) → known.Sane x → known.Has true x → s.ready x ≡ false → Leads (s.job site x) y p
+      → known.Sane y × known.Has true y × FitsBeside s frames grants site.dom known.Meets known.EndsOwn x y p
+  pub begins_shows :
+      (x y : X) (p : Plan A) (m : M) → known.Sane x → known.Has true x → s.ready x ≡ false → Leads (s.job site x) y p
+      → known.Named x m → known.Named y m × (r.rows y m ≡ r.rows x m) × SameNumbers r x y m
+  pub begins_names :
+      (x y : X) (p : Plan A) (m : M) (sight : Sight) → known.Sane x → known.Has true x → s.ready x ≡ false
+      → Leads (s.job site x) y p → known.Named x m
+      → AreLost (r.goes x m) (all_drawn sight (r.names x m)) (all_drawn sight (r.names y m))
+  pub starves :
+      (x y : X) → known.Sane x → known.Has true x → s.ready x ≡ false → WantsFor (s.job site x) y
+      → known.Sane y × known.Has true y × (s.ready y ≡ true) × AreSame (s.pages x) (s.pages y)
+  pub starves_shows :
+      (x y : X) (m : M) → known.Sane x → known.Has true x → s.ready x ≡ false → WantsFor (s.job site x) y → known.Named x m
+      → Same r known.Named x y m × (r.goes x m ≡ [])
   -- 7. how that ends
-  pub ends : (x : X) (f : Found) (ts : List Touch) (a : A) → Sane x → Has true x → EndsOwn x f ts a → Sane (s.after x a) × Has true (s.after x a)
-  pub ends_told : (x : X) (f : Found) (ts : List Touch) (a : A) (m : M) (what : Said) → Sane x → Has true x → EndsOwn x f ts a → Named x m → s.says x a ≡ Some what → IsOfService what × Named (s.after x a) m × t.Tells site (r.rows x m) (evidence r x m ts f) what (r.rows (s.after x a) m) × (r.names (s.after x a) m ≡ r.names x m)
-  pub ends_quiet : (x : X) (f : Found) (ts : List Touch) (a : A) (m : M) → Sane x → Has true x → EndsOwn x f ts a → Named x m → s.says x a ≡ None → Same r Named x (s.after x a) m
+  pub ends :
+      (x : X) (f : Found) (ts : List Touch) (a : A) → known.Sane x → known.Has true x → known.EndsOwn x f ts a
+      → known.Sane (s.after x a) × known.Has true (s.after x a)
+  pub ends_told :
+      (x : X) (f : Found) (ts : List Touch) (a : A) (m : M) (what : Said) → known.Sane x → known.Has true x → known.EndsOwn x f ts a
+      → known.Named x m → s.says x a ≡ Some what
+      → IsOfService what × known.Named (s.after x a) m
+      × t.Tells site (r.rows x m) (evidence r x m ts f) what (r.rows (s.after x a) m) × (r.names (s.after x a) m ≡ r.names x m)
+  pub ends_quiet :
+      (x : X) (f : Found) (ts : List Touch) (a : A) (m : M) → known.Sane x → known.Has true x → known.EndsOwn x f ts a
+      → known.Named x m → s.says x a ≡ None → Same r known.Named x (s.after x a) m
   -- 8. the answer
-  pub answers : (x : X) → Sane x → Has true x → s.ready x ≡ true → Sane (s.answered x) × Has false (s.answered x) × AreSame (s.pages x) (s.pages (s.answered x))
-  pub answers_shows : (x : X) (n : ℕ) (m : M) → Sane x → Has true x → s.ready x ≡ true → Named x m → Named (s.answered x) (r.named x n m) × t.IsStatus (r.rows x m) (s.status x) × (r.rows (s.answered x) (r.named x n m) ≡ t.replied (r.rows x m) n (s.status x)) × ((sight : Sight) → all_drawn sight (r.names (s.answered x) (r.named x n m)) ≡ with_name (all_drawn sight (r.names x m)) (made_if (t.makes (r.rows x m) (s.status x)) n) (words_in sight (r.made x)))
+  pub answers :
+      (x : X) → known.Sane x → known.Has true x → s.ready x ≡ true
+      → known.Sane (s.answered x) × known.Has false (s.answered x) × AreSame (s.pages x) (s.pages (s.answered x))
+  pub answers_shows :
+      (x : X) (n : ℕ) (m : M) → known.Sane x → known.Has true x → s.ready x ≡ true → known.Named x m
+      → known.Named (s.answered x) (r.named x n m) × t.IsStatus (r.rows x m) (s.status x)
+      × (r.rows (s.answered x) (r.named x n m) ≡ t.replied (r.rows x m) n (s.status x))
+      × ((sight : Sight) → all_drawn sight (r.names (s.answered x) (r.named x n m)) ≡ with_name (all_drawn sight (r.names x m)) (made_if (t.makes (r.rows x m) (s.status x)) n) (words_in sight (r.made x)))
   -- 9. an event that waited: its activity always says something
-  pub serves : (x : X) (e : V) (p : Plan A) → Sane x → Has false x → s.event x e ≡ Runs p → FitsBeside s frames grants site.dom Meets (EndsDone e) x x p
-  pub served : (x : X) (e : V) (f : Found) (ts : List Touch) (a : A) → Sane x → Has false x → EndsDone e x f ts a → Sane (s.after x a) × Has false (s.after x a)
-  pub served_told : (x : X) (e : V) (f : Found) (ts : List Touch) (a : A) (m : M) (what : Said) → Sane x → Has false x → EndsDone e x f ts a → Named x m → s.says x a ≡ Some what → IsOfService what × Named (s.after x a) m × t.Serves site (r.rows x m) e (evidence r x m ts f) what (r.rows (s.after x a) m) × (r.names (s.after x a) m ≡ r.names x m)
-  pub served_says : (x : X) (e : V) (f : Found) (ts : List Touch) (a : A) → EndsDone e x f ts a → s.says x a ≡ None → ⊥
+  pub serves :
+      (x : X) (e : V) (p : Plan A) → known.Sane x → known.Has false x → s.event x e ≡ Runs p
+      → FitsBeside s frames grants site.dom known.Meets (known.EndsDone e) x x p
+  pub served :
+      (x : X) (e : V) (f : Found) (ts : List Touch) (a : A) → known.Sane x → known.Has false x → known.EndsDone e x f ts a
+      → known.Sane (s.after x a) × known.Has false (s.after x a)
+  pub served_told :
+      (x : X) (e : V) (f : Found) (ts : List Touch) (a : A) (m : M) (what : Said) → known.Sane x → known.Has false x
+      → known.EndsDone e x f ts a → known.Named x m → s.says x a ≡ Some what
+      → IsOfService what × known.Named (s.after x a) m
+      × t.Serves site (r.rows x m) e (evidence r x m ts f) what (r.rows (s.after x a) m) × (r.names (s.after x a) m ≡ r.names x m)
+  pub served_says : (x : X) (e : V) (f : Found) (ts : List Touch) (a : A) → known.EndsDone e x f ts a → s.says x a ≡ None → ⊥
   -- 10. an event that is raised, for a waiting one or as it is owed
-  pub owes_idle : (x : X) (o : Owed) (b : Bool) → s.owes x ≡ Some o → Has b x → b ≡ false
+  pub owes_idle : (x : X) (o : Owed) (b : Bool) → s.owes x ≡ Some o → known.Has b x → b ≡ false
   pub owes_short : (x : X) (o : Owed) (n : ℕ) → s.owes x ≡ Some o → length (o.words n) ≤ 16
   pub event_short : (x : X) (e : V) (words : ℕ → List ℕ) (n : ℕ) → s.event x e ≡ Raises words → length (words n) ≤ 16
-  pub raises : (x : X) (e : Option V) (part : ℕ) → Sane x → Has false x → IsRaise s x e part → (Sane (s.after_put x e) × Has false (s.after_put x e) × (s.pages (s.after_put x e) ≡ s.pages x)) × (Sane (s.after_full x e) × Has false (s.after_full x e) × (s.pages (s.after_full x e) ≡ s.pages x))
-  pub raises_shows : (x : X) (e : Option V) (part : ℕ) (m : M) → Sane x → Has false x → IsRaise s x e part → Named x m → (Named (s.after_put x e) m × (r.names (s.after_put x e) m ≡ r.names x m)) × (Named (s.after_full x e) m × (r.names (s.after_full x e) m ≡ r.names x m))
-  pub put_told : (x : X) (e : Option V) (part : ℕ) (m : M) (told : Evidence) → Sane x → Has false x → IsRaise s x e part → Named x m → IsOfService (s.put x e) × IsTold t site e (r.rows x m) told (s.put x e) (r.rows (s.after_put x e) m)
-  pub full_told : (x : X) (e : Option V) (part : ℕ) (m : M) (told : Evidence) → Sane x → Has false x → IsRaise s x e part → Named x m → IsTold t site e (r.rows x m) told (said.Full part) (r.rows (s.after_full x e) m)
+  pub raises :
+      (x : X) (e : Option V) (part : ℕ) → known.Sane x → known.Has false x → IsRaise s x e part
+      → (known.Sane (s.after_put x e) × known.Has false (s.after_put x e) × (s.pages (s.after_put x e) ≡ s.pages x))
+      × (known.Sane (s.after_full x e) × known.Has false (s.after_full x e) × (s.pages (s.after_full x e) ≡ s.pages x))
+  pub raises_shows :
+      (x : X) (e : Option V) (part : ℕ) (m : M) → known.Sane x → known.Has false x → IsRaise s x e part → known.Named x m
+      → (known.Named (s.after_put x e) m × (r.names (s.after_put x e) m ≡ r.names x m))
+      × (known.Named (s.after_full x e) m × (r.names (s.after_full x e) m ≡ r.names x m))
+  pub put_told :
+      (x : X) (e : Option V) (part : ℕ) (m : M) (told : Evidence) → known.Sane x → known.Has false x → IsRaise s x e part
+      → known.Named x m → IsOfService (s.put x e) × IsTold t site e (r.rows x m) told (s.put x e) (r.rows (s.after_put x e) m)
+  pub full_told :
+      (x : X) (e : Option V) (part : ℕ) (m : M) (told : Evidence) → known.Sane x → known.Has false x → IsRaise s x e part
+      → known.Named x m → IsTold t site e (r.rows x m) told (said.Full part) (r.rows (s.after_full x e) m)
   -- 11. words of names: what touches none may be done, and what touches one is a word of a live name
-  pub meets_plain : (x : X) (want : Want) (note : Note) → IsUntouched note → Meets x want note
-  pub meets : (x : X) (m : M) (want : Want) (note : Note) → Sane x → Named x m → Meets x want note → IsTouching r x m want note
+  pub meets_plain : (x : X) (want : Want) (note : Note) → IsUntouched note → known.Meets x want note
+  pub meets :
+      (x : X) (m : M) (want : Want) (note : Note) → known.Sane x → known.Named x m → known.Meets x want note
+      → IsTouching r x m want note

@@ -1,7 +1,10 @@
+pub mod Claims
 pub mod Laws
 pub mod Nodes
 pub mod Raise
 pub mod Reading
+pub mod Refusing
+pub mod RefusingKept
 pub mod Rows
 pub mod Service
 pub mod Work

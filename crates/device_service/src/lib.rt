@@ -3,3 +3,9 @@
 #![tactic(auto)]
 
 mod laws;
+mod refusing;
+mod serve;
+
+pub use laws::services_run;
+pub use refusing::{Refusing, refusing_runs};
+pub use serve::Serve;

@@ -88,6 +88,11 @@ fn looks_at_each_field_of_a_configuration(rt: HostRuntime) {
         assert_eq!(rt; c.config(&asked, None), Err(Refused::Unknown));
         assert_eq!(rt; shown(&c).is_some(), want.is_ok());
     }
+}
+
+#[test]
+fn shows_the_last_corner_of_the_largest_framebuffer(rt: HostRuntime) {
+    let last = 4_294_967_295;
     let mut c = Connector::new();
     let corner = Config {
         fb_cookie: 11,

@@ -91,6 +91,18 @@ fn refuses_by_the_first_check_that_fails(rt: HostRuntime) -> Result<(), Fail> {
         frames.attach(&asks(64, 8, 4, XR24), Some(buffer(32))),
         Err(Refused::Full)
     );
+    Ok(())
+}
+
+#[test]
+fn takes_one_more_in_place_of_a_detached_one(rt: HostRuntime) -> Result<(), Fail> {
+    let mut frames = Frames::new(rt.alloc())?;
+    for cookie in 0..64 {
+        assert_eq!(rt;
+            frames.attach(&asks(cookie, 8, 4, XR24), Some(buffer(32))),
+            Ok(())
+        );
+    }
     assert_eq!(rt; frames.detach(64), Err(Refused::Unknown));
     assert_eq!(rt; frames.detach(40), Ok(()));
     assert_eq!(rt; frames.detach(40), Err(Refused::Unknown));

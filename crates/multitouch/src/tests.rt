@@ -81,17 +81,18 @@ fn publish_all(rt: &impl Abort, contacts: &mut Contacts) {
     }
 }
 
-#[test]
-fn repairs_each_contact_and_each_key(rt: HostRuntime) -> Result<(), Fail> {
-    let mut contacts = Contacts::new(rt.alloc())?;
-    assert!(rt; !contacts.is_due());
-    fill(&mut contacts);
+// All contacts come down and sixteen keys are pressed while no group fits in, and one repair tells them.
+fn press_all(
+    rt: &impl Abort,
+    contacts: &mut Contacts,
+    events: &mut Vec<Event>,
+) -> Result<(), Fail> {
+    fill(contacts);
     for n in (0..16).rev() {
         contacts.key(100 + u32::from(n), true)?;
         contacts.take(Touch::Down(n, 1, i32::from(n)))?;
     }
-    publish_all(&rt, &mut contacts);
-    let mut events = Vec::new(rt.alloc());
+    publish_all(rt, contacts);
     for code in 100..116 {
         events.push(Event::Key(true, code))?;
     }
@@ -99,10 +100,26 @@ fn repairs_each_contact_and_each_key(rt: HostRuntime) -> Result<(), Fail> {
         events.push(Event::Down(id, 1, i32::from(id)))?;
     }
     events.push(Event::Syn)?;
-    publish(&rt, &mut contacts, &events);
+    publish(rt, contacts, events);
+    Ok(())
+}
+
+#[test]
+fn repairs_each_contact_and_each_key(rt: HostRuntime) -> Result<(), Fail> {
+    let mut contacts = Contacts::new(rt.alloc())?;
+    assert!(rt; !contacts.is_due());
+    let mut events = Vec::new(rt.alloc());
+    press_all(&rt, &mut contacts, &mut events)?;
     assert!(rt; !contacts.is_due());
     assert!(rt; contacts.repair().is_none());
+    Ok(())
+}
 
+#[test]
+fn repairs_in_both_directions(rt: HostRuntime) -> Result<(), Fail> {
+    let mut contacts = Contacts::new(rt.alloc())?;
+    let mut events = Vec::new(rt.alloc());
+    press_all(&rt, &mut contacts, &mut events)?;
     fill(&mut contacts);
     for n in (0..16).rev() {
         contacts.key(100 + u32::from(n), false)?;

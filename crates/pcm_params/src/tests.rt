@@ -56,29 +56,31 @@ fn accepts_within_bounds(rt: HostRuntime) {
     }
 }
 
+// Ranges that reach past those that are offered, on the upper side.
+const ASKED: Ranges = Ranges {
+    formats: 4,
+    rate_min: 192_000,
+    rate_max: 400_000,
+    channels_min: 2,
+    channels_max: 2,
+    buffer_min: 1024,
+    buffer_max: 1024,
+    period_min: 256,
+    period_max: 2_000_000,
+};
+
 #[test]
 fn answers_queries(rt: HostRuntime) {
-    let asked = Ranges {
-        formats: 4,
-        rate_min: 192_000,
-        rate_max: 400_000,
-        channels_min: 2,
-        channels_max: 2,
-        buffer_min: 1024,
-        buffer_max: 1024,
-        period_min: 256,
-        period_max: 2_000_000,
-    };
     let met = Ranges {
         rate_max: 192_000,
         period_max: 1_048_576,
-        ..asked
+        ..ASKED
     };
     let told = Answer {
         status: 0,
         body: met,
     };
-    assert_eq!(rt; answer_query(&asked), told);
+    assert_eq!(rt; answer_query(&ASKED), told);
     let refused = Answer {
         status: -22,
         body: NO_RANGES,
@@ -86,17 +88,17 @@ fn answers_queries(rt: HostRuntime) {
     let slow = Ranges {
         rate_min: 1,
         rate_max: 7999,
-        ..asked
+        ..ASKED
     };
     assert_eq!(rt; answer_query(&slow), refused);
     let exchanged = Ranges {
         channels_min: 3,
-        ..asked
+        ..ASKED
     };
     assert_eq!(rt; meet(&exchanged, &OFFERED), None);
     let unknown = Ranges {
         formats: 0x4000,
-        ..asked
+        ..ASKED
     };
     assert_eq!(rt; meet(&unknown, &OFFERED), None);
     meets_are_common();

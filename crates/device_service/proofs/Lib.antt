@@ -13,4 +13,4 @@ mod SoundServes
 mod SoundSettles
 mod SoundTells
 pub mod SoundWork
-mod Telling
+pub mod Telling

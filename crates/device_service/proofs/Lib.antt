@@ -1,6 +1,7 @@
 pub mod Claims
 pub mod Fitting
 pub mod Sound
+pub mod Resting
 mod SoundActions
 pub mod SoundBegins
 mod SoundConnect

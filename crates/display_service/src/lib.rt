@@ -1,0 +1,4 @@
+//! The display as a service.
+#![tactic(auto)]
+
+mod laws;

@@ -1,12 +1,10 @@
 -- The display keeps the laws of a service.
-use Rattle.std.proofs.Common.{◌≡◌, ◌⊎◌, inl, inr, ℕ, ◌+◌, ◌<◌, ◌≤◌, ◌&&◌, ◌||◌, ◌==◌, nat_lt, nat_le, ℤ, pos, Bool, true, false, cond, List, [], ◌∷◌, ◌++◌, map, Option, Some, None, is_some, refl, sym, ◌∙◌, ap, subst, arith, length}
+use Rattle.std.proofs.Common.{◌≡◌, inl, ℕ, ◌<◌, ◌≤◌, ◌&&◌, ◌||◌, ◌==◌, nat_lt, nat_le, pos, Bool, true, false, cond, List, [], ◌∷◌, ◌++◌, Option, Some, None, is_some, refl, sym, ◌∙◌, ap, subst, arith, length}
 use Rattle.std.proofs.lemmas.Bool.{true≢false, false≢true}
 use Rattle.std.proofs.lemmas.List.{length-replicate, map-append}
 use Rattle.std.proofs.lemmas.Bool.Decides.{nat_tests}
 use Rattle.std.specs.List.{AllByRecursion}
 use Rattle.pv_words.specs.declared.device.Said.{Said}
-use Rattle.pv_words.specs.declared.device.Said.TheVariants as said
-use Rattle.pv_words.specs.declared.grant.GrantRefusal.{GrantRefusal}
 use Rattle.pv_words.specs.declared.grant.Hold.{Hold}
 use Rattle.pv_words.specs.declared.grant.Mode.TheVariants.{Read}
 use Rattle.pv_words.specs.Held.{Holds, IsProper, holding, holds_of}
@@ -16,7 +14,6 @@ use Rattle.displ_wire.specs.declared.Asked.{Asked}
 use Rattle.displ_wire.specs.declared.Asked.TheVariants as asked
 use Rattle.displ_wire.specs.declared.Create.{Create}
 use Rattle.displ_wire.specs.declared.Request.{Request}
-use Rattle.displ_wire.specs.Wire.{request_of}
 use Rattle.display_buffers.specs.Buffers.{AreSound, check_of, is_in_range, made_of, picture_octets}
 use Rattle.display_buffers.proofs.Checks.{passes}
 use Rattle.display_buffers.specs.declared.live.Live.{Live}
@@ -32,35 +29,34 @@ use Rattle.page_directory.proofs.Shown.{walks_show}
 use Rattle.page_directory.proofs.WalkAlong.{walks_exactly}
 use Rattle.link_core.specs.Laws.{AreOf}
 use Rattle.link_core.specs.Activities.{unmaps}
-use Rattle.device_core.specs.Learned.{Learned, learning}
-use Rattle.device_core.specs.Names.{Name, Sight, Drawn, Loses, cells_of, drawn, all_drawn, words_in, with_name}
-use Rattle.device_core.specs.Touched.{Carried, Touch, carrying}
+use Rattle.device_core.specs.Learned.{Learned}
+use Rattle.device_core.specs.Names.{Name, Sight, cells_of, drawn, all_drawn, words_in, with_name}
+use Rattle.device_core.specs.Touched.{Carried, Touch}
 use Rattle.pv_words.proofs.Fits.{fits_mapped, fits_so}
 use Rattle.link_core.proofs.Shown.{FitFound, unmaps_found}
 use Rattle.display_backend.specs.declared.display.Progress.{Progress}
 use Rattle.display_backend.specs.declared.display.Progress.TheVariants as progress
 use Rattle.display_backend.specs.declared.waiting.Waiting.{Waiting}
 use Rattle.display_backend.specs.declared.waiting.Waiting.TheVariants as waiting
-use Rattle.display_backend.specs.Stock.{Stock, no_stock, pages_of, buffer_pages, pages_under, bared, all_bared}
-use Rattle.display_backend.specs.Stock as stock
+use Rattle.display_backend.specs.Stock.{Stock, pages_of, buffer_pages, pages_under, bared, all_bared}
 use Rattle.display_backend.specs.Machine.{Hand, verdict, is_accepted, is_creation}
-use Rattle.display_backend.specs.Reply.{reply_to, status_in}
-use Rattle.display_backend.specs.Work.{Naming, live_names, names_under, numbers, numbered, stock_after, ids_after, is_denied, denied_by, said_of}
+use Rattle.display_backend.specs.Reply.{status_in}
+use Rattle.display_backend.specs.Work.{Naming, live_names, names_under, numbers, numbered, stock_after, is_denied, said_of}
 use Rattle.display_backend.proofs.Order.{none_left, none_under, parted}
-use Rattle.display_backend.proofs.SoundAnswer.{answer_same, answer_sound, answer_none, answer_all, answer_rows, answer_names, answers_at, done_as, refused_done}
+use Rattle.display_backend.proofs.SoundAnswer.{answer_same, answer_sound, answer_none, answer_all, answer_rows, answer_names, answers_at, done_as}
 use Rattle.display_backend.proofs.SoundNames.{GoesFrom, names_none, none_bared, name_goes}
-use Rattle.display_backend.proofs.SoundPlans.{Fit, fits_drop}
+use Rattle.display_backend.proofs.SoundPlans.{fits_drop}
 use Rattle.display_backend.proofs.SoundRows.{AreLike, accepted_is, like_length, like_sound, like_verdict, numbered_bared, numbered_all_bared, same_verdict, same_status, passes_by}
 use Rattle.display_backend.proofs.SoundSame.{are_append, are_left, are_right, are_same}
 use Rattle.display_backend.proofs.SoundSettles.{no_buffers}
-use Rattle.display_backend.proofs.SoundWork.{IsCreating, IsDestroying, HasComeTo, IsDone, IsAnswerAt}
+use Rattle.display_backend.proofs.SoundWork.{IsCreating, IsDestroying, HasComeTo, IsAnswerAt}
 use Rattle.device_core.specs.Site.{Site}
-use Rattle.device_service.specs.Service.{Job, Works, Starves, Runs}
+use Rattle.device_service.specs.Service.{Runs}
 use Rattle.device_service.specs.Rows.{made_if}
 use Rattle.device_service.specs.Claims.{KeepsLaws, site_of}
 use Rattle.device_service.specs.Laws.{AreHeld, AreLost, Facts, FitsBeside, IsOfService, IsRaise, IsTouching, Laws, Leads, Same, WantsFor, evidence}
 use Rattle.device_service.proofs.Fitting.{fits_carried}
-use Rattle.display_service.specs.Display.{reply_for, ready_for, goes_of, Known, Ending, Listed, Freed, Served, Lines, display, table, shows, freeing, ready_at, job_of, job_for, says_at, after_walk, after_end}
+use Rattle.display_service.specs.Display.{reply_for, ready_for, goes_of, Known, Ending, Listed, Freed, Served, Lines, display, table, shows, freeing, ready_at, job_of, job_for, says_at, after_end}
 
 -- a request in hand, as the display's lemmas speak of it
 abbrev hand_of : Request → Hand

@@ -1,13 +1,10 @@
 -- The display as a service of the order of work of every device.
-use Rattle.std.specs.Prelude.{◌≡◌, ℕ, ◌&&◌, ℤ, pos, Bool, true, false, List, [], ◌∷◌, ◌++◌, Option, Some, None, if◌then◌else◌}
-use Rattle.pv_words.specs.declared.device.HostEvent.{HostEvent}
-use Rattle.pv_words.specs.declared.device.HostRefusal.{HostRefusal}
+use Rattle.std.specs.Prelude.{◌≡◌, ℕ, ◌&&◌, ℤ, pos, Bool, true, false, List, [], Option, Some, None, if◌then◌else◌}
 use Rattle.pv_words.specs.declared.device.Said.{Said}
 use Rattle.pv_words.specs.declared.device.Said.TheVariants as said
-use Rattle.pv_words.specs.declared.device.State.{State}
 use Rattle.pv_words.specs.declared.grant.Mode.TheVariants.{Read}
 use Rattle.pv_words.specs.declared.place.Place.{Place}
-use Rattle.pv_words.specs.Plan.{Plan, Finished, mapped}
+use Rattle.pv_words.specs.Plan.{Finished, mapped}
 use Rattle.displ_wire.specs.declared.Asked.{Asked}
 use Rattle.displ_wire.specs.declared.Asked.TheVariants as asked
 use Rattle.displ_wire.specs.declared.Create.{Create}
@@ -21,7 +18,7 @@ use Rattle.page_directory.specs.Walking.{walk_plan}
 use Rattle.page_directory.specs.Walking as walking
 use Rattle.host_events.specs.Queue.{refusal_of}
 use Rattle.link_core.specs.Activities.{unmaps}
-use Rattle.device_core.specs.Names.{Name, cells_of}
+use Rattle.device_core.specs.Names.{cells_of}
 use Rattle.display_backend.specs.declared.display.Progress.{Progress}
 use Rattle.display_backend.specs.declared.display.Progress.TheVariants as progress
 use Rattle.display_backend.specs.declared.waiting.Waiting.{Waiting}
@@ -34,7 +31,7 @@ use Rattle.display_backend.specs.Reply.{reply_to, status_in}
 use Rattle.display_backend.specs.Work.{said_of, denied_by, stock_after, numbered, live_names, names_under, numbers, ids_after, is_denied}
 use Rattle.device_core.specs.Site.{Site}
 use Rattle.device_service.specs.Nodes.{Ringed}
-use Rattle.device_service.specs.Service.{Job, Works, Starves, Deed, Runs, Service}
+use Rattle.device_service.specs.Service.{Job, Works, Starves, Runs, Service}
 use Rattle.device_service.specs.Rows.{Table, Evidence}
 use Rattle.device_service.specs.Reading.{Shows}
 

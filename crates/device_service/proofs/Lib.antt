@@ -1,6 +1,7 @@
 pub mod Claims
 pub mod Fitting
 pub mod Sound
+pub mod Resting
 mod SoundActions
 pub mod SoundBegins
 mod SoundConnect
@@ -13,4 +14,4 @@ mod SoundServes
 mod SoundSettles
 mod SoundTells
 pub mod SoundWork
-mod Telling
+pub mod Telling

@@ -1,18 +1,20 @@
 -- What the laws of a service are for.
-use Rattle.std.specs.Prelude.{ℕ, true, List, []}
+use Rattle.std.specs.Prelude.{◌≡◌, ℕ, true, List, []}
+use Rattle.pv_words.specs.declared.device.State.TheVariants as state
 use Rattle.pv_words.specs.Found.{Found, nothing_found}
 use Rattle.pv_words.specs.Held.{KeepsToGrants, holds_of}
 use Rattle.pv_words.specs.Memory.{zeros}
 use Rattle.device_core.specs.Machine.{HappensTo, IsRun, AreTrueTo, Snapshot, View, history, shown}
 use Rattle.device_core.specs.Names.{Words}
-use Rattle.device_core.specs.Order.{Between, IsExplained, Own, Station, at_stand, made_by}
+use Rattle.device_core.specs.Order.{Between, IsExplained, Rest, Own, Station, at_stand, made_by}
 use Rattle.device_core.specs.Site.{Site}
 use Rattle.device_core.specs.Told.{TellsAll}
 use Rattle.device_service.specs.Laws.{Facts, Laws}
+use Rattle.device_service.specs.Nodes.{Ringed}
 use Rattle.device_service.specs.Reading.{Naming, Shows, first_naming, reading, told_of}
 use Rattle.device_service.specs.Rows.{Rows, Table}
 use Rattle.device_service.specs.Service.{Service}
-use Rattle.device_service.specs.Work.{End, Work, device, first_work}
+use Rattle.device_service.specs.Work.{End, Idles, Work, choice, device, first_work}
 
 -- what the domain has, and how many parts its device
 abbrev pub site_of : (frames grants : ℕ → ℕ) → (dom parts : ℕ) → Site
@@ -58,3 +60,8 @@ module _ {X A V Y M : Type 0} (s : Service X A V) (t : Table Y V) (r : Shows X Y
 -- a service that keeps its laws, of whatever device
 abbrev pub KeepsLaws : {X A V Y M : Type 0} → Service X A V → Table Y V → Shows X Y M → ((frames grants : ℕ → ℕ) → (dom parts : ℕ) → Facts X A V M) → Type 0
 KeepsLaws s t r known = (frames grants : ℕ → ℕ) (dom parts : ℕ) → Laws s t r (known frames grants dom parts) (site_of frames grants dom parts) frames grants
+
+-- A connected device with rings rests only where the last Sleep, which goes over all its parts, found no request.
+abbrev pub RestsAsleep : {X A V : Type 0} → Service X A V → Type 0
+RestsAsleep {X} {A} {V} s =
+    (site : Site) (w v : Work X V) → s.kind ≡ Ringed → w.connection.back ≡ state.Connected → choice s site w ≡ Rest v → w.round ≡ Idles

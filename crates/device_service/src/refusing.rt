@@ -1,6 +1,6 @@
 //! The least service.
 
-ghost use Rattle.device_service.specs.Claims.{Keeps, Runs, Tells};
+ghost use Rattle.device_service.specs.Claims.{Keeps, RestsAsleep, Runs, Tells};
 ghost use Rattle.device_service.specs.Refusing.{refused, refusing, shows_none};
 
 use crate::laws::services_run;
@@ -41,6 +41,7 @@ pub fn refusing_runs()
     ensures runs { Runs refusing refused shows_none }
     ensures keeps { Keeps refusing refused shows_none }
     ensures tells { Tells refusing refused shows_none }
+    ensures rests { RestsAsleep refusing }
 {
     services_run::<Refusing>();
 }

@@ -2,7 +2,6 @@ pub mod Claims
 pub mod Fitting
 pub mod Sound
 pub mod Resting
-mod SoundActions
 pub mod SoundBegins
 mod SoundConnect
 mod SoundFound

@@ -23,7 +23,7 @@ use Rattle.device_service.specs.Raise.{limit}
 use Rattle.device_service.specs.Reading.{Naming, begins_by, begins_of, begins_owed, begins_pays, begins_state, begins_with, first_naming}
 use Rattle.device_service.specs.Service.{Owed}
 use Rattle.device_service.specs.Work.{Work, End, Left, Renewed, all_pages, beginning, choice, connect_all, device, entered, first_work, pays, settled, told, with_action, with_closing, with_kept, with_owed, with_state}
-use Rattle.device_service.proofs.SoundActions.{connects_apart, closes_asked, renews_again, closed_apart}
+use Rattle.xenbus_states.proofs.Actions.{connects_apart, closes_asked, renews_again, closed_apart}
 use Rattle.device_service.proofs.SoundBegins.{BeginsSo, begins_leaving, chosen, opened_at, plain_fits, same_work, shown_of}
 use Rattle.device_service.proofs.SoundConnect.{fits_all, found_all}
 use Rattle.device_service.proofs.SoundPlans.{Fit}

@@ -15,7 +15,8 @@ use Rattle.link_core.specs.Activities.{Connected, Joined, Joins, Refuses, connec
 use Rattle.link_core.specs.Laws.{IsRing, IsRefused, HasShown}
 use Rattle.link_core.proofs.PlanFits.{fits_connect}
 use Rattle.link_core.proofs.Shown.{FitFound, connects_show, unmaps_found}
-use Rattle.device_service.specs.Nodes.{Refs, Problem, IsAskedFor, all_refs}
+use Rattle.xenbus_states.specs.Needs.{Problem}
+use Rattle.device_service.specs.Nodes.{Refs, IsAskedFor, all_refs}
 use Rattle.device_service.specs.Work.{Work, End, Denied, all_pages, after_part, connect_parts, connect_all, shut, settled}
 use Rattle.device_service.proofs.SoundParts.{pages_last}
 use Rattle.device_service.proofs.SoundPlans.{Fit, AllOwn, own_append, own_joined, own_are, refused_own, fits_drop}

@@ -4,7 +4,8 @@ use Rattle.pv_words.specs.declared.device.NodeFault.{NodeFault}
 use Rattle.pv_words.specs.declared.device.NodeValue.{NodeValue}
 use Rattle.xenbus_states.specs.Nodes.{node_at, needed}
 use Rattle.device_core.specs.Site.{Site}
-use Rattle.device_service.specs.Nodes.{Kind, Ringed, Ringless, Refs, Problem, IsAskedFor, with_channel, with_event_ref, with_ring_channel, with_ring_ref, part_refs, all_with, all_refs}
+use Rattle.xenbus_states.specs.Needs.{Problem}
+use Rattle.device_service.specs.Nodes.{Kind, Ringed, Ringless, Refs, IsAskedFor, with_channel, with_event_ref, with_ring_channel, with_ring_ref, part_refs, all_with, all_refs}
 
 channel_of : (part key : ℕ) (q r : Refs) (x : Result ℕ NodeFault) → with_channel part key q x ≡ Ok r → q ≡ r
 channel_of part key q r (Err f) e = let wrong : ⊥ = cc in absurd wrong

@@ -25,7 +25,7 @@ use Rattle.device_service.specs.Reading.{Naming, rows_of, names_of, unnamed, nam
 use Rattle.device_service.specs.Rows.{Table, Rows, Hand, Evidence, Says, Enters, hand_in, makes}
 use Rattle.device_service.specs.Rows as rows
 use Rattle.device_service.specs.Work.{Work, End, Saw, Took, Own, Done, Answered, Slept, Met, Denied, Lacked, Shut, Left, Renewed, Raised, waits_after, with_event, after_look, after_sleep, after_answer, after_raise, shut, entered, settled, replied_in, raise_said, said_at, device}
-use Rattle.device_service.proofs.SoundActions.{renews_from, closed_apart}
+use Rattle.xenbus_states.proofs.Actions.{renews_from, closed_apart}
 use Rattle.device_service.proofs.SoundWork.{Lawful, site, learned, IsNamed, IsDue, IsSane, IsShut, IsRaising, EndsWell, bare_unless}
 
 same_said : (a b : Said) → Some a ≡ Some b → a ≡ b

@@ -2,6 +2,7 @@
 use Rattle.std.specs.Prelude.{◌≡◌, ℕ, zero, suc, ◌+◌, ◌<◌, ◌==◌, ◌||◌, Bool, true, List, [], ◌∷◌, Option, Some, None, Result, Ok, Err}
 use Rattle.pv_words.specs.declared.device.NodeFault.{NodeFault}
 use Rattle.pv_words.specs.declared.device.NodeValue.{NodeValue}
+use Rattle.xenbus_states.specs.Needs.{Problem}
 use Rattle.xenbus_states.specs.Nodes.{node_at, needed}
 use Rattle.device_core.specs.Site.{Site}
 
@@ -9,12 +10,6 @@ use Rattle.device_core.specs.Site.{Site}
 pub data Kind : Type 0 where
   Ringed : Kind
   Ringless : Kind
-
--- a node that is missing, or holds no number: its part, its key, and what is wrong with it
-pub record Problem : Type 0 where
-  pub part : ℕ
-  pub key : ℕ
-  pub fault : NodeFault
 
 -- the references of a part's ring page, if it has a ring, and of its event page
 pub record Refs : Type 0 where

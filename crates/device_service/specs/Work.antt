@@ -24,7 +24,8 @@ use Rattle.link_core.specs.Activities.{Page, Joined, Connected, Joins, Refuses, 
 use Rattle.link_core.specs.Activities as link
 use Rattle.device_core.specs.Order.{News, Sets, Hosts, Order, Act, Either, Rest, Rules}
 use Rattle.device_core.specs.Site.{Site}
-use Rattle.device_service.specs.Nodes.{Kind, Ringed, Ringless, Refs, Problem, all_refs}
+use Rattle.xenbus_states.specs.Needs.{Problem}
+use Rattle.device_service.specs.Nodes.{Kind, Ringed, Ringless, Refs, all_refs}
 use Rattle.device_service.specs.Raise.{Put, Stored, Full, BadCons, raise_plan, limit}
 use Rattle.device_service.specs.Rows.{Hand, hand_in}
 use Rattle.device_service.specs.Service.{Job, Works, Starves, Owed, Deed, Runs, Raises, Service}

@@ -15,10 +15,11 @@ use Rattle.link_core.specs.Activities.{Joined}
 use Rattle.device_core.specs.Learned.{Learned, learned_of}
 use Rattle.device_core.specs.Machine as machine
 use Rattle.device_core.specs.Machine.{Sound}
-use Rattle.device_core.specs.Order.{News, Sets, Hosts, Offers}
+use Rattle.device_core.specs.Order.{News, Sets, Hosts, Act, Offers}
 use Rattle.device_core.specs.Touched.{Carried}
 use Rattle.device_service.specs.Laws.{IsTouching}
-use Rattle.device_service.specs.Nodes.{all_refs}
+use Rattle.xenbus_states.specs.Needs.{first_fault}
+use Rattle.device_service.specs.Nodes.{Kind, needs_of, refs_from}
 use Rattle.device_service.specs.Raise.{limit}
 use Rattle.device_service.specs.Reading.{Naming, begins_by, begins_of, begins_owed, begins_pays, begins_state, begins_with, first_naming}
 use Rattle.device_service.specs.Service.{Owed}
@@ -67,13 +68,13 @@ module _ {X A V Y M : Type 0} (D : Lawful X A V Y M) where
         let bare = bare_unless D w q (λ serving. connects_apart w.connection.back w.connection serving.0 a) in
         let new = beginning s w in
         let sane : IsSane D new = record { own = q.own; whole = q.whole; sane = q.sane; opened = inl bare; kept = λ why h. absurd (no_reason w.kept why none h) } in
-        let refs = all_refs s.kind w.seen 0 parts in
-        let same : all_refs t.kind w.seen 0 parts ≡ refs = ap (λ k. all_refs k w.seen 0 parts) (sym l.kind_is) in
-        let plan = connect_all (site D) refs in
+        let plan_by : Kind → Plan (End A V) = λ k. connect_all (site D) (first_fault w.seen (needs_of k (site D))) (refs_from k w.seen 0 parts) in
+        let found = first_fault w.seen (needs_of t.kind (site D)) in
+        let plan = plan_by t.kind in
         let fits = λ (k : Carried Learned) (e : Tells s w k).
-        plain_fits D new k plan (subst (λ (x : Holds). Fit frames grants dom (EndsSo D new) x plan) (sym (bare_pages bare k.own.holds e.0)) (fits_all D new sane refl still bare.1 refs same)) (found_all D new refl none refs k.own.found same) in
+        plain_fits D new k plan (subst (λ (x : Holds). Fit frames grants dom (EndsSo D new) x plan) (sym (bare_pages bare k.own.holds e.0)) (fits_all D new sane refl still bare.1 found refl)) (found_all D new refl none found k.own.found refl) in
         chosen D w v new p plan (λ n. begins_by s t r w n action.Connect)
-        (sane, fits, (λ n sight ts named. (named, (shown_of D new n sight ts, record { free = refl; move = (still, a, refl); names = refl; touched = refl; owes = refl }, refl)))) o
+        (sane, fits, (λ n sight ts named. (named, (shown_of D new n sight ts, record { free = refl; move = ((still, a), refl); names = refl; touched = refl; owes = refl }, refl)))) (subst (λ k. Offers (Act new (plan_by k)) v p) l.kind_is o)
 
     begins_in : (b : State) → w.kept ≡ None → w.connection.back ≡ b → w.closing ≡ false → Offers (with_state s (site D) w b) v p → BeginsSo D w v p (λ n. begins_state s t r w n b)
     begins_in state.Connected none back still o = begins_with_hand D w v p q none w.hand (back, still) refl o

@@ -1,5 +1,5 @@
 -- A Connect maps the pages of each part, or unmaps all that it mapped.
-use Rattle.std.proofs.Common.{◌≡◌, ◌⊎◌, inl, inr, ℕ, suc, ◌+◌, true, false, List, [], ◌∷◌, ◌++◌, Some, None, Result, Ok, Err, refl, sym, ◌∙◌, ap, subst, arith, length, length-append}
+use Rattle.std.proofs.Common.{◌≡◌, ◌⊎◌, inl, inr, ℕ, suc, ◌+◌, true, false, List, [], ◌∷◌, ◌++◌, Option, Some, None, refl, sym, ◌∙◌, ap, subst, arith, length, length-append}
 use Rattle.pv_words.specs.declared.grant.GrantRefusal.{GrantRefusal}
 use Rattle.pv_words.specs.declared.grant.Hold.{Hold}
 use Rattle.pv_words.specs.declared.grant.Mode.TheVariants.{Write}
@@ -15,8 +15,8 @@ use Rattle.link_core.specs.Activities.{Connected, Joined, Joins, Refuses, connec
 use Rattle.link_core.specs.Laws.{IsRing, IsRefused, HasShown}
 use Rattle.link_core.proofs.PlanFits.{fits_connect}
 use Rattle.link_core.proofs.Shown.{FitFound, connects_show, unmaps_found}
-use Rattle.xenbus_states.specs.Needs.{Problem}
-use Rattle.device_service.specs.Nodes.{Refs, IsAskedFor, all_refs}
+use Rattle.xenbus_states.specs.Needs.{Problem, first_fault}
+use Rattle.device_service.specs.Nodes.{Refs, IsAskedFor, needs_of, refs_from}
 use Rattle.device_service.specs.Work.{Work, End, Denied, all_pages, after_part, connect_parts, connect_all, shut, settled}
 use Rattle.device_service.proofs.SoundParts.{pages_last}
 use Rattle.device_service.proofs.SoundPlans.{Fit, AllOwn, own_append, own_joined, own_are, refused_own, fits_drop}
@@ -49,22 +49,22 @@ module _ {X A V Y M : Type 0} (D : Lawful X A V Y M) where
           (λ k. omega (arith, times_append k (all_pages met ++ hs) []))
           (λ left gone. ((refl, (λ k. omega (arith, gone k, shut_pages w k q.sane bare))), (still, bare)))
 
-    module _ (refs : List Refs) (found : all_refs t.kind w.read 0 parts ≡ Ok refs) where
+    module _ (found : first_fault w.read (needs_of t.kind (site D)) ≡ None) where
       fits_parts : (rs : List Refs) (met : List Joined) → AllOwn frames grants dom (all_pages met) → length met + length rs ≡ parts → FitsSo (holds_of (all_pages met)) (connect_parts (site D) rs met)
       unfolding settled
       fits_parts [] met own all =
-          ((refl, (λ k. ap (λ hs. times k (hs ++ all_pages met)) (sym (l.begun_sane w.read).2))), (connecting, own, omega (arith, all), (refs, found), bare))
+          ((refl, (λ k. ap (λ hs. times k (hs ++ all_pages met)) (sym (l.begun_sane w.read).2))), (connecting, own, omega (arith, all), found, bare))
       fits_parts (a ∷ rs) met own all =
           fits_joined (IsProper frames grants dom) (holding frames) (after_part met (connect_parts (site D) rs)) (EndsSo D w) (holds_of (all_pages met)) (connect_plan (frames dom) (grants dom) dom a.ring a.event)
           (fits_connect frames grants dom a.event a.ring (all_pages met) (λ h x. FitsSo h (after_part met (connect_parts (site D) rs) x))
           (joins_one a rs met own (λ more o e. fits_parts rs more o e) all) (refuses_one a rs met own))
 
-    pub fits_all : (x : Result (List Refs) Problem) → all_refs t.kind w.read 0 parts ≡ x → FitsSo (holds_of []) (connect_all (site D) x)
+    pub fits_all : (x : Option Problem) → first_fault w.read (needs_of t.kind (site D)) ≡ x → FitsSo (holds_of []) (connect_all (site D) x (refs_from t.kind w.read 0 parts))
     unfolding settled
-    fits_all (Err problem) e = ((refl, (λ k. sym (shut_pages w k q.sane bare))), (still, bare))
-    fits_all (Ok refs) e =
-        let asked = all_asked t.kind (site D) w.read 0 parts refs (omega arith) e in
-        fits_parts refs e refs [] tt (omega (arith, asked.1))
+    fits_all (Some problem) e = ((refl, (λ k. sym (shut_pages w k q.sane bare))), (still, bare))
+    fits_all None e =
+        let asked = all_asked t.kind (site D) w.read 0 parts (omega arith) e in
+        fits_parts e (refs_from t.kind w.read 0 parts) [] tt (omega (arith, asked.1))
 
   -- what it finds
   module _ (w : Work X V) (connecting : w.connecting ≡ true) (none : w.kept ≡ None) where
@@ -83,7 +83,7 @@ module _ {X A V Y M : Type 0} (D : Lawful X A V Y M) where
         ended rest g (Refuses held why) e =
             unmaps_found (EndsFoundSo D w) g (all_pages met ++ held) (Finished (Denied why)) ((λ x h. absurd (no_reason None x refl h)), λ ts. (connecting, (e.0, asked_at a e.0 are.0 e.1, e.2)))
 
-    pub found_all : (x : Result (List Refs) Problem) (f : Found) → all_refs t.kind w.read 0 parts ≡ x → FitFound (EndsFoundSo D w) f (connect_all (site D) x)
+    pub found_all : (x : Option Problem) (f : Found) → first_fault w.read (needs_of t.kind (site D)) ≡ x → FitFound (EndsFoundSo D w) f (connect_all (site D) x (refs_from t.kind w.read 0 parts))
     unfolding settled
-    found_all (Err problem) f e = ((λ why h. absurd (no_reason None why refl h)), λ ts. (connecting, e))
-    found_all (Ok refs) f e = found_parts refs [] f (all_asked t.kind (site D) w.read 0 parts refs (omega arith) e).0
+    found_all (Some problem) f e = ((λ why h. absurd (no_reason None why refl h)), λ ts. (connecting, e))
+    found_all None f e = found_parts (refs_from t.kind w.read 0 parts) [] f (all_asked t.kind (site D) w.read 0 parts (omega arith) e).0

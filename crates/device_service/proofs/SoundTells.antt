@@ -24,7 +24,8 @@ use Rattle.device_service.specs.Raise.{Put, Stored, Full, BadCons}
 use Rattle.device_service.specs.Reading.{Naming, rows_of, names_of, unnamed, named_by, named_after, made_by, made_at, taken_at}
 use Rattle.device_service.specs.Rows.{Table, Rows, Hand, Evidence, Says, Enters, hand_in, makes}
 use Rattle.device_service.specs.Rows as rows
-use Rattle.device_service.specs.Work.{Work, End, Saw, Took, Own, Done, Answered, Slept, Met, Denied, Lacked, Shut, Left, Renewed, Raised, waits_after, with_event, after_look, after_sleep, after_answer, after_raise, shut, entered, settled, replied_in, raise_said, said_at, device}
+use Rattle.xenbus_states.specs.Bus.{bus_closed}
+use Rattle.device_service.specs.Work.{Work, bus_of, End, Saw, Took, Own, Done, Answered, Slept, Met, Denied, Lacked, Shut, Left, Renewed, Raised, waits_after, with_event, after_look, after_sleep, after_answer, after_raise, shut, entered, settled, replied_in, raise_said, said_at, device}
 use Rattle.xenbus_states.proofs.Actions.{renews_from, closed_apart}
 use Rattle.device_service.proofs.SoundWork.{Lawful, site, learned, IsNamed, IsDue, IsSane, IsShut, IsRaising, EndsWell, bare_unless}
 
@@ -223,7 +224,7 @@ module _ {X A V Y M : Type 0} (D : Lawful X A V Y M) where
   tells_closed w k n why what e due named f =
       let b = l.drops_shows w.service n.service named in
       tells_as w k n (said.Closed why) what [] [] (shut s w) n f
-      (b.0, record { move = (due, e.0, ap (λ (y : Y). let x : Rows Y V = record (row w n) { connecting = false; closing = true; hand = None; service = y } in x) b.1); names = λ sight. ap (all_drawn sight) b.2 })
+      (b.0, record { move = ((due, e.0), ap (λ (y : Y). let x : Rows Y V = record (row w n) { bus = bus_closed (bus_of w); hand = None; service = y } in x) b.1); names = λ sight. ap (all_drawn sight) b.2 })
 
   -- a state in which there is no name
   tells_state : (w v : Work X V) (k : Carried Learned) (n : Naming M) (b : State) (what : Said) → Enters t (site D) (row w n) b (row v (unnamed s t r n)) → v.service ≡ s.begun w.read → s.pages w.service ≡ [] → IsNamed D w n → Some (said.State b) ≡ Some what → TellsSo w k n what [] [] v (unnamed s t r n)
@@ -250,7 +251,7 @@ module _ {X A V Y M : Type 0} (D : Lawful X A V Y M) where
   tells w (Answered b) k what n q e named f = tells_answer w k b n what q e named f
   tells w (Slept b) k what n q e named f = let wrong : ⊥ = cc in absurd wrong
   tells w (Met ps) k what n q e named f =
-      tells_state w (settled s (site D) w (Met ps)) k n state.Connected what (e.0.0, e.0.3, entered_rows w n state.Connected) refl e.0.4 named f
+      tells_state w (settled s (site D) w (Met ps)) k n state.Connected what ((e.0.0, e.0.3), entered_rows w n state.Connected) refl e.0.4 named f
   tells w (Denied why) k what n q e named f = tells_closed w k n (reason.Refused why) what e.0 e.1 named f
   tells w (Lacked problem) k what n q e named f = tells_closed w k n (reason.Node problem.part problem.key problem.fault) what e.0 e.1 named f
   tells w (Shut why) k what n q e named f = tells_closed w k n why what e.0 e.1 named f
@@ -258,4 +259,4 @@ module _ {X A V Y M : Type 0} (D : Lawful X A V Y M) where
       tells_state w (entered s w state.Closed) k n state.Closed what (e.0, entered_rows w n state.Closed) refl (bare_unless D w q (λ serving. true≢false (sym e.0 ∙ serving.1))).1 named f
   tells w (Raised part x p) k what n q e named f = tells_raise w k part x p n what q e.0.0 named f
   tells w Renewed k what n q e named f =
-      tells_state w (entered s w state.InitWait) k n state.InitWait what (e.0.0, renews_from w.connection e.0.1 e.0.2, entered_rows w n state.InitWait) refl (bare_unless D w q (λ serving. closed_apart w.connection.back e.0.1 serving.0)).1 named f
+      tells_state w (entered s w state.InitWait) k n state.InitWait what ((e.0.0, renews_from w.connection e.0.1 e.0.2), entered_rows w n state.InitWait) refl (bare_unless D w q (λ serving. closed_apart w.connection.back e.0.1 serving.0)).1 named f

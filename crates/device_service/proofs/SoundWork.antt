@@ -1,5 +1,5 @@
 -- What is known of a device's work between two activities, and of an activity's end, where its service keeps its laws.
-use Rattle.std.proofs.Common.{◌≡◌, ◌⊎◌, ℕ, ◌<◌, ◌||◌, Bool, true, false, List, [], ◌∷◌, ◌++◌, Option, Some, None, is_some, Ok, refl, sym, ap, ◌∙◌, subst, inl, inr, length}
+use Rattle.std.proofs.Common.{◌≡◌, ◌⊎◌, ℕ, ◌<◌, ◌||◌, Bool, true, false, List, [], ◌∷◌, ◌++◌, Option, Some, None, is_some, refl, sym, ap, ◌∙◌, subst, inl, inr, length}
 use Rattle.pv_words.specs.declared.device.HostEvent.{HostEvent}
 use Rattle.pv_words.specs.declared.device.HostRefusal.{HostRefusal}
 use Rattle.pv_words.specs.declared.device.NodeValue.{NodeValue}
@@ -14,7 +14,10 @@ use Rattle.page_directory.specs.Same.{AreSame}
 use Rattle.ring_words.specs.declared.Looked.{Looked}
 use Rattle.ring_words.specs.declared.Looked.TheVariants as looked
 use Rattle.ring_words.specs.Ring.{looked_of, since}
-use Rattle.xenbus_states.specs.Connection.{Connection, first_ending, heard, is_start}
+use Rattle.xenbus_states.specs.Bus.{Bus, bus_heard}
+use Rattle.xenbus_states.specs.Connection.{Connection, heard, is_start}
+use Rattle.xenbus_states.specs.Needs.{first_fault}
+use Rattle.xenbus_states.proofs.Faults.{cause_heard}
 use Rattle.host_events.specs.Queue.{unless}
 use Rattle.device_core.specs.Learned.{Learned, learning}
 use Rattle.device_core.specs.Machine.{Reading, Passes, extended}
@@ -23,12 +26,12 @@ use Rattle.device_core.specs.Site.{Site}
 use Rattle.device_core.specs.Touched.{Carried, Touch}
 use Rattle.device_service.specs.Claims.{site_of}
 use Rattle.device_service.specs.Laws.{Facts, Laws, AreHeld, IsRaise}
-use Rattle.device_service.specs.Nodes.{Kind, Refs, all_refs}
+use Rattle.device_service.specs.Nodes.{Kind, needs_of}
 use Rattle.device_service.specs.Raise.{Put, Stored, Full, BadCons, slots}
 use Rattle.device_service.specs.Reading.{Naming, Shows, reading, rows_of}
-use Rattle.device_service.specs.Rows.{Table, Rows, Hand, Event, Hears, IsReason, owes}
+use Rattle.device_service.specs.Rows.{Table, Rows, Hand, Event, Hears, IsOwnCause, IsReason, owes}
 use Rattle.device_service.specs.Service.{Service}
-use Rattle.device_service.specs.Work.{Work, End, Saw, Took, Own, Done, Answered, Slept, Met, Denied, Lacked, Shut, Left, Renewed, Raised, all_pages, after_look, after_sleep, after_answer, after_raise, device, refused_at, replied_in, raise_said, said_at, settled, told}
+use Rattle.device_service.specs.Work.{Work, bus_of, End, Saw, Took, Own, Done, Answered, Slept, Met, Denied, Lacked, Shut, Left, Renewed, Raised, all_pages, after_look, after_sleep, after_answer, after_raise, device, refused_at, replied_in, raise_said, said_at, settled, told}
 use Rattle.device_service.proofs.SoundPlans.{AllOwn}
 
 -- a service of a device of this domain, how it is read, and that it keeps its laws
@@ -99,13 +102,17 @@ stays_oldest None xs (Some y) x later e = (later ++ y ∷ [], ap (λ zs. zs ++ y
 stays_oldest (Some why) xs y x later e = (later, e)
 
 -- a reason stays one, whatever the frontend sets
-due_heard : (kind : Kind) (site : Site) (c : Connection) (connecting : Bool) (read : List NodeValue) (front : State) (f : Found) (why : Reason) → IsReason kind site c connecting read f why → IsReason kind site (heard c front) connecting read f why
-due_heard kind site c connecting read front f (reason.Asked b) h = (h.0, ap (λ e. first_ending e front) h.1)
-due_heard kind site c connecting read front f (reason.Overrun prod rsp) h = h
-due_heard kind site c connecting read front f (reason.Refused why) h = h
-due_heard kind site c connecting read front f (reason.Node part key fault) h = h
-due_heard kind site c connecting read front f (reason.BadCons p x) h = h
-due_heard kind site c connecting read front f (reason.Spent p) h = h
+own_heard : (kind : Kind) (site : Site) (bus : Bus) (front : State) (nodes : List NodeValue) (f : Found) (why : Reason) → IsOwnCause kind site bus f why → IsOwnCause kind site (bus_heard bus front nodes) f why
+own_heard kind site bus front nodes f (reason.Overrun prod rsp) h = h
+own_heard kind site bus front nodes f (reason.Refused why) h = h
+own_heard kind site bus front nodes f (reason.Asked s) h = h
+own_heard kind site bus front nodes f (reason.Node part key fault) h = h
+own_heard kind site bus front nodes f (reason.BadCons p x) h = h
+own_heard kind site bus front nodes f (reason.Spent p) h = h
+
+due_heard : (kind : Kind) (site : Site) (bus : Bus) (front : State) (nodes : List NodeValue) (f : Found) (why : Reason) → IsReason kind site bus f why → IsReason kind site (bus_heard bus front nodes) f why
+due_heard kind site bus front nodes f why h =
+    cause_heard (needs_of kind site) (IsOwnCause kind site bus f) (IsOwnCause kind site (bus_heard bus front nodes) f) bus front nodes (λ y o. own_heard kind site bus front nodes f y o) why h
 
 module _ {X A V Y M : Type 0} (D : Lawful X A V Y M) where
   open D use {s, t, r, known, frames, grants, dom, parts, l}
@@ -125,7 +132,7 @@ module _ {X A V Y M : Type 0} (D : Lawful X A V Y M) where
   IsBare w = (w.parts ≡ []) × (s.pages w.service ≡ [])
 
   abbrev pub IsDue : Work X V → Found → Reason → Type 0
-  IsDue w f why = IsReason t.kind site w.connection w.connecting w.read f why
+  IsDue w f why = IsReason t.kind site (bus_of w) f why
 
   -- The pages of the parts are the domain's own, mapped for writing; there are all parts of the device, or none; no page is held
   -- unless the device is connected and not closing, and then the service has come so far; and a kept reason is one.
@@ -160,7 +167,7 @@ module _ {X A V Y M : Type 0} (D : Lawful X A V Y M) where
   EndsHeld w (Answered notified) = IsServing w × HasHand w × known.Has true w.service × (s.ready w.service ≡ true)
   EndsHeld w (Slept quiet) = Unit {0}
   EndsHeld w (Met ps) =
-      (w.connecting ≡ true) × AllOwn frames grants dom (all_pages ps) × (length ps ≡ parts) × ((refs : List Refs) × (all_refs t.kind w.read 0 parts ≡ Ok refs)) × (s.pages w.service ≡ [])
+      (w.connecting ≡ true) × AllOwn frames grants dom (all_pages ps) × (length ps ≡ parts) × (first_fault w.read (needs_of t.kind site) ≡ None) × (s.pages w.service ≡ [])
   EndsHeld w (Denied why) = IsShut w
   EndsHeld w (Lacked problem) = IsShut w
   EndsHeld w (Shut why) = IsShut w
@@ -203,9 +210,9 @@ module _ {X A V Y M : Type 0} (D : Lawful X A V Y M) where
 
   -- What news leave as it is: the backend's state, a reason that holds, whether the frontend started anew, and the oldest of the
   -- events that wait.
-  record Hearing (w : Work X V) (c : Connection) (waits : List V) : Type 0 where
+  record Hearing (w : Work X V) (c : Connection) (nodes : List NodeValue) (waits : List V) : Type 0 where
     back : c.back ≡ w.connection.back
-    due : (f : Found) (why : Reason) → IsDue w f why → IsReason t.kind site c w.connecting w.read f why
+    due : (f : Found) (why : Reason) → IsDue w f why → IsReason t.kind site (record (bus_of w) { connection = c; seen = nodes }) f why
     again : w.connection.again ≡ true → c.again ≡ true
     oldest : (x : V) (later : List V) → w.waiting ≡ x ∷ later → (rest : List V) × (waits ≡ x ∷ rest)
 
@@ -303,7 +310,7 @@ module _ {X A V Y M : Type 0} (D : Lawful X A V Y M) where
     said_now Left = refl
     said_now Renewed = refl
 
-    module _ (h : Hearing w c waits) where
+    module _ (h : Hearing w c nodes waits) where
       serving_now : IsServing w → IsServing now
       serving_now q = (h.back ∙ q.0, q.1)
 
@@ -365,16 +372,16 @@ module _ {X A V Y M : Type 0} (D : Lawful X A V Y M) where
       well_now : (k : Carried Learned) (o : End A V) → EndsWell w k o → EndsWell now k o
       well_now k o q = (held_now o q.0, found_now k.own.found k.touched o q.1)
 
-  sets_hearing : (w : Work X V) (front : State) → Hearing w (heard w.connection front) w.waiting
-  sets_hearing w front =
+  sets_hearing : (w : Work X V) (front : State) (nodes : List NodeValue) → Hearing w (heard w.connection front) nodes w.waiting
+  sets_hearing w front nodes =
       record {
         back = refl;
-        due = λ f why q. due_heard t.kind site w.connection w.connecting w.read front f why q;
+        due = λ f why q. due_heard t.kind site (bus_of w) front nodes f why q;
         again = λ e. ap (λ b. b || is_start front) e;
         oldest = λ x later e. (later, e);
       }
 
-  hosts_hearing : (w : Work X V) (e : HostEvent) → Hearing w w.connection (unless (refused_at s w e) w.waiting (s.waits e))
+  hosts_hearing : (w : Work X V) (e : HostEvent) → Hearing w w.connection w.seen (unless (refused_at s w e) w.waiting (s.waits e))
   hosts_hearing w e =
       record {
         back = refl;
@@ -384,11 +391,11 @@ module _ {X A V Y M : Type 0} (D : Lawful X A V Y M) where
       }
 
   pub hears_sane : (w : Work X V) (news : News) → IsSane w → IsSane (told s w news)
-  hears_sane w (Sets front nodes) q = sane_now w (heard w.connection front) nodes w.waiting (sets_hearing w front) q
+  hears_sane w (Sets front nodes) q = sane_now w (heard w.connection front) nodes w.waiting (sets_hearing w front nodes) q
   hears_sane w (Hosts e) q = sane_now w w.connection w.seen (unless (refused_at s w e) w.waiting (s.waits e)) (hosts_hearing w e) q
 
   pub hears_well : (w : Work X V) (news : News) (k : Carried Learned) (o : End A V) → EndsWell w k o → EndsWell (told s w news) k o
-  hears_well w (Sets front nodes) k o q = well_now w (heard w.connection front) nodes w.waiting (sets_hearing w front) k o q
+  hears_well w (Sets front nodes) k o q = well_now w (heard w.connection front) nodes w.waiting (sets_hearing w front nodes) k o q
   hears_well w (Hosts e) k o q = well_now w w.connection w.seen (unless (refused_at s w e) w.waiting (s.waits e)) (hosts_hearing w e) k o q
 
   pub hears_said : (w : Work X V) (news : News) (o : End A V) → said_at s (told s w news) o ≡ said_at s w o

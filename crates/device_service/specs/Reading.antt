@@ -16,7 +16,7 @@ use Rattle.link_core.specs.Activities.{Joined}
 use Rattle.device_service.specs.Raise.{limit}
 use Rattle.device_service.specs.Rows.{Table, Rows, Hand, Event, Says, Hears, Begins, Moves, makes, owes}
 use Rattle.device_service.specs.Service.{Service, Owed, Deed, Runs, Raises}
-use Rattle.device_service.specs.Work.{Work, End, Took, Answered, Met, Left, Renewed, part_of}
+use Rattle.device_service.specs.Work.{Work, bus_of, End, Took, Answered, Met, Left, Renewed, part_of}
 
 -- the numbers of the names of a service, and how many requests were answered
 pub record Naming (M : Type 0) : Type 0 where
@@ -55,7 +55,7 @@ taken_at other = []
 module _ {X A V Y M : Type 0} (s : Service X A V) (t : Table Y V) (r : Shows X Y M) where
   abbrev pub rows_of : Work X V → Naming M → Rows Y V
   rows_of w n =
-      record { connection = w.connection; seen = w.seen; read = w.read; connecting = w.connecting; closing = w.closing; hand = w.hand; replies = n.replies; waiting = w.waiting; service = r.rows w.service n.service }
+      record { bus = bus_of w; hand = w.hand; replies = n.replies; waiting = w.waiting; service = r.rows w.service n.service }
 
   abbrev pub names_of : Work X V → Naming M → List Name
   names_of w n = r.names w.service n.service

@@ -1,6 +1,6 @@
 -- A device as a machine of rows: its connection (the states of xenbus.h), its requests and replies, the events of its host, and the
 -- rows of its service, of type Y. It knows no ring, page or access.
-use Rattle.std.specs.Prelude.{◌≡◌, ◌⊎◌, ℕ, suc, ◌%◌, ◌/◌, ◌<◌, ◌≤◌, ℤ, Bool, true, false, List, [], ◌∷◌, Option, Some, None, slice_index, Ok, Err}
+use Rattle.std.specs.Prelude.{◌≡◌, ◌⊎◌, ℕ, suc, ◌%◌, ◌/◌, ◌<◌, ◌≤◌, ℤ, Bool, true, false, List, [], ◌∷◌, Option, Some, None, slice_index}
 use Rattle.pv_words.specs.declared.device.NodeValue.{NodeValue}
 use Rattle.pv_words.specs.declared.device.Said.{Said}
 use Rattle.pv_words.specs.declared.device.Said.TheVariants as said
@@ -14,13 +14,12 @@ use Rattle.pv_words.specs.declared.grant.Mode.TheVariants.{Write}
 use Rattle.pv_words.specs.Found.{Found}
 use Rattle.grant_table.specs.Laws.{IsShown}
 use Rattle.ring_words.specs.Ring.{since}
-use Rattle.xenbus_states.specs.declared.back.Action.TheVariants as action
-use Rattle.xenbus_states.specs.Connection.{Connection, heard, action_of, begun, moved_to}
+use Rattle.xenbus_states.specs.Bus.{Bus, IsCause, MayClose, MayConnect, MayEnter, bus_begun, bus_closed, bus_entered, bus_heard}
 use Rattle.host_events.specs.Queue.{unless}
 use Rattle.device_core.specs.Order.{News, Sets, Hosts}
 use Rattle.device_core.specs.Site.{Site}
 use Rattle.device_core.specs.Touched.{Touch}
-use Rattle.device_service.specs.Nodes.{Kind, Refs, IsAskedFor, all_refs}
+use Rattle.device_service.specs.Nodes.{Kind, IsAskedFor, needs_of}
 use Rattle.device_service.specs.Raise.{limit, slots}
 
 -- a request in hand: the part whose ring it came by, and what stands in its first word
@@ -58,15 +57,10 @@ pub record Table (Y V : Type 0) : Type 1 where
   pub waits : HostEvent → Option V
   pub refusal : State → List V → HostEvent → Option HostRefusal
 
--- The connection, the nodes as they stood when the frontend last set its state, those that the last Connect read, whether a Connect
--- is under way, whether the connection is closed and the state is due, the request in hand, how many requests were answered, and
--- the host's events that wait.
+-- The connection with the nodes, the request in hand, how many requests were answered, the host's events that wait, and the rows of
+-- the service.
 pub record Rows (Y V : Type 0) : Type 0 where
-  pub connection : Connection
-  pub seen : List NodeValue
-  pub read : List NodeValue
-  pub connecting : Bool
-  pub closing : Bool
+  pub bus : Bus
   pub hand : Option Hand
   pub replies : ℕ
   pub waiting : List V
@@ -79,19 +73,21 @@ pub data Event : Type 0 where
   Hears : News → Event
   Begins : Event
 
--- A closed connection tells why: the frontend set this ending state; or the index that was found last is more than a ring, or an
--- event page, apart from the device's own; or the device's own index of an event page is spent; or, at the end of a Connect, the
--- map of a node's reference was refused, as the words show that were found last, or a needed node is missing or bad.
-abbrev pub IsReason : Kind → Site → Connection → Bool → List NodeValue → Found → Reason → Type 0
-IsReason kind site c connecting read f (reason.Asked s) = (c.back ≡ state.Connected) × (c.ending ≡ Some s)
-IsReason kind site c connecting read f (reason.Overrun prod rsp) = (c.back ≡ state.Connected) × (f.word ≡ Some prod) × (32 < since rsp prod)
-IsReason kind site c connecting read f (reason.BadCons prod cons) =
-    (c.back ≡ state.Connected) × (f.word ≡ Some cons) × (slots < since cons prod)
-IsReason kind site c connecting read f (reason.Spent prod) = (c.back ≡ state.Connected) × (limit ≤ prod)
-IsReason kind site c connecting read f (reason.Refused why) =
-    (connecting ≡ true) × ((gref : ℕ) × IsAskedFor kind site read gref × IsShown site.frames site.grants gref Write f why)
-IsReason kind site c connecting read f (reason.Node part key fault) =
-    (connecting ≡ true) × (all_refs kind read 0 site.parts ≡ Err (record { part = part; key = key; fault = fault }))
+-- A device's own causes to close a connection: the index that was found last is more than a ring, or an event page, apart from the
+-- device's own; or the device's own index of an event page is spent; or, in a Connect, the map of a node's reference was refused, as
+-- the words show that were found last.
+abbrev pub IsOwnCause : Kind → Site → Bus → Found → Reason → Type 0
+IsOwnCause kind site bus f (reason.Overrun prod rsp) = (bus.connection.back ≡ state.Connected) × (f.word ≡ Some prod) × (32 < since rsp prod)
+IsOwnCause kind site bus f (reason.BadCons prod cons) =
+    (bus.connection.back ≡ state.Connected) × (f.word ≡ Some cons) × (slots < since cons prod)
+IsOwnCause kind site bus f (reason.Spent prod) = (bus.connection.back ≡ state.Connected) × (limit ≤ prod)
+IsOwnCause kind site bus f (reason.Refused why) =
+    (bus.connecting ≡ true) × ((gref : ℕ) × IsAskedFor kind site bus.read gref × IsShown site.frames site.grants gref Write f why)
+IsOwnCause kind site bus f other = ⊥
+
+-- A closed connection tells why.
+abbrev pub IsReason : Kind → Site → Bus → Found → Reason → Type 0
+IsReason kind site bus f why = IsCause (needs_of kind site) (IsOwnCause kind site bus f) bus why
 
 abbrev pub made_if : Bool → ℕ → Option ℕ
 made_if true n = Some n
@@ -101,27 +97,20 @@ module _ {Y V : Type 0} (t : Table Y V) where
   -- a closed connection has no request in hand
   abbrev pub Closes : Site → Rows Y V → Found → Reason → Rows Y V → Type 0
   Closes site old f why new =
-      IsReason t.kind site old.connection old.connecting old.read f why × (old.closing ≡ false)
-      × (new ≡ record old { connecting = false; closing = true; hand = None; service = t.dropped old.service })
+      MayClose (needs_of t.kind site) (IsOwnCause t.kind site old.bus f) old.bus why
+      × (new ≡ record old { bus = bus_closed old.bus; hand = None; service = t.dropped old.service })
 
   -- a state in which the service has nothing yet, or no longer, and no event waits
   abbrev pub with_state : Rows Y V → State → Rows Y V
-  with_state old b =
-      record old { connection = moved_to old.connection b; connecting = false; closing = false; hand = None; waiting = []; service = t.begun old.read }
+  with_state old b = record old { bus = bus_entered old.bus b; hand = None; waiting = []; service = t.begun old.bus.read }
 
-  -- A backend is Connected at the end of a Connect that found all nodes, Closed once the connection is closed, and waits again where
-  -- the frontend of a closed one started anew.
+  -- a backend takes a state
   abbrev pub Enters : Site → Rows Y V → State → Rows Y V → Type 0
-  Enters site old state.Connected new =
-      (old.connecting ≡ true) × ((refs : List Refs) × (all_refs t.kind old.read 0 site.parts ≡ Ok refs)) × (new ≡ with_state old state.Connected)
-  Enters site old state.Closed new = (old.closing ≡ true) × (new ≡ with_state old state.Closed)
-  Enters site old state.InitWait new =
-      (old.closing ≡ false) × (action_of old.connection ≡ action.Renew) × (new ≡ with_state old state.InitWait)
-  Enters site old other new = ⊥
+  Enters site old b new = MayEnter (needs_of t.kind site) old.bus b × (new ≡ with_state old b)
 
   -- it is connected, and not closing
   abbrev pub IsServing : Rows Y V → Type 0
-  IsServing old = (old.connection.back ≡ state.Connected) × (old.closing ≡ false)
+  IsServing old = (old.bus.connection.back ≡ state.Connected) × (old.bus.closing ≡ false)
 
   -- a request comes in hand where none is, and it is what the taken words ask for
   pub record Requests (site : Site) (old : Rows Y V) (part id op : ℕ) (words : List ℕ) (new : Rows Y V) : Type 0 where
@@ -177,12 +166,10 @@ module _ {Y V : Type 0} (t : Table Y V) where
 
   abbrev pub Moves : Site → Rows Y V → List Touch → Event → Rows Y V → Type 0
   Moves site old touched (Says what taken f) new = Tells site old (record { touched = touched; found = f }) what taken new
-  Moves site old touched (Hears (Sets front nodes)) new = new ≡ record old { connection = heard old.connection front; seen = nodes }
+  Moves site old touched (Hears (Sets front nodes)) new = new ≡ record old { bus = bus_heard old.bus front nodes }
   Moves site old touched (Hears (Hosts e)) new =
-      new ≡ record old { waiting = unless (t.refusal old.connection.back old.waiting e) old.waiting (t.waits e) }
-  Moves site old touched Begins new =
-      (old.closing ≡ false) × (action_of old.connection ≡ action.Connect)
-      × (new ≡ record old { connection = begun old.connection; read = old.seen; connecting = true })
+      new ≡ record old { waiting = unless (t.refusal old.bus.connection.back old.waiting e) old.waiting (t.waits e) }
+  Moves site old touched Begins new = MayConnect old.bus × (new ≡ record old { bus = bus_begun old.bus })
 
   -- the number of the name that something makes: that of the reply
   abbrev pub makes : Rows Y V → Event → Option ℕ
@@ -191,5 +178,5 @@ module _ {Y V : Type 0} (t : Table Y V) where
 
   -- an event of the host leaves its refusal owed where it is refused
   abbrev pub owes : Rows Y V → Event → Option HostRefusal
-  owes old (Hears (Hosts e)) = t.refusal old.connection.back old.waiting e
+  owes old (Hears (Hosts e)) = t.refusal old.bus.connection.back old.waiting e
   owes old other = None

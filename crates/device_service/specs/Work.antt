@@ -1,5 +1,5 @@
 -- The order of work of a device, whatever its service.
-use Rattle.std.specs.Prelude.{ℕ, zero, suc, ◌+◌, ◌-◌, nat_lt, Bool, true, false, List, [], ◌∷◌, ◌++◌, Option, Some, None, Result, Ok, Err, slice_get, slice_set, if◌then◌else◌}
+use Rattle.std.specs.Prelude.{ℕ, zero, suc, ◌+◌, ◌-◌, nat_lt, Bool, true, false, List, [], ◌∷◌, ◌++◌, Option, Some, None, slice_get, slice_set, if◌then◌else◌}
 use Rattle.pv_words.specs.declared.device.HostEvent.{HostEvent}
 use Rattle.pv_words.specs.declared.device.HostRefusal.{HostRefusal}
 use Rattle.pv_words.specs.declared.device.NodeValue.{NodeValue}
@@ -24,8 +24,9 @@ use Rattle.link_core.specs.Activities.{Page, Joined, Connected, Joins, Refuses, 
 use Rattle.link_core.specs.Activities as link
 use Rattle.device_core.specs.Order.{News, Sets, Hosts, Order, Act, Either, Rest, Rules}
 use Rattle.device_core.specs.Site.{Site}
-use Rattle.xenbus_states.specs.Needs.{Problem}
-use Rattle.device_service.specs.Nodes.{Kind, Ringed, Ringless, Refs, all_refs}
+use Rattle.xenbus_states.specs.Bus.{Bus}
+use Rattle.xenbus_states.specs.Needs.{Problem, first_fault}
+use Rattle.device_service.specs.Nodes.{Kind, Ringed, Ringless, Refs, needs_of, refs_from}
 use Rattle.device_service.specs.Raise.{Put, Stored, Full, BadCons, raise_plan, limit}
 use Rattle.device_service.specs.Rows.{Hand, hand_in}
 use Rattle.device_service.specs.Service.{Job, Works, Starves, Owed, Deed, Runs, Raises, Service}
@@ -58,6 +59,10 @@ pub record Work (X V : Type 0) : Type 0 where
   pub waiting : List V
   -- what its service knows
   pub service : X
+
+-- the connection, with the nodes
+abbrev pub bus_of : {X V : Type 0} → Work X V → Bus
+bus_of w = record { connection = w.connection; seen = w.seen; read = w.read; connecting = w.connecting; closing = w.closing }
 
 -- how an activity ends
 pub data End (A V : Type 0) : Type 0 where
@@ -112,9 +117,9 @@ connect_parts site [] met = Finished (Met met)
 connect_parts site (r ∷ rs) met = joined (connect_plan site.frames site.grants site.dom r.ring r.event) (after_part met (connect_parts site rs))
 
 -- the nodes are read once, at the beginning; a faulty one ends the Connect before any access
-abbrev pub connect_all : {A V : Type 0} → Site → Result (List Refs) Problem → Plan (End A V)
-connect_all site (Err problem) = Finished (Lacked problem)
-connect_all site (Ok refs) = connect_parts site refs []
+abbrev pub connect_all : {A V : Type 0} → Site → Option Problem → List Refs → Plan (End A V)
+connect_all site (Some problem) refs = Finished (Lacked problem)
+connect_all site None refs = connect_parts site refs []
 
 -- the place in the round after a Look at this part
 abbrev pub next_look : ℕ → ℕ → Bool → Round
@@ -237,7 +242,7 @@ module _ {X A V : Type 0} (s : Service X A V) where
   with_state site w other = Rest w
 
   abbrev pub with_action : Site → Work X V → Action → Order (Work X V) (End A V)
-  with_action site w action.Connect = Act (beginning w) (connect_all site (all_refs s.kind w.seen 0 site.parts))
+  with_action site w action.Connect = Act (beginning w) (connect_all site (first_fault w.seen (needs_of s.kind site)) (refs_from s.kind w.seen 0 site.parts))
   with_action site w (action.Close why) = close w (reason.Asked why)
   with_action site w action.Renew = Act w (Finished Renewed)
   with_action site w action.Stay = with_state site w w.connection.back

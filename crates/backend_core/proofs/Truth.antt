@@ -5,7 +5,6 @@ use Rattle.pv_words.specs.declared.device.NodeValue.{NodeValue}
 use Rattle.pv_words.specs.declared.device.Said.{Said}
 use Rattle.pv_words.specs.declared.device.Said.TheVariants as said
 use Rattle.pv_words.specs.declared.device.HostRefusal.{HostRefusal}
-use Rattle.pv_words.specs.declared.entry.Entry.{Entry}
 use Rattle.pv_words.specs.declared.entry.Entry.TheVariants as entry
 use Rattle.pv_words.specs.declared.entry.End.TheVariants as end
 use Rattle.pv_words.specs.Along.{Along}
@@ -13,7 +12,7 @@ use Rattle.pv_words.specs.Memory.{Memory, Finds, remembered, written}
 use Rattle.device_core.specs.Machine.{AreTrueTo}
 use Rattle.device_core.specs.Names.{Words}
 use Rattle.device_core.specs.Order.{News, Sets, Hosts, Own, Did, Spoke, Rested, Heard, Refused, Others}
-use Rattle.backend_core.specs.Marked.{Item, Entered, Idle, entries, node_set, nodes_next, own_from}
+use Rattle.backend_core.specs.Marked.{Item, Entered, Idle, entries, node_set, own_from}
 use Rattle.backend_core.proofs.Histories.{IsTrueNext}
 
 -- what is said, heard, refused, or left at rest is no access

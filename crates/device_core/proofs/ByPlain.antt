@@ -1,5 +1,5 @@
 -- The work of a device that touches no word of a name is sound.
-use Rattle.std.proofs.Common.{◌≡◌, ℕ, List, [], ◌++◌, refl, sym, subst, ap, ◌∙◌}
+use Rattle.std.proofs.Common.{◌≡◌, List, [], ◌++◌, refl, sym, subst, ap, ◌∙◌}
 use Rattle.pv_words.specs.declared.access.Access.{Access}
 use Rattle.pv_words.specs.Plan.{Plan, Finished, Make, Want, Note, Plain, Begins, Frames, Undoes, Ends, Takes, Puts, FitsFrom, IsUntouched, found}
 use Rattle.device_core.specs.Machine as machine

@@ -7,7 +7,7 @@ use Rattle.pv_words.specs.declared.access.Access.TheVariants as access
 use Rattle.pv_words.specs.declared.place.Place.{Place}
 use Rattle.pv_words.specs.Memory.{Memory, written, put, without}
 use Rattle.pv_words.specs.Place.{same_place}
-use Rattle.device_core.specs.Names.{Name, Drawn, Sight, Words, Writing, Stroke, Redraws, words_at, drawn, all_drawn, writing_of, strokes_on, all_strokes, strokes_by}
+use Rattle.device_core.specs.Names.{Name, Drawn, Words, Writing, Stroke, Redraws, words_at, drawn, all_drawn, writing_of, strokes_on, all_strokes, strokes_by}
 use Rattle.device_core.specs.Machine.{Table, Snapshot, Draw, HappensTo, IsRun}
 use Rattle.device_core.specs.Touched.{Touch}
 use Rattle.device_core.proofs.Runs.{run_joins}

@@ -1,9 +1,9 @@
 -- A reading of more that the accesses told tells the same.
-use Rattle.std.proofs.Common.{◌≡◌, List, [], ◌∷◌, ◌++◌, Option, Some, None, refl, sym, ap, ◌∙◌}
+use Rattle.std.proofs.Common.{◌≡◌, List, [], ◌∷◌, ◌++◌, Option, Some, None, refl, ap, ◌∙◌}
 use Rattle.pv_words.specs.declared.access.Access.{Access}
 use Rattle.pv_words.specs.declared.device.HostRefusal.{HostRefusal}
-use Rattle.pv_words.specs.Plan.{Plan, Finished, Make, Note}
-use Rattle.device_core.specs.Machine.{Reading, View, Happening, extended, happens, happens_at, happens_by, happens_first, happens_told, history, view_by}
+use Rattle.pv_words.specs.Plan.{Finished, Make, Note}
+use Rattle.device_core.specs.Machine.{Reading, View, extended, happens, happens_at, happens_by, happens_first, happens_told, history, view_by}
 use Rattle.device_core.specs.Order.{Own, Did, Spoke, Rested, Heard, Refused, Others, Order, Act, Either, Rest, Rules, Stand, Between, During, Telling, Station, followed, note_at, picked}
 
 module _ {S T W O N R E : Type 0} (r : Rules W O) (d : Reading S W O N R E) (tell : T → S) (carry : T → Note → Access → T) (same : (k : T) (note : Note) (a : Access) → tell (carry k note a) ≡ d.carry (tell k) note a) where

@@ -1,6 +1,5 @@
 -- An activity by which a device both holds and finds what it should.
-use Rattle.std.proofs.Common.{ℕ, List, refl, ap, ◌≡◌, [], ◌∷◌}
-use Rattle.pv_words.specs.declared.access.Access.{Access}
+use Rattle.std.proofs.Common.{ℕ, List, refl, ◌≡◌, [], ◌∷◌}
 use Rattle.pv_words.specs.Along.{after, Along}
 use Rattle.pv_words.specs.Found.{Found, finding}
 use Rattle.pv_words.specs.Held.{Holds, Made, holding}

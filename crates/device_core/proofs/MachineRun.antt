@@ -1,17 +1,17 @@
 -- Explained work is a run of the machine, and each access is proper.
-use Rattle.std.proofs.Common.{◌≡◌, ℕ, Bool, true, false, List, [], ◌∷◌, ◌++◌, Option, Some, None, if◌then◌else◌, inl, inr, refl, sym, subst, ◌∙◌, ap}
+use Rattle.std.proofs.Common.{◌≡◌, ℕ, Bool, true, false, List, [], ◌∷◌, Option, Some, None, if◌then◌else◌, inl, inr, refl, sym, subst, ◌∙◌, ap}
 use Rattle.pv_words.specs.declared.access.Access.{Access}
 use Rattle.pv_words.specs.declared.device.HostRefusal.{HostRefusal}
 use Rattle.pv_words.specs.declared.device.Said.{Said}
 use Rattle.pv_words.specs.Along.{after, Along}
 use Rattle.pv_words.specs.Held.{Made}
-use Rattle.pv_words.specs.Memory.{place_of, written}
+use Rattle.pv_words.specs.Memory.{place_of}
 use Rattle.pv_words.specs.Plan.{Plan, Finished, Make, Want, Note, FitsFrom, MayGo, wanted, seen_by, found}
 use Rattle.pv_words.proofs.Keeping.{found_as}
 use Rattle.device_core.specs.Order.{News, Own, Did, Spoke, Rested, Heard, Refused, Others, Order, Act, Either, Rest, Rules, Stand, Between, During, Telling, Station, Offers, is_in_page, picked, work_at, ended, going, begun, gone, told, next, May, MayBegin, MayGoOn, refused_by, owed, followed, follow, MayFollowWith, IsExplained, MayStep, MayChoose, note_of, note_in, note_at, made_by}
 use Rattle.device_core.specs.Names.{Sight, Numbers, Words, all_drawn, is_worded}
 use Rattle.device_core.specs.Machine.{Reading, Snapshot, View, Happening, Meanwhile, HappensTo, IsRun, FindsIn, IsTrueTo, AreTrueTo, Stays, Sound, shown, shown_as, touched_in, row_of, draws, touches, made_of, happens_first, happens_in, happens_told, happens_at, happens_by, happens, named_first, named_told, named_next, named_by, carried_next, view_by, seen_more, sight_next, history}
-use Rattle.device_core.specs.Touched.{Carried, Touch, Took, Put, carrying, forgotten, numbered, touch_of}
+use Rattle.device_core.specs.Touched.{Carried, Touch, Took, Put, carrying, forgotten, numbered}
 use Rattle.device_core.proofs.Drawing.{draws_run}
 use Rattle.device_core.proofs.Runs.{run_joins}
 use Rattle.device_core.proofs.Touching.{touches_run}

@@ -5,10 +5,10 @@ use Rattle.pv_words.specs.declared.device.HostRefusal.{HostRefusal}
 use Rattle.pv_words.specs.declared.device.Said.{Said}
 use Rattle.pv_words.specs.Along.{Along}
 use Rattle.pv_words.specs.Found.{Found, finding}
-use Rattle.pv_words.specs.Plan.{Plan, Finished, Make, Want, Note}
+use Rattle.pv_words.specs.Plan.{Finished, Make, Want, Note}
 use Rattle.device_core.specs.Learned.{found_next}
 use Rattle.device_core.specs.Machine.{Reading, Sound, carried_next}
-use Rattle.device_core.specs.Order.{Own, Did, Spoke, Rested, Heard, Refused, Others, Order, Act, Rules, Stand, Between, During, Telling, Station, picked, followed, note_at, May, MayBegin, MayGoOn, MayFollowWith, IsExplained}
+use Rattle.device_core.specs.Order.{Own, Did, Spoke, Rested, Heard, Refused, Others, Order, Act, Rules, Stand, Between, During, Telling, Station, picked, followed, note_at, May, MayBegin, MayFollowWith, IsExplained}
 use Rattle.device_core.specs.Touched.{Carried}
 use Rattle.device_core.proofs.MachineRun.{IsGood, begins_so, good_follow}
 

@@ -1,5 +1,5 @@
 -- An access that takes or puts a word of a live name finds, or leaves, just that word there.
-use Rattle.std.proofs.Common.{◌≡◌, ℕ, zero, suc, ◌==◌, ◌&&◌, Bool, true, false, cond, List, [], ◌∷◌, ◌++◌, map, slice_get, Option, Some, None, refl, sym, subst, ap, ◌∙◌, append-nil, arith}
+use Rattle.std.proofs.Common.{◌≡◌, ℕ, zero, suc, Bool, true, cond, List, [], ◌∷◌, ◌++◌, slice_get, Some, refl, sym, subst, ap, ◌∙◌, append-nil, arith}
 use Rattle.std.proofs.lemmas.Bool.Decides.{nat_tests}
 use Rattle.std.proofs.lemmas.Bool.{false≢true}
 use Rattle.std.proofs.lemmas.List.{map-append}
@@ -11,7 +11,7 @@ use Rattle.pv_words.specs.declared.place.Place.TheVariants.{Cell, Grant}
 use Rattle.pv_words.specs.Memory.{Memory, Finds, written}
 use Rattle.pv_words.specs.Place.{same_place}
 use Rattle.pv_words.specs.Plan.{Want, Load, Store, Note, Plain, Begins, Frames, Undoes, Ends, Takes, Puts, wanted}
-use Rattle.device_core.specs.Machine.{Reading, Snapshot, Touches, HappensTo, IsRun, IsTouching, FindsIn, IsWordOf, seen_more, shown_as, touched_in, touches}
+use Rattle.device_core.specs.Machine.{Reading, Touches, HappensTo, IsRun, IsTouching, FindsIn, IsWordOf, seen_more, shown_as, touched_in, touches}
 use Rattle.device_core.specs.Names.{Name, Sight, Numbers, Words, HasWord, all_drawn, drawn, is_worded, words_at, words_in}
 use Rattle.device_core.specs.Order.{Rules}
 use Rattle.device_core.specs.Touched.{Touch, Took, Put, numbered, stroke_of, touch_of, word_by}

@@ -1,11 +1,11 @@
 -- A device's work is a run of a machine of rows and names: one theorem for every device.
-use Rattle.std.specs.Prelude.{◌≡◌, ℕ, Bool, true, List, [], ◌∷◌, ◌++◌, map, slice_get, Option, Some, None}
+use Rattle.std.specs.Prelude.{◌≡◌, ℕ, Bool, List, [], ◌∷◌, ◌++◌, map, slice_get, Option, Some, None}
 use Rattle.pv_words.specs.declared.access.Access.{Access}
 use Rattle.pv_words.specs.declared.device.HostRefusal.{HostRefusal}
 use Rattle.pv_words.specs.declared.device.Said.{Said}
 use Rattle.pv_words.specs.declared.place.Place.{Place}
 use Rattle.pv_words.specs.Along.{Along}
-use Rattle.pv_words.specs.Memory.{Memory, Finds, written}
+use Rattle.pv_words.specs.Memory.{Finds, written}
 use Rattle.pv_words.specs.Plan.{Plan, Finished, Make, Want, Load, Store, Note, Takes, Puts, FitsFrom, IsUntouched}
 use Rattle.device_core.specs.Names.{Name, Drawn, Sight, Numbers, Words, Stroke, HasWord, Redraws, Loses, is_worded, words_in, all_drawn, writing_of, strokes_by, with_name}
 use Rattle.device_core.specs.Order.{News, Own, Did, Spoke, Heard, Refused, Others, Order, Act, Rest, Rules, Stand, Between, During, Telling, Station, Offers, followed, picked, refused_by, note_at, note_of}

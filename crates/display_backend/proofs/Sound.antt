@@ -1,5 +1,5 @@
 -- The display's order of work is sound: its accesses lie on the pages that it holds, and its ends are moves of the machine.
-use Rattle.std.proofs.Common.{◌≡◌, inl, ℕ, List, [], Option, Some, None, refl, subst, arith}
+use Rattle.std.proofs.Common.{◌≡◌, inl, ℕ, List, [], Option, Some, None, refl, subst}
 use Rattle.pv_words.specs.declared.device.Reason.{Reason}
 use Rattle.pv_words.specs.declared.device.Reason.TheVariants as reason
 use Rattle.pv_words.specs.declared.device.Said.{Said}
@@ -11,7 +11,7 @@ use Rattle.displ_wire.specs.Wire.{request_of}
 use Rattle.page_directory.specs.declared.walk.Walked.TheVariants as walked
 use Rattle.display_backend.specs.declared.waiting.Waiting.TheVariants as waiting
 use Rattle.pv_words.specs.Found.{Found}
-use Rattle.pv_words.specs.Held.{Holds, IsProper, holding, holds_of}
+use Rattle.pv_words.specs.Held.{IsProper}
 use Rattle.pv_words.specs.Plan.{Plan, Want, Note, FitsFrom, IsUntouched}
 use Rattle.pv_words.proofs.Fits.{fits_so}
 use Rattle.device_core.specs.Learned.{Learned, learning, learned_of}

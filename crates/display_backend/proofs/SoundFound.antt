@@ -1,19 +1,16 @@
 -- Of an activity that may be chosen: it touches no word of a name, and it ends as the words show that it found.
-use Rattle.std.proofs.Common.{◌≡◌, ◌⊎◌, inl, inr, ℕ, zero, suc, ◌==◌, nat_le, Bool, true, false, List, [], ◌∷◌, ◌++◌, Option, Some, None, refl, sym, ◌∙◌, ap, subst, arith, slice_get}
-use Rattle.pv_words.specs.declared.access.Access.{Access}
+use Rattle.std.proofs.Common.{◌≡◌, ◌⊎◌, inl, inr, ℕ, zero, suc, Bool, true, false, List, [], ◌∷◌, ◌++◌, Option, Some, None, refl, sym, ◌∙◌, ap, subst, arith, slice_get}
 use Rattle.pv_words.specs.declared.device.Reason.{Reason}
 use Rattle.pv_words.specs.declared.device.Reason.TheVariants as reason
 use Rattle.pv_words.specs.declared.device.State.{State}
 use Rattle.pv_words.specs.declared.device.State.TheVariants as state
-use Rattle.pv_words.specs.declared.grant.Hold.{Hold}
-use Rattle.pv_words.specs.declared.grant.Mode.TheVariants.{Read, Write}
+use Rattle.pv_words.specs.declared.grant.Mode.TheVariants.{Read}
 use Rattle.pv_words.specs.Found.{Found, finding}
 use Rattle.pv_words.specs.Plan.{Plan, Finished, Make, Note, IsUntouched, joined, mapped}
 use Rattle.pv_words.proofs.Fits.{fits_mapped, fits_so, fits_then}
 use Rattle.displ_wire.specs.declared.Asked.{Asked}
 use Rattle.displ_wire.specs.declared.Asked.TheVariants as asked
 use Rattle.displ_wire.specs.declared.Create.{Create}
-use Rattle.grant_table.specs.Laws.{IsShown}
 use Rattle.page_directory.specs.declared.walk.Walked.{Walked}
 use Rattle.page_directory.specs.declared.walk.Walked.TheVariants as walked
 use Rattle.page_directory.specs.Laws as walk
@@ -22,7 +19,7 @@ use Rattle.page_directory.specs.Walking as walking
 use Rattle.page_directory.proofs.Shown.{walks_show}
 use Rattle.ring_words.specs.declared.Looked.{Looked}
 use Rattle.ring_words.specs.declared.Looked.TheVariants as looked
-use Rattle.ring_words.specs.Ring.{looked_of, since}
+use Rattle.ring_words.specs.Ring.{looked_of}
 use Rattle.xenbus_states.specs.declared.back.Action.{Action}
 use Rattle.xenbus_states.specs.declared.back.Action.TheVariants as action
 use Rattle.xenbus_states.specs.Connection.{action_of}
@@ -31,7 +28,7 @@ use Rattle.xenbus_states.proofs.Actions.{closes_asked}
 use Rattle.link_core.specs.Activities.{Connected, Joined, Joins, Refuses, answer_plan, connect_plan, look_plan, sleep_plan, take_plan, unmaps}
 use Rattle.link_core.specs.Laws as link
 use Rattle.link_core.proofs.Shown.{FitFound, TouchesNone, answer_none, connects_show, found_any, looks_show, sleep_none, take_none, unmaps_found}
-use Rattle.device_core.specs.Order.{Act, Either, Offers}
+use Rattle.device_core.specs.Order.{Act, Offers}
 use Rattle.display_backend.specs.declared.display.Progress.{Progress}
 use Rattle.display_backend.specs.declared.display.Progress.TheVariants as progress
 use Rattle.display_backend.specs.declared.display.Round.{Round}
@@ -40,7 +37,7 @@ use Rattle.display_backend.specs.declared.waiting.Waiting.{Waiting}
 use Rattle.display_backend.specs.Machine.{Hand, Refs, IsAskedFor, is_accepted, needs_of, refs_from, verdict}
 use Rattle.display_backend.specs.Reply.{reply_to}
 use Rattle.display_backend.specs.Stock.{pages_of, pages_under}
-use Rattle.display_backend.specs.Work.{Work, End, Saw, Took, Listed, Freed, Answered, Slept, Met, Denied, Lacked, Shut, Left, Renewed, Served, after_answer, after_look, after_part, after_sleep, after_walk, all_pages, answer_of, answers, beginning, choice, close, connect_all, connect_parts, decides, freeing, frees, goes_on, in_round, leaving, looks_at, maps, nothing, part_of, ring_page, settled, sleep_all, sleeps_on, starved, status_of, takes_from, with_action, with_closing, with_hand, with_kept, with_left, with_state, with_waiting}
+use Rattle.display_backend.specs.Work.{Work, End, Saw, Took, Listed, Freed, Answered, Slept, Denied, Shut, Left, Renewed, Served, after_answer, after_look, after_part, after_sleep, after_walk, all_pages, answer_of, answers, beginning, choice, close, connect_all, connect_parts, decides, freeing, frees, goes_on, in_round, leaving, looks_at, maps, nothing, part_of, ring_page, settled, sleep_all, sleeps_on, starved, status_of, takes_from, with_action, with_closing, with_hand, with_kept, with_left, with_state, with_waiting}
 use Rattle.display_backend.proofs.SoundRefs.{AllAsked, all_asked}
 use Rattle.display_backend.proofs.SoundSettles.{found_index, none_kept}
 use Rattle.display_backend.proofs.SoundWork.{the_site, IsDue, IsKept, IsSane, KeptFound, EndsFound}

@@ -1,5 +1,5 @@
 -- The display's history tells just what it said and heard.
-use Rattle.std.proofs.Common.{◌≡◌, ℕ, Bool, true, false, List, [], ◌∷◌, map, Option, Some, None, refl}
+use Rattle.std.proofs.Common.{◌≡◌, ℕ, Bool, true, false, List, [], ◌∷◌, Option, Some, None, refl}
 use Rattle.pv_words.specs.declared.device.Reason.{Reason}
 use Rattle.pv_words.specs.declared.device.State.{State}
 use Rattle.pv_words.specs.declared.device.State.TheVariants as state
@@ -8,7 +8,6 @@ use Rattle.displ_wire.specs.declared.Asked.TheVariants as asked
 use Rattle.xenbus_states.specs.declared.back.Action.{Action}
 use Rattle.xenbus_states.specs.declared.back.Action.TheVariants as action
 use Rattle.xenbus_states.specs.Connection.{action_of}
-use Rattle.device_core.specs.Machine.{Gone}
 use Rattle.device_core.specs.Site.{Site}
 use Rattle.device_core.specs.Told.{TellsAll, told_by}
 use Rattle.display_backend.specs.declared.display.Progress.{Progress}

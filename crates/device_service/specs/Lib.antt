@@ -1,6 +1,8 @@
 pub mod Claims
+pub mod Doing
 pub mod Laws
 pub mod Nodes
+pub mod Parts
 pub mod Raise
 pub mod Reading
 pub mod Refusing

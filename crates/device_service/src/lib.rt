@@ -3,9 +3,11 @@
 #![tactic(auto)]
 
 mod laws;
+mod parts;
 mod refusing;
 mod serve;
 
 pub use laws::services_run;
+pub use parts::{Doing, Parts};
 pub use refusing::{Refusing, refusing_runs};
 pub use serve::Serve;

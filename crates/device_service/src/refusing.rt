@@ -6,11 +6,17 @@ ghost use Rattle.device_service.specs.Refusing.{refused, refusing, shows_none};
 use crate::laws::services_run;
 use crate::serve::Serve;
 
+/// No event of a host waits for it.
+#[derive(Clone, Copy)]
+pub enum Never {}
+
 /// A service that knows no operation: it answers each request that it is not supported.
 #[derive(Drop)]
 pub struct Refusing;
 
 impl Serve for Refusing {
+    type Event = Never;
+
     ghost use Rattle.std.specs.Prelude.{ℕ, Option};
     ghost use Rattle.device_service.specs.Refusing.{facts, refused, refusing, shows_none};
     ghost use Rattle.device_service.specs.RefusingKept.{keeps_laws};
@@ -18,8 +24,6 @@ impl Serve for Refusing {
     ghost Known = { Option ℕ };
 
     ghost End = { Unit {0} };
-
-    ghost Waiting = { ⊥ };
 
     ghost Rows = { Unit {0} };
 

@@ -16,7 +16,7 @@ pub trait Serve {
     ghost End: { Type 0 };
 
     /// An event of its host that waits.
-    ghost Waiting: { Type 0 };
+    type Event: Copy;
 
     /// Its rows of the device's machine.
     ghost Rows: { Type 0 };
@@ -25,16 +25,16 @@ pub trait Serve {
     ghost Naming: { Type 0 };
 
     /// What it is to the order of work.
-    ghost service: { Service Known End Waiting };
+    ghost service: { Service Known End Self.Event };
 
     /// How its rows move.
-    ghost table: { Table Rows Waiting };
+    ghost table: { Table Rows Self.Event };
 
     /// How what it knows is read.
     ghost shows: { Shows Known Rows Naming };
 
     /// What is known of it.
-    ghost known: { (frames grants : ℕ → ℕ) → (dom parts : ℕ) → Facts Known End Waiting Naming };
+    ghost known: { (frames grants : ℕ → ℕ) → (dom parts : ℕ) → Facts Known End Self.Event Naming };
 
     /// It keeps its laws.
     ghost laws: { KeepsLaws service table shows known };

@@ -1,7 +1,9 @@
 pub mod Claims
 pub mod Doing
+pub mod Dropping
 pub mod Laws
 pub mod Nodes
+pub mod Operating
 pub mod Parts
 pub mod Raise
 pub mod Reading

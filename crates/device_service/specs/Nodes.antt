@@ -1,6 +1,6 @@
 -- The nodes that a device needs, and the references that they give, by the kind of the device (the nodes of displif.h, sndif.h and
 -- kbdif.h).
-use Rattle.std.specs.Prelude.{◌≡◌, ℕ, zero, suc, ◌+◌, ◌<◌, ◌==◌, ◌||◌, Bool, true, List, [], ◌∷◌, Option, Some, None, Ok}
+use Rattle.std.specs.Prelude.{◌≡◌, ℕ, zero, suc, ◌+◌, ◌<◌, ◌==◌, ◌||◌, Bool, true, false, List, [], ◌∷◌, Option, Some, None, Ok}
 use Rattle.pv_words.specs.declared.device.NodeValue.{NodeValue}
 use Rattle.xenbus_states.specs.Needs.{Need, needs_from, page_keys, ring_keys}
 use Rattle.xenbus_states.specs.Nodes.{node_at, needed, number_at}
@@ -10,6 +10,11 @@ use Rattle.device_core.specs.Site.{Site}
 pub data Kind : Type 0 where
   Ringed : Kind
   Ringless : Kind
+
+-- with a ring, or without
+abbrev pub kind_in : Bool → Kind
+kind_in true = Ringed
+kind_in false = Ringless
 
 abbrev pub keys_of : Kind → List ℕ
 keys_of Ringed = ring_keys

@@ -16,7 +16,9 @@ use Rattle.device_core.specs.Site.{Site}
 use Rattle.device_service.specs.declared.parts.Doing.{Doing}
 use Rattle.device_service.specs.declared.parts.Doing.TheVariants as doing
 use Rattle.device_service.specs.declared.parts.Parts.{Parts}
-use Rattle.device_service.specs.Nodes.{Kind, Ringed, Ringless, Refs, refs_at, refs_from}
+pub use Rattle.device_service.specs.Nodes.{kind_in}
+use Rattle.device_service.specs.Nodes.{Kind, Refs, refs_at, refs_from}
+pub use Rattle.device_service.specs.Dropping.{Drops, MayDrop}
 use Rattle.device_service.specs.Claims.{site_of}
 use Rattle.device_service.specs.Work.{after_part, connect_parts, counted, ring_page, sleep_all, sleeps_on}
 pub use Rattle.device_service.specs.Doing.{all_held, is_open}
@@ -28,10 +30,6 @@ dom_of p = p.dom.0
 -- how many they are
 unfoldable pub count_of : Parts → ℕ
 count_of p = length p.links.items
-
-abbrev pub kind_in : Bool → Kind
-kind_in true = Ringed
-kind_in false = Ringless
 
 -- whether each has a ring
 unfoldable pub kind_of : Parts → Kind
@@ -172,15 +170,6 @@ Rests d = (d ≡ doing.Open) ⊎ (d ≡ doing.Bare)
 -- the part is one of those that are joined
 abbrev pub IsOpen : ℕ → Parts → Type 0
 IsOpen part p = (part < count_of p) × (is_open (doing_of p) ≡ true)
-
--- the first of these pages may be unmapped, and it is
-abbrev pub MayDrop : (Want → Type 0) → List Hold → Type 0
-MayDrop may [] = Unit {0}
-MayDrop may (h ∷ hs) = may (unmap_want h)
-
-abbrev pub Drops : List Hold → Access → List Hold → Type 0
-Drops [] a left = ⊥
-Drops (h ∷ hs) a left = (wanted a ≡ unmap_want h) × (left ≡ hs)
 
 -- the part has one reply more, once its Answer is over
 abbrev pub answered_if : {A : Type 0} → Option A → ℕ → List Joined → List Joined

@@ -1,5 +1,5 @@
 -- The least service keeps its laws.
-use Rattle.std.proofs.Common.{ℕ, ◌≤◌, length, Option, Some, None, is_some, refl, ap}
+use Rattle.std.proofs.Common.{◌≡◌, ℕ, ◌≤◌, length, Option, Some, None, is_some, refl, ap}
 use Rattle.std.proofs.lemmas.Bool.{true≢false, false≢true}
 use Rattle.std.proofs.Math.Nat.{le-add_left}
 use Rattle.pv_words.specs.Plan.{Want, Note, Plain, Begins, Frames, Undoes, Ends, Takes, Puts, IsUntouched}
@@ -9,8 +9,12 @@ use Rattle.device_service.specs.Laws.{IsRaise, IsTouching}
 use Rattle.device_service.specs.Refusing.{facts, refused, refusing, reply_to, shows_none}
 
 short : (x : Option ℕ) → length (reply_to x) ≤ 16
-short None = le-add_left 0 16
-short (Some word) = le-add_left 2 14
+short None = le-add_left 16 0
+short (Some word) = le-add_left 16 0
+
+pub whole_replies : (x : Option ℕ) → length (reply_to x) ≡ 16
+whole_replies None = refl
+whole_replies (Some word) = refl
 
 -- nothing is ever raised
 none_raised : (x : Option ℕ) (e : Option Never) (part : ℕ) → IsRaise refusing x e part → ⊥

@@ -20,13 +20,8 @@ use Rattle.device_core.specs.Order.{News, Sets, Hosts}
 use Rattle.device_core.specs.Site.{Site}
 use Rattle.device_core.specs.Touched.{Touch}
 use Rattle.device_service.specs.Nodes.{Kind, IsAskedFor, needs_of}
+pub use Rattle.device_service.specs.declared.round.Hand.{Hand}
 use Rattle.device_service.specs.Raise.{limit, slots}
-
--- a request in hand: the part whose ring it came by, and what stands in its first word
-pub record Hand : Type 0 where
-  pub part : ℕ
-  pub id : ℕ
-  pub op : ℕ
 
 -- the request of these words, by this part
 abbrev pub hand_in : ℕ → List ℕ → Hand

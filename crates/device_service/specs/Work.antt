@@ -29,13 +29,9 @@ use Rattle.xenbus_states.specs.Needs.{Problem, first_fault}
 use Rattle.device_service.specs.Nodes.{Kind, Ringed, Ringless, Refs, needs_of, refs_from}
 use Rattle.device_service.specs.Raise.{Put, Stored, Full, BadCons, raise_plan, limit}
 use Rattle.device_service.specs.Rows.{Hand, hand_in}
+pub use Rattle.device_service.specs.declared.round.Round.{Round}
+pub use Rattle.device_service.specs.declared.round.Round.TheVariants.{Looks, Sleeps, Idles}
 use Rattle.device_service.specs.Service.{Job, Works, Starves, Owed, Deed, Runs, Raises, Service}
-
--- What comes next where no request is left: a look at the ring of a part, and whether the round served a request.
-pub data Round : Type 0 where
-  Looks : ℕ → Bool → Round
-  Sleeps : Round
-  Idles : Round
 
 -- what a device knows between two activities, and what of it stays known in one
 pub record Work (X V : Type 0) : Type 0 where

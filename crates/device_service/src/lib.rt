@@ -4,6 +4,7 @@
 
 mod laws;
 mod parts;
+mod reading;
 mod refusing;
 mod serve;
 

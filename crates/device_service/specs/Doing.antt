@@ -3,7 +3,7 @@ use Rattle.std.specs.Prelude.{◌≡◌, ◌≢◌, ℕ, ◌+◌, ◌<◌, ◌�
 use Rattle.pv_words.specs.declared.grant.Hold.{Hold}
 use Rattle.link_core.specs.declared.link.Link.{Link}
 use Rattle.link_core.specs.Activities as activities
-use Rattle.link_core.specs.Link.{dom_of, held_of, idle, is_joined, joined_of, rings}
+use Rattle.link_core.specs.Link.{connects, dom_of, held_of, idle, joined_of, rings}
 use Rattle.device_service.specs.declared.parts.Doing.{Doing}
 use Rattle.device_service.specs.declared.parts.Doing.TheVariants as doing
 
@@ -79,8 +79,8 @@ pub record Fits (dom : ℕ) (ringed : Bool) (met bare busy : ℕ) (mapping : Boo
   pub none : bare ≤ i → length (held_of l) ≡ 0
   pub rests : i ≢ busy → idle l ≡ true
   pub ring : mapping ≡ true → ringed ≡ true → rings l ≡ true
-  -- one that a Connect comes to next holds none
-  pub fresh : mapping ≡ true → met ≤ i → idle l ≡ true → length (held_of l) ≡ 0
+  -- one that a Connect has yet to begin on rests, and holds none
+  pub fresh : mapping ≡ true → met ≤ i → connects l ≡ false → (idle l ≡ true) × (length (held_of l) ≡ 0)
 
 -- of all parts
 pub record Whole (dom : ℕ) (ringed : Bool) (doing : Doing) (links : List Link) : Type 0 where

@@ -2,7 +2,9 @@
 -- kbdif.h).
 use Rattle.std.specs.Prelude.{◌≡◌, ℕ, zero, suc, ◌+◌, ◌<◌, ◌==◌, ◌||◌, Bool, true, false, List, [], ◌∷◌, Option, Some, None, Ok}
 use Rattle.pv_words.specs.declared.device.NodeValue.{NodeValue}
-use Rattle.xenbus_states.specs.Needs.{Need, needs_from, page_keys, ring_keys}
+use Rattle.pv_words.specs.declared.device.Reason.{Reason}
+use Rattle.pv_words.specs.declared.device.Reason.TheVariants as reason
+use Rattle.xenbus_states.specs.Needs.{Need, Problem, needs_from, page_keys, ring_keys}
 use Rattle.xenbus_states.specs.Nodes.{node_at, needed, number_at}
 use Rattle.device_core.specs.Site.{Site}
 
@@ -23,6 +25,11 @@ keys_of Ringless = page_keys
 -- the nodes that a device of this kind needs: the keys of each of its parts
 abbrev pub needs_of : Kind → Site → List Need
 needs_of kind site = needs_from (keys_of kind) 0 site.parts
+
+-- why nodes are refused
+abbrev pub fault_in : Option Problem → Option Reason
+fault_in None = None
+fault_in (Some problem) = Some (reason.Node problem.part problem.key problem.fault)
 
 -- the references of a part's ring page, if it has a ring, and of its event page
 pub record Refs : Type 0 where

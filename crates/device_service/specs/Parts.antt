@@ -158,6 +158,15 @@ Connected None d = connects d ≡ true
 Connected (Some (Ok u)) d = d ≡ doing.Open
 Connected (Some (Err why)) d = d ≡ doing.Bare
 
+-- A refused Connect is over just where no page is left of these.
+abbrev pub UndoneAs : GrantRefusal → List Hold → Option (Result (Unit {0}) GrantRefusal) → Type 0
+UndoneAs why [] done = done ≡ Some (Err why)
+UndoneAs why (h ∷ hs) done = done ≡ None
+
+abbrev pub LeftBy : GrantRefusal → List Hold → Doing → Type 0
+LeftBy why [] d = d ≡ doing.Bare
+LeftBy why (h ∷ hs) d = d ≡ doing.Undoing why
+
 -- they are joined by an access, never without one
 abbrev pub JoinsByAccess : Option Access → Option (Result (Unit {0}) GrantRefusal) → Type 0
 JoinsByAccess None (Some (Ok u)) = ⊥

@@ -5,6 +5,7 @@
 mod deed;
 mod laws;
 mod parts;
+mod reading;
 mod refusing;
 mod round;
 mod serve;

@@ -1,8 +1,9 @@
 //! The parts of a device.
 
-ghost use Rattle.std.specs.Prelude.{◌≡◌, ◌<◌, ◌≤◌, [], IfOk, IsSome, Some, false, length, slice_get, true};
+ghost use Rattle.std.specs.Prelude.{◌≡◌, ◌<◌, ◌≤◌, ◌==◌, [], IfOk, IsSome, Some, false, length, slice_get, true};
 ghost use Rattle.device_service.specs.Doing.{Whole};
 
+use crate::reading::number_at;
 use link_core::Link;
 use pv_words::{Access, DomId, GrantRef, GrantRefusal, Hold, Turn, Words};
 use ring_words::Looked;
@@ -43,18 +44,21 @@ pub struct Parts {
 }
 
 impl Parts {
-    ghost use Rattle.std.specs.Prelude.{ℕ};
+    ghost use Rattle.std.specs.Prelude.{ℕ, List};
+    ghost use Rattle.pv_words.specs.declared.device.NodeValue.{NodeValue};
     ghost use Rattle.pv_words.specs.declared.grant.Hold.{Hold};
     ghost use Rattle.pv_words.specs.Plan.{Plan, MayGo, Makes, Turns};
+    ghost use Rattle.link_core.specs.declared.link.Link.{Link};
+    ghost use Rattle.link_core.specs.Activities.{Joined};
     ghost use Rattle.link_core.specs.Link.{Leads};
+    ghost use Rattle.link_core.specs.Link as link;
     ghost use Rattle.link_core.specs.Stays.{AccessIn};
     ghost use Rattle.device_core.specs.Site.{Site};
     ghost use Rattle.ring_words.specs.declared.Looked.{Looked};
     ghost use Rattle.device_service.specs.declared.parts.Doing.TheVariants as doing;
-    ghost use Rattle.device_service.specs.Claims.{site_of};
     ghost use Rattle.device_service.specs.Nodes.{Ringed, refs_from};
-    ghost use Rattle.device_service.specs.Parts.{Connected, Drops, Keeps, MayDrop, MayServe, MaySleep, Same, Slept, answer_left, connect_left, connects, count_of, doing_of, dom_of, ending_of, held_of, is_open, joined_of, kind_in, kind_of, look_of, open_or, sleep_left, take_left};
-    ghost use Rattle.device_service.specs.Work.{connect_parts, counted};
+    ghost use Rattle.device_service.specs.Parts.{Connected, Drops, IsOpen, JoinsByAccess, Keeps, LeftBy, MayDrop, MayServe, MaySleep, Rests, Same, Slept, answer_left, answered_if, connect_left, connects, count_of, doing_of, dom_of, ending_of, held_of, joined_of, kind_in, kind_of, look_of, open_or, site_in, sleep_left, take_left, UndoneAs};
+    ghost use Rattle.device_service.specs.Work.{connect_parts};
 
     /// So many parts of this domain's device, each with a ring or without, none of which is joined.
     pub fn new(alloc: Global, dom: DomId, parts: u8, ringed: bool) -> Result<Parts, AllocError>
@@ -115,6 +119,30 @@ impl Parts {
         unreachable!()
     }
 
+    /// Whether they hold no page.
+    pub fn is_bare(&self) -> bool
+        ensures { result ≡ (length (held_of self.now) == 0) }
+    {
+        self.held() == 0
+    }
+
+    /// The event page of this part.
+    pub fn event_page(&self, part: u8) -> Hold
+        requires { IsOpen part self.now }
+        ensures { (j : Joined) → slice_get (joined_of self.now) part ≡ Some j → result ≡ j.event }
+    {
+        let link = &self.links[part as usize];
+        link.hold_at(link.held() - 1)
+    }
+
+    /// The index up to which events were written when this part was connected.
+    pub fn in_prod(&self, part: u8) -> u32
+        requires { IsOpen part self.now }
+        ensures { (j : Joined) → slice_get (joined_of self.now) part ≡ Some j → result ≡ j.prod }
+    {
+        self.links[part as usize].in_prod()
+    }
+
     /// A Connect begins.
     pub fn begin(&mut self)
         requires { doing_of self.old ≡ doing.Bare }
@@ -125,9 +153,68 @@ impl Parts {
         self.doing = Doing::Connecting(0);
     }
 
+    // The first part that holds a page.
+    fn first_held(&self) -> usize
+        ensures within { result ≤ length self.now.links.items }
+        ensures before { (i : ℕ) (l : Link) → i < result → slice_get self.now.links.items i ≡ Some l → length (link.held_of l) ≡ 0 }
+        ensures here { (l : Link) → slice_get self.now.links.items result ≡ Some l → 0 < length (link.held_of l) }
+    {
+        for part in 0..self.links.len() {
+            if self.links[part].held() > 0 {
+                return part;
+            }
+        }
+        self.links.len()
+    }
+
+    // What a refused Connect has come to after an access: it is over, once no page is held.
+    fn undone(&mut self, why: GrantRefusal) -> Option<Result<(), GrantRefusal>>
+        requires { doing_of self.old ≡ doing.Undoing why }
+        ensures ends { UndoneAs why (held_of self.old) result }
+        ensures connected { Connected result (doing_of self.new) }
+        ensures left { LeftBy why (held_of self.old) (doing_of self.new) }
+        ensures held { held_of self.new ≡ held_of self.old }
+        ensures same { Same self.old self.new }
+    {
+        if !self.is_bare() {
+            return None;
+        }
+        self.doing = Doing::Bare;
+        Some(Err(why))
+    }
+
+    // The next access of a refused Connect, which unmaps what it mapped.
+    fn undo<W: Words>(&mut self, words: &mut W, why: GrantRefusal) -> Turn<Result<(), GrantRefusal>>
+        requires undoing { doing_of self.old ≡ doing.Undoing why }
+        requires may { MayDrop (W.may words.old) (held_of self.old) }
+        ensures leads { (site : Site) (nodes : List NodeValue) → Leads (connect_left site nodes self.old) result.access (ending_of self.new result.done) (connect_left site nodes self.new) }
+        ensures made { Makes W.makes words.old result.access words.new }
+        ensures stays { (pages : List Hold) → AccessIn pages result.access }
+        ensures connected { Connected result.done (doing_of self.new) }
+        ensures joins { JoinsByAccess result.access result.done }
+        ensures same { Same self.old self.new }
+    {
+        let part = self.first_held();
+        if part == self.links.len() {
+            self.doing = Doing::Bare;
+            return Turn {
+                access: None,
+                done: Some(Err(why)),
+            };
+        }
+        let turn = self.links[part].drop_step(words);
+        let access = turn.access;
+        let done = self.undone(why);
+        Turn { access, done }
+    }
+
     /// The next access of a Connect, by the references of these nodes, which are the same from its beginning on. It maps the pages of
     /// each part, in order; where it is refused, what it mapped is unmapped again, and then it ends with the refusal.
-    pub fn connect_step<W: Words>(&mut self, words: &mut W, nodes: &Nodes) -> Turn<Result<(), GrantRefusal>>
+    pub fn connect_step<W: Words>(
+        &mut self,
+        words: &mut W,
+        nodes: &Nodes,
+    ) -> Turn<Result<(), GrantRefusal>>
         requires connecting { connects (doing_of self.old) ≡ true }
         requires may { MayGo (W.may words.old) (connect_left (site_in (W.frames_of words.old) (W.grants_of words.old) self.old) nodes.now self.old) }
         ensures leads { Leads (connect_left (site_in (W.frames_of words.old) (W.grants_of words.old) self.old) nodes.now self.old) result.access (ending_of self.new result.done) (connect_left (site_in (W.frames_of words.old) (W.grants_of words.old) self.old) nodes.now self.new) }
@@ -158,7 +245,10 @@ impl Parts {
             if access.is_none() {
                 return self.undo(words, why);
             }
-            return Turn { access, done: self.undone(why) };
+            return Turn {
+                access,
+                done: self.undone(why),
+            };
         }
         let following = part + 1;
         if (following as usize) < self.links.len() {
@@ -166,7 +256,10 @@ impl Parts {
             return Turn { access, done: None };
         }
         self.doing = Doing::Open;
-        Turn { access, done: Some(Ok(())) }
+        Turn {
+            access,
+            done: Some(Ok(())),
+        }
     }
 
     /// The one access of a Look at this part's ring.
@@ -206,7 +299,12 @@ impl Parts {
     }
 
     /// The next access of an Answer in this part's ring. Once it is over, the part has one reply more.
-    pub fn answer_step<W: Words>(&mut self, words: &mut W, part: u8, reply: &[u32; 16]) -> Turn<bool>
+    pub fn answer_step<W: Words>(
+        &mut self,
+        words: &mut W,
+        part: u8,
+        reply: &[u32; 16],
+    ) -> Turn<bool>
         requires part { part < count_of self.old }
         requires serving { MayServe (doing_of self.old) (doing.Answering part) }
         requires ringed { kind_of self.old ≡ Ringed }
@@ -255,7 +353,10 @@ impl Parts {
             return Turn { access, done: None };
         }
         self.doing = Doing::Open;
-        Turn { access, done: Some(quiet) }
+        Turn {
+            access,
+            done: Some(quiet),
+        }
     }
 
     /// The parts that rest are to be given up: none is joined any longer.

@@ -1,5 +1,5 @@
 -- Which activity a backend is in, and what that says of its parts and its service.
-use Rattle.std.specs.Prelude.{◌≡◌, ◌⊎◌, ◌×◌, ℕ, ◌<◌, ◌&&◌, Bool, true, false, not, Option, Some, None, is_some}
+use Rattle.std.specs.Prelude.{◌≡◌, ◌⊎◌, ℕ, ◌<◌, ◌&&◌, Bool, true, false, not, Option, Some, None, is_some}
 use Rattle.pv_words.specs.declared.device.State.{State}
 use Rattle.pv_words.specs.declared.device.State.TheVariants as state
 use Rattle.device_service.specs.declared.backend.Activity.{Activity}
@@ -53,6 +53,11 @@ abbrev pub resting : Bool → Doing
 resting true = doing.Open
 resting false = doing.Bare
 
+-- the part of the request in hand
+abbrev pub hand_part : Option Hand → ℕ
+hand_part None = 0
+hand_part (Some h) = h.part
+
 -- what the parts do then, and the request in hand
 abbrev pub StandsAs : Activity → Bool → Doing → ℕ → Option Hand → Type 0
 StandsAs activity.Between opened d at hand = d ≡ resting opened
@@ -61,7 +66,7 @@ StandsAs (activity.Leaving why) opened d at hand = d ≡ doing.Dropping
 StandsAs activity.Taking opened d at hand = (opened ≡ true) × (d ≡ doing.Taking at) × (hand ≡ None)
 StandsAs activity.Working opened d at hand = (opened ≡ true) × (d ≡ doing.Open) × (is_some hand ≡ true)
 StandsAs activity.Serving opened d at hand = (opened ≡ true) × (d ≡ doing.Open) × (hand ≡ None)
-StandsAs activity.Answering opened d at hand = (opened ≡ true) × ((h : Hand) × (hand ≡ Some h) × (d ≡ doing.Answering h.part))
+StandsAs activity.Answering opened d at hand = (opened ≡ true) × (d ≡ doing.Answering (hand_part hand)) × (is_some hand ≡ true)
 StandsAs activity.Sleeping opened d at hand = (opened ≡ true) × (is_asleep d ≡ true) × (hand ≡ None)
 
 -- the activity begins, or it is under way

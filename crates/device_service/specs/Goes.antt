@@ -1,5 +1,5 @@
 -- What a step of an activity, and one that begins it, leads to.
-use Rattle.std.specs.Prelude.{◌≡◌, ◌⊎◌, ◌×◌, true, false, Option, Some, None}
+use Rattle.std.specs.Prelude.{◌≡◌, ◌⊎◌, true, false, Option, Some, None}
 use Rattle.pv_words.specs.declared.access.Access.{Access}
 use Rattle.pv_words.specs.declared.device.Said.{Said}
 use Rattle.pv_words.specs.declared.device.Said.TheVariants as said
@@ -9,7 +9,6 @@ use Rattle.pv_words.specs.Memory.{place_of}
 use Rattle.pv_words.specs.Plan.{Plan, Finished}
 use Rattle.device_core.specs.Order.{Order, Act, Either, Rest, Stand, Between, GoesOn, is_in_page}
 use Rattle.device_core.specs.Site.{Site}
-use Rattle.xenbus_states.specs.Needs.{Problem}
 use Rattle.device_service.specs.Service.{Service}
 use Rattle.device_service.specs.Work.{Work, End, Denied, Shut, device, shut, said_at, settled}
 
@@ -18,11 +17,6 @@ abbrev pub Closes : {A V : Type 0} → End A V → Reason → Type 0
 Closes (Denied refusal) why = why ≡ reason.Refused refusal
 Closes (Shut told) why = why ≡ told
 Closes other why = ⊥
-
--- why nodes are refused
-abbrev pub fault_in : Option Problem → Option Reason
-fault_in None = None
-fault_in (Some problem) = Some (reason.Node problem.part problem.key problem.fault)
 
 module _ {X A V : Type 0} (s : Service X A V) (site : Site) where
   -- Nothing is left of a plan that closes the connection, and this is said, with no access.

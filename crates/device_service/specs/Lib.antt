@@ -1,7 +1,11 @@
+pub mod Activity
 pub mod Claims
 pub mod Doing
 pub mod Dropping
+pub mod Facts
+pub mod Goes
 pub mod Laws
+pub mod Moves
 pub mod Nodes
 pub mod Operating
 pub mod Parts
@@ -11,4 +15,6 @@ pub mod Refusing
 pub mod RefusingKept
 pub mod Rows
 pub mod Service
+pub mod Stand
+pub mod Waits
 pub mod Work

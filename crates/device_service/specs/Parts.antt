@@ -22,6 +22,7 @@ pub use Rattle.device_service.specs.Dropping.{Drops, MayDrop}
 use Rattle.device_service.specs.Claims.{site_of}
 use Rattle.device_service.specs.Work.{after_part, connect_parts, counted, ring_page, sleep_all, sleeps_on}
 pub use Rattle.device_service.specs.Doing.{all_held, is_open}
+pub use Rattle.device_service.specs.Moves.{connects, is_asleep}
 
 -- the domain of their pages
 unfoldable pub dom_of : Parts → ℕ
@@ -134,10 +135,6 @@ abbrev pub open_or : {A : Type 0} → Option A → Doing → Doing
 open_or None d = d
 open_or (Some x) d = doing.Open
 
-abbrev pub is_asleep : Doing → Bool
-is_asleep (doing.Sleeping part) = true
-is_asleep other = false
-
 -- a Sleep may begin, or it is under way
 abbrev pub MaySleep : Doing → Type 0
 MaySleep d = (d ≡ doing.Open) ⊎ (is_asleep d ≡ true)
@@ -146,11 +143,6 @@ MaySleep d = (d ≡ doing.Open) ⊎ (is_asleep d ≡ true)
 abbrev pub Slept : {A : Type 0} → Option A → Doing → Type 0
 Slept None d = is_asleep d ≡ true
 Slept (Some x) d = d ≡ doing.Open
-
-abbrev pub connects : Doing → Bool
-connects (doing.Connecting part) = true
-connects (doing.Undoing why) = true
-connects other = false
 
 -- a Connect goes on, or all parts are joined, or no page is held
 abbrev pub Connected : Option (Result (Unit {0}) GrantRefusal) → Doing → Type 0

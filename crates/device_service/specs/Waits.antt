@@ -1,5 +1,5 @@
 -- The host's events that wait, each of a part that is there.
-use Rattle.std.specs.Prelude.{◌≡◌, ◌×◌, ℕ, ◌<◌, List, [], ◌∷◌, Some}
+use Rattle.std.specs.Prelude.{◌≡◌, ℕ, ◌<◌, List, [], ◌∷◌, Some}
 use Rattle.pv_words.specs.declared.device.HostEvent.{HostEvent}
 use Rattle.device_service.specs.Service.{Service}
 

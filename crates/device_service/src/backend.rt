@@ -1,9 +1,12 @@
 //! The backend of a device, whatever its service.
 
-ghost use Rattle.std.specs.Prelude.{◌≡◌, ◌<◌, ◌≤◌, ◌==◌, ◌||◌, [], IfOk, OnErr, Some, is_some, length, not, slice_get, true};
+ghost use Rattle.std.specs.Prelude.{◌≡◌, ◌<◌, ◌≤◌, ◌==◌, ◌||◌, [], IfOk, OnErr, Some, false, is_some, length, not, slice_get, true};
+ghost use Rattle.device_service.specs.declared.round.Hand.{Hand};
 ghost use Rattle.device_service.specs.Activity.{StandsAs, is_answering, is_open, is_working, may_hold};
+ghost use Rattle.std.proofs.Props.{props};
+ghost use Rattle.device_service.specs.Facts.{stands_prop, wait_prop};
 ghost use Rattle.device_service.specs.Nodes.{Ringed};
-ghost use Rattle.device_service.specs.Parts as parts;
+ghost use Rattle.device_service.specs.Parts as of_parts;
 ghost use Rattle.device_service.specs.Waits.{WaitAt};
 ghost use Rattle.device_service.specs.Work.{part_in};
 
@@ -65,14 +68,14 @@ pub struct Backend<S: Serve + Drop> {
     waiting: Queue<S::Event>,
     service: S,
     activity: Activity,
-    ghost dom_is: { parts.dom_of parts ≡ dom.0 },
-    ghost kind_is: { parts.kind_of parts ≡ S.service.kind },
-    ghost stands: { StandsAs activity (is_open activity closing connection.back) (parts.doing_of parts) at hand },
-    ghost at_in: { at < parts.count_of parts },
-    ghost round_in: { part_in round < parts.count_of parts },
-    ghost hand_in: { (h : Hand) → hand ≡ Some h → h.part < parts.count_of parts },
+    ghost dom_is: { of_parts.dom_of parts ≡ dom.0 },
+    ghost kind_is: { of_parts.kind_of parts ≡ S.service.kind },
+    ghost stands: { StandsAs activity (is_open activity closing connection.back) (of_parts.doing_of parts) at hand } by { Prim.hlevel (props, stands_prop) },
+    ghost at_in: { at < of_parts.count_of parts },
+    ghost round_in: { part_in round < of_parts.count_of parts },
+    ghost hand_in: { (h : Hand) → hand ≡ Some h → h.part < of_parts.count_of parts },
     ghost rung: { is_some hand ≡ true → S.service.kind ≡ Ringed },
-    ghost waits: { WaitAt S.service.at (parts.count_of parts) waiting },
+    ghost waits: { WaitAt S.service.at (of_parts.count_of parts) waiting } by { Prim.hlevel (props, wait_prop) },
     ghost works: { S.going service ≡ is_working activity },
     ghost bare: { may_hold activity (is_open activity closing connection.back) ≡ false → S.service.pages (S.knows service) ≡ [] },
     ghost ready: { is_answering activity ≡ true → S.service.ready (S.knows service) ≡ true },

@@ -2,6 +2,7 @@
 //! and names, and what its service owes for that. It is theory alone, which no program uses yet.
 #![tactic(auto)]
 
+mod backend;
 mod deed;
 mod laws;
 mod parts;
@@ -10,6 +11,7 @@ mod refusing;
 mod round;
 mod serve;
 
+pub use backend::{Activity, Backend};
 pub use deed::{Deed, Now};
 pub use laws::services_run;
 pub use parts::{Doing, Parts};

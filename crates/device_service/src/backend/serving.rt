@@ -2,7 +2,7 @@
 
 ghost use Rattle.std.specs.Prelude.{◌≡◌, ◌<◌, None, Some, is_some, length, not, slice_get, true, false};
 ghost use Rattle.device_service.specs.Activity.{MayServe, is_open};
-ghost use Rattle.device_service.specs.Parts as parts;
+ghost use Rattle.device_service.specs.Parts as of_parts;
 ghost use Rattle.device_service.specs.Rows.{hand_in};
 ghost use Rattle.device_service.specs.Work.{next_look, part_in};
 
@@ -119,8 +119,8 @@ impl<S: Serve + Drop> Backend<S> {
         requires opened { is_open self.old.activity self.old.closing self.old.connection.back ≡ true }
         requires hand { self.old.hand ≡ Some hand }
         requires works { S.service.ready (S.knows self.old.service) ≡ false }
-        requires may { MayChoose (W.may words.old) (decides_by S.service (site_at (W.frames_of words.old) (W.grants_of words.old) self.old) (work_of self.old) (slice_get (parts.joined_of self.old.parts) hand.part)) }
-        ensures begins { Begins S.service (site_at (W.frames_of words.old) (W.grants_of words.old) self.old) (decides_by S.service (site_at (W.frames_of words.old) (W.grants_of words.old) self.old) (work_of self.old) (slice_get (parts.joined_of self.old.parts) hand.part)) result.access result.said (stand_of (site_at (W.frames_of words.old) (W.grants_of words.old) self.old) self.new) }
+        requires may { MayChoose (W.may words.old) (decides_by S.service (site_at (W.frames_of words.old) (W.grants_of words.old) self.old) (work_of self.old) (slice_get (of_parts.joined_of self.old.parts) hand.part)) }
+        ensures begins { Begins S.service (site_at (W.frames_of words.old) (W.grants_of words.old) self.old) (decides_by S.service (site_at (W.frames_of words.old) (W.grants_of words.old) self.old) (work_of self.old) (slice_get (of_parts.joined_of self.old.parts) hand.part)) result.access result.said (stand_of (site_at (W.frames_of words.old) (W.grants_of words.old) self.old) self.new) }
         ensures made { Makes W.makes words.old result.access words.new }
         ensures stays { AccessIn (held_of self.old) result.access }
         ensures same { Same self.old self.new }
@@ -168,8 +168,8 @@ impl<S: Serve + Drop> Backend<S> {
         requires opened { is_open self.old.activity self.old.closing self.old.connection.back ≡ true }
         requires hand { self.old.hand ≡ None }
         requires oldest { slice_get self.old.waiting 0 ≡ Some event }
-        requires may { MayChoose (W.may words.old) (serves_by S.service (work_of self.old) event (slice_get (parts.joined_of self.old.parts) (S.service.at event))) }
-        ensures begins { Begins S.service (site_at (W.frames_of words.old) (W.grants_of words.old) self.old) (serves_by S.service (work_of self.old) event (slice_get (parts.joined_of self.old.parts) (S.service.at event))) result.access result.said (stand_of (site_at (W.frames_of words.old) (W.grants_of words.old) self.old) self.new) }
+        requires may { MayChoose (W.may words.old) (serves_by S.service (work_of self.old) event (slice_get (of_parts.joined_of self.old.parts) (S.service.at event))) }
+        ensures begins { Begins S.service (site_at (W.frames_of words.old) (W.grants_of words.old) self.old) (serves_by S.service (work_of self.old) event (slice_get (of_parts.joined_of self.old.parts) (S.service.at event))) result.access result.said (stand_of (site_at (W.frames_of words.old) (W.grants_of words.old) self.old) self.new) }
         ensures made { Makes W.makes words.old result.access words.new }
         ensures stays { AccessIn (held_of self.old) result.access }
         ensures same { Same self.old self.new }
@@ -214,8 +214,8 @@ impl<S: Serve + Drop> Backend<S> {
         requires opened { is_open self.old.activity self.old.closing self.old.connection.back ≡ true }
         requires hand { is_some self.old.hand ≡ true }
         requires ready { S.service.ready (S.knows self.old.service) ≡ true }
-        requires may { MayGo (W.may words.old) (parts.answer_of (S.service.reply (S.knows self.old.service)) (slice_get (parts.joined_of self.old.parts) (hand_part self.old.hand))) }
-        ensures goes { (site : Site) → GoesOn (device S.service site) (work_of self.old) (mapped Answered (parts.answer_of (S.service.reply (S.knows self.old.service)) (slice_get (parts.joined_of self.old.parts) (hand_part self.old.hand)))) result.access result.said (stand_of site self.new) }
+        requires may { MayGo (W.may words.old) (of_parts.answer_of (S.service.reply (S.knows self.old.service)) (slice_get (of_parts.joined_of self.old.parts) (hand_part self.old.hand))) }
+        ensures goes { (site : Site) → GoesOn (device S.service site) (work_of self.old) (mapped Answered (of_parts.answer_of (S.service.reply (S.knows self.old.service)) (slice_get (of_parts.joined_of self.old.parts) (hand_part self.old.hand)))) result.access result.said (stand_of site self.new) }
         ensures made { Makes W.makes words.old result.access words.new }
         ensures stays { AccessIn (held_of self.old) result.access }
         ensures same { Same self.old self.new }
@@ -230,8 +230,8 @@ impl<S: Serve + Drop> Backend<S> {
         requires opened { is_open self.old.activity self.old.closing self.old.connection.back ≡ true }
         requires hand { is_some self.old.hand ≡ true }
         requires ready { S.service.ready (S.knows self.old.service) ≡ true }
-        requires may { MayGo (W.may words.old) (parts.answer_left (hand_part self.old.hand) self.old.reply self.old.parts) }
-        ensures goes { (site : Site) → GoesOn (device S.service site) (work_of self.old) (mapped Answered (parts.answer_left (hand_part self.old.hand) self.old.reply self.old.parts)) result.access result.said (stand_of site self.new) }
+        requires may { MayGo (W.may words.old) (of_parts.answer_left (hand_part self.old.hand) self.old.reply self.old.parts) }
+        ensures goes { (site : Site) → GoesOn (device S.service site) (work_of self.old) (mapped Answered (of_parts.answer_left (hand_part self.old.hand) self.old.reply self.old.parts)) result.access result.said (stand_of site self.new) }
         ensures made { Makes W.makes words.old result.access words.new }
         ensures stays { AccessIn (held_of self.old) result.access }
         ensures same { Same self.old self.new }
@@ -259,8 +259,8 @@ impl<S: Serve + Drop> Backend<S> {
         requires serving { MayServe self.old.activity activity.Taking }
         requires opened { is_open self.old.activity self.old.closing self.old.connection.back ≡ true }
         requires hand { self.old.hand ≡ None }
-        requires may { MayGo (W.may words.old) (parts.take_left self.old.at self.old.parts) }
-        ensures goes { (site : Site) → GoesOn (device S.service site) (work_of self.old) (mapped Took (parts.take_left self.old.at self.old.parts)) result.access result.said (stand_of site self.new) }
+        requires may { MayGo (W.may words.old) (of_parts.take_left self.old.at self.old.parts) }
+        ensures goes { (site : Site) → GoesOn (device S.service site) (work_of self.old) (mapped Took (of_parts.take_left self.old.at self.old.parts)) result.access result.said (stand_of site self.new) }
         ensures made { Makes W.makes words.old result.access words.new }
         ensures stays { AccessIn (held_of self.old) result.access }
         ensures same { Same self.old self.new }
@@ -287,8 +287,8 @@ impl<S: Serve + Drop> Backend<S> {
         requires serving { MayServe self.old.activity activity.Sleeping }
         requires opened { is_open self.old.activity self.old.closing self.old.connection.back ≡ true }
         requires hand { self.old.hand ≡ None }
-        requires may { MayGo (W.may words.old) (parts.sleep_left self.old.parts) }
-        ensures goes { (site : Site) → GoesOn (device S.service site) (work_of self.old) (mapped Slept (parts.sleep_left self.old.parts)) result.access result.said (stand_of site self.new) }
+        requires may { MayGo (W.may words.old) (of_parts.sleep_left self.old.parts) }
+        ensures goes { (site : Site) → GoesOn (device S.service site) (work_of self.old) (mapped Slept (of_parts.sleep_left self.old.parts)) result.access result.said (stand_of site self.new) }
         ensures made { Makes W.makes words.old result.access words.new }
         ensures stays { AccessIn (held_of self.old) result.access }
         ensures same { Same self.old self.new }
@@ -314,8 +314,8 @@ impl<S: Serve + Drop> Backend<S> {
         requires opened { is_open self.old.activity self.old.closing self.old.connection.back ≡ true }
         requires hand { self.old.hand ≡ None }
         requires round { self.old.round ≡ round.Looks part served }
-        requires may { MayGo (W.may words.old) (parts.look_of (slice_get (parts.joined_of self.old.parts) part)) }
-        ensures goes { (site : Site) → site.parts ≡ parts_of self.old → GoesOn (device S.service site) (work_of self.old) (mapped Saw (parts.look_of (slice_get (parts.joined_of self.old.parts) part))) result.access result.said (stand_of site self.new) }
+        requires may { MayGo (W.may words.old) (of_parts.look_of (slice_get (of_parts.joined_of self.old.parts) part)) }
+        ensures goes { (site : Site) → site.parts ≡ parts_of self.old → GoesOn (device S.service site) (work_of self.old) (mapped Saw (of_parts.look_of (slice_get (of_parts.joined_of self.old.parts) part))) result.access result.said (stand_of site self.new) }
         ensures made { Makes W.makes words.old result.access words.new }
         ensures stays { AccessIn (held_of self.old) result.access }
         ensures same { Same self.old self.new }

@@ -1,0 +1,162 @@
+-- What is always true of the parts stays true where one link changes.
+use Rattle.std.proofs.Common.{◌≡◌, ◌≢◌, ◌⊎◌, inl, inr, ℕ, ◌+◌, ◌<◌, ◌≤◌, Bool, true, false, List, [], Option, Some, None, length, slice_get, slice_set, refl, sym, ap, subst, ◌∙◌, arith}
+use Rattle.std.proofs.lemmas.Bool.{false≢true}
+use Rattle.std.proofs.lemmas.List.{length-set}
+use Rattle.pv_words.specs.declared.grant.GrantRefusal.{GrantRefusal}
+use Rattle.link_core.specs.declared.link.Link.{Link}
+use Rattle.link_core.specs.Activities.{pages_of}
+use Rattle.link_core.specs.Link.{connects, dom_of, held_of, idle, joined_of, rings}
+use Rattle.link_core.proofs.Links.{idle_rings}
+use Rattle.device_service.specs.declared.parts.Doing.{Doing}
+use Rattle.device_service.specs.declared.parts.Doing.TheVariants as doing
+use Rattle.device_service.specs.Doing.{Fits, IsMet, Whole, all_held, bare_in, busy_in, is_mapping, is_open, met_in, part_in, uses_ring}
+use Rattle.device_service.specs.Parts.{Rests, is_asleep, slept_to}
+use Rattle.device_service.proofs.Held.{held_bare}
+use Rattle.device_service.proofs.Lists.{same_or_not, get_set, get_set_other, within}
+
+abbrev pub AllFit : (dom : ℕ) (ringed : Bool) (met bare busy : ℕ) → Bool → List Link → Type 0
+AllFit dom ringed met bare busy mapping ls = (i : ℕ) (l : Link) → slice_get ls i ≡ Some l → Fits dom ringed met bare busy mapping i l
+
+pub make_whole : (dom : ℕ) (ringed : Bool) (d : Doing) (ls : List Link) (n : ℕ) → length ls ≡ n → 0 < n → n ≤ 4 → part_in d < n → AllFit dom ringed (met_in d n) (bare_in d n) (busy_in d n) (is_mapping d) ls → (uses_ring d ≡ true → ringed ≡ true) → Whole dom ringed d ls
+make_whole dom ringed d ls n e some few come_to fits rung =
+    record {
+      some = omega (arith, e, some);
+      few = omega (arith, e, few);
+      come_to = omega (arith, e, come_to);
+      fits = subst (λ m. AllFit dom ringed (met_in d m) (bare_in d m) (busy_in d m) (is_mapping d) ls) (sym e) fits;
+      rung = rung;
+    }
+
+pub whole_as : (dom : ℕ) (ringed : Bool) (d e : Doing) (ls : List Link) → d ≡ e → Whole dom ringed d ls → Whole dom ringed e ls
+whole_as dom ringed d e ls same w = subst (λ (x : Doing). Whole dom ringed x ls) same w
+
+some_is : (x y : Link) → Some x ≡ Some y → x ≡ y
+some_is x y e = cc
+
+-- one link changes
+pub fits_set : (dom : ℕ) (ringed : Bool) (met bare busy met' bare' busy' : ℕ) (mapping mapping' : Bool) (ls : List Link) (k : ℕ) (new : Link) → AllFit dom ringed met bare busy mapping ls → Fits dom ringed met' bare' busy' mapping' k new → ((i : ℕ) (l : Link) → i ≢ k → i < length ls → Fits dom ringed met bare busy mapping i l → Fits dom ringed met' bare' busy' mapping' i l) → AllFit dom ringed met' bare' busy' mapping' (slice_set ls k new)
+fits_set dom ringed met bare busy met' bare' busy' mapping mapping' ls k new old at others i l e =
+    elim (same_or_not i k) [
+      | inl same ↦
+          let long : i < length (slice_set ls k new) = within (slice_set ls k new) i l e in
+          let short : k < length ls = omega (arith, long, length-set ls k new, same) in
+          let got : slice_get (slice_set ls k new) k ≡ Some l = ap (slice_get (slice_set ls k new)) (sym same) ∙ e in
+          let is : new ≡ l = some_is new l (sym (get_set ls k new short) ∙ got) in
+          subst (λ j. Fits dom ringed met' bare' busy' mapping' j l) (sym same) (subst (λ (x : Link). Fits dom ringed met' bare' busy' mapping' k x) is at)
+      | inr other ↦
+          let before : slice_get ls i ≡ Some l = sym (get_set_other ls k i new other) ∙ e in
+          others i l other (within ls i l before) (old i l before)
+    ]
+
+-- no part is joined, and no page held
+abbrev pub AllRest : (dom : ℕ) → List Link → Type 0
+AllRest dom ls = (i : ℕ) (l : Link) → slice_get ls i ≡ Some l → (dom_of l ≡ dom) × (length (held_of l) ≡ 0) × (idle l ≡ true)
+
+pub whole_bare : (dom : ℕ) (ringed : Bool) (ls : List Link) (n : ℕ) → length ls ≡ n → 0 < n → n ≤ 4 → AllRest dom ls → Whole dom ringed doing.Bare ls
+whole_bare dom ringed ls n e some few all =
+    make_whole dom ringed doing.Bare ls n e some few some
+    (λ i l g. let f = all i l g in record { dom_is = f.0; meets = λ b. absurd (omega (arith, b)); none = λ _. f.1; rests = λ _. f.2; ring = λ m. absurd (false≢true m); fresh = λ m. absurd (false≢true m) })
+    (λ h. absurd (false≢true h))
+
+module _ (dom : ℕ) (ringed : Bool) (d : Doing) (ls : List Link) (w : Whole dom ringed d ls) where
+  -- all rest, and hold no page
+  pub bare_rest : d ≡ doing.Bare → AllRest dom ls
+  bare_rest e i l g =
+      let f = (whole_as dom ringed d doing.Bare ls e w).fits i l g in
+      let lt = within ls i l g in
+      (f.dom_is, f.none (omega arith), f.rests (omega (arith, lt)))
+
+  -- a Connect begins
+  pub whole_connecting : d ≡ doing.Bare → Whole dom ringed (doing.Connecting 0) ls
+  whole_connecting e =
+      make_whole dom ringed (doing.Connecting 0) ls (length ls) refl w.some w.few w.some
+      (λ i l g.
+      let f = bare_rest e i l g in
+      record { dom_is = f.0; meets = λ b. absurd (omega (arith, b)); none = λ _. f.1; rests = λ _. f.2; ring = λ m r. idle_rings l f.2; fresh = λ m r c. (f.2, f.1) })
+      (λ h. absurd (false≢true h))
+
+  -- the pages are given up
+  pub whole_dropping : Rests d → Whole dom ringed doing.Dropping ls
+  whole_dropping r =
+      make_whole dom ringed doing.Dropping ls (length ls) refl w.some w.few w.some
+      (λ i l g.
+      let f = w.fits i l g in
+      let lt = within ls i l g in
+      record { dom_is = f.dom_is; meets = λ b. absurd (omega (arith, b)); none = λ b. absurd (omega (arith, b, lt)); rests = λ n. f.rests (λ x. n (x ∙ busy r)); ring = λ m. absurd (false≢true m); fresh = λ m. absurd (false≢true m) })
+      (λ h. absurd (false≢true h))
+    where
+      busy : Rests d → busy_in d (length ls) ≡ length ls
+      busy (inl e) = ap (λ x. busy_in x (length ls)) e
+      busy (inr e) = ap (λ x. busy_in x (length ls)) e
+
+  -- no page is held any longer
+  pub whole_left : busy_in d (length ls) ≡ length ls → all_held ls ≡ [] → Whole dom ringed doing.Bare ls
+  whole_left busy bare =
+      whole_bare dom ringed ls (length ls) refl w.some w.few
+      (λ i l g.
+      let f = w.fits i l g in
+      let lt = within ls i l g in
+      (f.dom_is, held_bare ls bare i l g, f.rests (λ x. absurd (omega (arith, x, busy, lt)))))
+
+-- what an open one says of the numbers
+met_open : (d : Doing) (n : ℕ) → is_open d ≡ true → met_in d n ≡ n
+met_open doing.Bare n h = absurd (false≢true h)
+met_open (doing.Connecting part) n h = absurd (false≢true h)
+met_open (doing.Undoing why) n h = absurd (false≢true h)
+met_open doing.Open n h = refl
+met_open (doing.Taking part) n h = refl
+met_open (doing.Answering part) n h = refl
+met_open (doing.Sleeping part) n h = refl
+met_open doing.Dropping n h = absurd (false≢true h)
+
+bare_open : (d : Doing) (n : ℕ) → is_open d ≡ true → bare_in d n ≡ n
+bare_open doing.Bare n h = absurd (false≢true h)
+bare_open (doing.Connecting part) n h = absurd (false≢true h)
+bare_open (doing.Undoing why) n h = refl
+bare_open doing.Open n h = refl
+bare_open (doing.Taking part) n h = refl
+bare_open (doing.Answering part) n h = refl
+bare_open (doing.Sleeping part) n h = refl
+bare_open doing.Dropping n h = refl
+
+maps_open : (d : Doing) → is_open d ≡ true → is_mapping d ≡ false
+maps_open doing.Bare h = refl
+maps_open (doing.Connecting part) h = absurd (false≢true h)
+maps_open (doing.Undoing why) h = refl
+maps_open doing.Open h = refl
+maps_open (doing.Taking part) h = refl
+maps_open (doing.Answering part) h = refl
+maps_open (doing.Sleeping part) h = refl
+maps_open doing.Dropping h = refl
+
+-- while all parts are joined
+module _ (dom : ℕ) (ringed : Bool) (d : Doing) (ls : List Link) (w : Whole dom ringed d ls) (opened : is_open d ≡ true) where
+  pub all_met : (i : ℕ) (l : Link) → slice_get ls i ≡ Some l → IsMet ringed l
+  all_met i l g =
+      let lt = within ls i l g in
+      (w.fits i l g).meets (rw (met_open d (length ls) opened) lt)
+
+  pub all_doms : (i : ℕ) (l : Link) → slice_get ls i ≡ Some l → dom_of l ≡ dom
+  all_doms i l g = (w.fits i l g).dom_is
+
+  pub all_idle : (k : ℕ) → (busy_in d (length ls) ≡ length ls) ⊎ (busy_in d (length ls) ≡ k) → (i : ℕ) (l : Link) → slice_get ls i ≡ Some l → i ≢ k → idle l ≡ true
+  all_idle k (inl e) i l g n = let lt = within ls i l g in (w.fits i l g).rests (λ x. absurd (omega (arith, x, e, lt)))
+  all_idle k (inr e) i l g n = (w.fits i l g).rests (λ x. n (x ∙ e))
+
+  -- one link, the only one that may be busy, changes
+  pub served : (e : Doing) (k : ℕ) (old new : Link) → is_open e ≡ true → slice_get ls k ≡ Some old → (busy_in d (length ls) ≡ length ls) ⊎ (busy_in d (length ls) ≡ k) → dom_of new ≡ dom_of old → held_of new ≡ held_of old → pages_of (joined_of new) ≡ pages_of (joined_of old) → (k ≢ busy_in e (length ls) → idle new ≡ true) → part_in e < length ls → (uses_ring e ≡ true → ringed ≡ true) → Whole dom ringed e (slice_set ls k new)
+  served e k old new o g busy same held pages rests come_to rung =
+      make_whole dom ringed e (slice_set ls k new) (length ls) (length-set ls k new) w.some w.few come_to
+      (fits_set dom ringed (met_in d (length ls)) (bare_in d (length ls)) (busy_in d (length ls)) (met_in e (length ls)) (bare_in e (length ls)) (busy_in e (length ls)) (is_mapping d) (is_mapping e) ls k new w.fits
+      (record { dom_is = same ∙ all_doms k old g; meets = λ _. met_here; none = λ b. let lt = within ls k old g in absurd (omega (arith, b, lt, bare_open e (length ls) o)); rests = rests; ring = λ m. absurd (false≢true (sym (maps_open e o) ∙ m)); fresh = λ m. absurd (false≢true (sym (maps_open e o) ∙ m)) })
+      (λ i l other lt f. record { dom_is = f.dom_is; meets = λ _. f.meets (rw (met_open d (length ls) opened) lt); none = λ b. absurd (omega (arith, b, lt, bare_open e (length ls) o)); rests = λ _. others busy i l other lt f; ring = λ m. absurd (false≢true (sym (maps_open e o) ∙ m)); fresh = λ m. absurd (false≢true (sym (maps_open e o) ∙ m)) }))
+      rung
+    where
+      met_here : IsMet ringed new
+      met_here =
+          let m = all_met k old g in
+          record { holds = held ∙ (m.holds ∙ sym pages); both = λ r. ap length held ∙ m.both r }
+
+      others : (busy_in d (length ls) ≡ length ls) ⊎ (busy_in d (length ls) ≡ k) → (i : ℕ) (l : Link) → i ≢ k → i < length ls → Fits dom ringed (met_in d (length ls)) (bare_in d (length ls)) (busy_in d (length ls)) (is_mapping d) i l → idle l ≡ true
+      others (inl b) i l other lt f = f.rests (λ x. absurd (omega (arith, x, b, lt)))
+      others (inr b) i l other lt f = f.rests (λ x. other (x ∙ b))

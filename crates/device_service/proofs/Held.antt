@@ -1,5 +1,6 @@
 -- What links hold, and where their accesses lie.
-use Rattle.std.proofs.Common.{◌≡◌, inl, inr, ℕ, zero, suc, ◌+◌, ◌*◌, ◌<◌, ◌≤◌, ◌++◌, List, [], ◌∷◌, Option, Some, None, length, get_or, map, slice_get, slice_set, refl, sym, ap, subst, ◌∙◌, append_assoc, length-append, arith}
+use Rattle.std.proofs.Common.{◌≡◌, ◌⊎◌, inl, inr, ℕ, zero, suc, ◌+◌, ◌*◌, ◌<◌, ◌≤◌, ◌++◌, List, [], ◌∷◌, Option, Some, None, length, get_or, map, slice_get, slice_set, refl, sym, ap, subst, ◌∙◌, append_assoc, length-append, arith}
+use Rattle.std.proofs.lemmas.Bool.{cases_lt}
 use Rattle.std.proofs.lemmas.Option.{slice_get-get_or}
 use Rattle.pv_words.specs.declared.access.Access.{Access}
 use Rattle.pv_words.specs.declared.grant.Hold.{Hold}
@@ -13,8 +14,9 @@ use Rattle.link_core.specs.Link.{held_of, joined_of, page_of, drop_left, Leads}
 use Rattle.link_core.specs.Stays.{LiesIn, AccessIn}
 use Rattle.link_core.proofs.Links.{holds_at_most, page_held}
 use Rattle.device_service.specs.Doing.{all_held}
-use Rattle.device_service.specs.Parts.{MayDrop, met_links}
+use Rattle.device_service.specs.Parts.{Drops, MayDrop, met_links}
 use Rattle.device_service.specs.Work.{all_pages, ring_hold, ring_page}
+use Rattle.device_service.proofs.Lists.{within}
 
 pub here : {A : Type 0} (xs : List A) (i : ℕ) (x d : A) → i < length xs → x ≡ get_or xs i d → slice_get xs i ≡ Some x
 here xs i x d lt e = slice_get-get_or xs i d lt ∙ ap Some (sym e)
@@ -173,3 +175,22 @@ in_all (Some a) ls k l e h = lies_all (wanted a) ls k l e h
 -- an unmap accesses no page
 pub in_unmap : (pages : List Hold) (access : Option Access) (a : Access) (h : Hold) → access ≡ Some a → wanted a ≡ unmap_want h → AccessIn pages access
 in_unmap pages access a h e w = rw e (rw w tt)
+
+-- the first link that holds a page, by its place
+abbrev pub NoneBefore : List Link → ℕ → Type 0
+NoneBefore ls k = (i : ℕ) (l : Link) → i < k → slice_get ls i ≡ Some l → length (held_of l) ≡ 0
+
+pub within_held : (ls : List Link) (k : ℕ) → NoneBefore ls k → (k < length ls) ⊎ (all_held ls ≡ [])
+within_held ls k none = elim (cases_lt k (length ls)) [ inl lt ↦ inl lt | inr ge ↦ inr (bare_held ls (λ i l e. none i l (omega (arith, ge, within ls i l e)) e)) ]
+
+pub held_here : (ls : List Link) (k : ℕ) (l d : Link) → 0 < length (all_held ls) → NoneBefore ls k → l ≡ get_or ls k d → slice_get ls k ≡ Some l
+held_here ls k l d some none e = elim (within_held ls k none) [ inl lt ↦ here ls k l d lt e | inr bare ↦ absurd (omega (arith, some, ap length bare)) ]
+
+pub same_access : {a b : Access} → Some a ≡ Some b → a ≡ b
+same_access e = cc
+
+pub drops_as : (held : List Hold) (h : Hold) (left : List Hold) (a : Access) → held ≡ h ∷ left → wanted a ≡ unmap_want h → Drops held a left
+drops_as held h left a e w = subst (λ hs. Drops hs a left) (sym e) (w, refl)
+
+pub bare_from : (ls : List Link) (k : ℕ) → length ls ≤ k → NoneBefore ls k → all_held ls ≡ []
+bare_from ls k past none = bare_held ls (λ i l e. none i l (omega (arith, past, within ls i l e)) e)

@@ -2,11 +2,14 @@
 use Rattle.std.proofs.Common.{◌≡◌, ◌≢◌, ◌⊎◌, inl, inr, ℕ, ◌+◌, ◌-◌, ◌<◌, ◌≤◌, ◌++◌, Bool, true, false, List, [], ◌∷◌, Option, Some, None, length, map, slice_get, slice_set, refl, sym, ap, subst, ◌∙◌, arith}
 use Rattle.pv_words.specs.declared.grant.Hold.{Hold}
 use Rattle.link_core.specs.declared.link.Link.{Link}
-use Rattle.link_core.specs.Activities.{Joined, hold_list, pages_of}
-use Rattle.link_core.specs.Link.{joined_of, held_of}
+use Rattle.link_core.specs.Activities.{Joined, Page, answer_plan, hold_list, look_plan, pages_of, take_plan}
+use Rattle.link_core.specs.Link.{held_of, idle, joined_of, page_of, rsp_of}
+use Rattle.link_core.proofs.Links.{rsp_joined, whole_answer, whole_take}
 use Rattle.device_service.specs.declared.parts.Doing.{Doing}
 use Rattle.device_service.specs.Doing.{is_open}
-use Rattle.device_service.specs.Parts.{joined_in}
+use Rattle.device_service.specs.Nodes.{Ringed}
+use Rattle.device_service.specs.Parts.{answer_from, answer_of, joined_in, kind_in, look_of, take_from, take_of}
+use Rattle.device_service.proofs.Held.{page_shown}
 use Rattle.device_service.proofs.Lists.{get_map, map_set_same}
 
 some_is : (x y : Joined) → Some x ≡ Some y → x ≡ y
@@ -39,3 +42,30 @@ holds_event j hs e = rw e (some_of j.ring j.event)
 pub joined_set : (b c : Bool) (ls : List Link) (k : ℕ) (old new : Link) → b ≡ true → c ≡ true → slice_get ls k ≡ Some old → joined_of new ≡ joined_of old → joined_in c (slice_set ls k new) ≡ joined_in b ls
 joined_set b c ls k old new o p g e =
     ap (λ x. joined_in x (slice_set ls k new)) p ∙ (map_set_same joined_of ls k old new g e ∙ ap (λ x. joined_in x ls) (sym o))
+
+-- parts that have rings
+pub rung_by : (ringed : Bool) → kind_in ringed ≡ Ringed → ringed ≡ true
+rung_by true e = refl
+rung_by false e = let wrong : ⊥ = cc in absurd wrong
+
+-- an activity at a joined part that rests, by its link
+module _ (d : Doing) (ls : List Link) (k : ℕ) (l : Link) (o : is_open d ≡ true) (g : slice_get ls k ≡ Some l) (two : length (held_of l) ≡ 2) where
+  joined_at : slice_get (joined_in (is_open d) ls) k ≡ Some (joined_of l)
+  joined_at = ap (λ b. slice_get (joined_in b ls) k) o ∙ get_map joined_of ls k l g
+
+  pub looks_is : look_of (slice_get (joined_in (is_open d) ls) k) ≡ look_plan (page_of l) (rsp_of l)
+  looks_is =
+      ap look_of joined_at
+      ∙ (ap (λ (x : Page). look_plan x (joined_of l).rsp) (sym (page_shown l two)) ∙ ap (λ n. look_plan (page_of l) n) (sym (rsp_joined l)))
+
+  pub takes_is : idle l ≡ true → take_of (slice_get (joined_in (is_open d) ls) k) ≡ take_from (slice_get ls k)
+  takes_is rest =
+      ap take_of joined_at
+      ∙ (ap (λ (x : Page). take_plan x (joined_of l).rsp) (sym (page_shown l two))
+      ∙ (ap (λ n. take_plan (page_of l) n) (sym (rsp_joined l)) ∙ (sym (whole_take l rest) ∙ ap take_from (sym g))))
+
+  pub answers_is : (reply : List ℕ) → idle l ≡ true → answer_of reply (slice_get (joined_in (is_open d) ls) k) ≡ answer_from reply (slice_get ls k)
+  answers_is reply rest =
+      ap (answer_of reply) joined_at
+      ∙ (ap (λ (x : Page). answer_plan x (joined_of l).rsp reply) (sym (page_shown l two))
+      ∙ (ap (λ n. answer_plan (page_of l) n reply) (sym (rsp_joined l)) ∙ (sym (whole_answer l reply rest) ∙ ap (answer_from reply) (sym g))))

@@ -160,3 +160,31 @@ module _ (dom : ℕ) (ringed : Bool) (d : Doing) (ls : List Link) (w : Whole dom
       others : (busy_in d (length ls) ≡ length ls) ⊎ (busy_in d (length ls) ≡ k) → (i : ℕ) (l : Link) → i ≢ k → i < length ls → Fits dom ringed (met_in d (length ls)) (bare_in d (length ls)) (busy_in d (length ls)) (is_mapping d) i l → idle l ≡ true
       others (inl b) i l other lt f = f.rests (λ x. absurd (omega (arith, x, b, lt)))
       others (inr b) i l other lt f = f.rests (λ x. other (x ∙ b))
+
+-- the pages are given up, one after another
+abbrev pub GivesUp : Doing → Type 0
+GivesUp d = (d ≡ doing.Dropping) ⊎ ((why : GrantRefusal) × (d ≡ doing.Undoing why))
+
+pub busy_given : (d : Doing) (n : ℕ) → GivesUp d → busy_in d n ≡ n
+busy_given d n (inl e) = ap (λ x. busy_in x n) e
+busy_given d n (inr e) = ap (λ x. busy_in x n) e.1
+
+dropped_fits : (dom : ℕ) (ringed : Bool) (ls : List Link) (k : ℕ) (l new : Link) → AllFit dom ringed 0 (length ls) (length ls) false ls → slice_get ls k ≡ Some l → dom_of new ≡ dom_of l → idle new ≡ true → AllFit dom ringed 0 (length ls) (length ls) false (slice_set ls k new)
+dropped_fits dom ringed ls k l new fits g same rests =
+    fits_set dom ringed 0 (length ls) (length ls) 0 (length ls) (length ls) false false ls k new fits
+    (record { dom_is = same ∙ (fits k l g).dom_is; meets = λ b. absurd (omega (arith, b)); none = λ b. let lt = within ls k l g in absurd (omega (arith, b, lt)); rests = λ _. rests; ring = λ m. absurd (false≢true m); fresh = λ m. absurd (false≢true m) })
+    (λ i x other lt f. f)
+
+pub whole_dropped : (dom : ℕ) (ringed : Bool) (d : Doing) (ls : List Link) (k : ℕ) (l new : Link) → Whole dom ringed d ls → GivesUp d → slice_get ls k ≡ Some l → dom_of new ≡ dom_of l → idle new ≡ true → Whole dom ringed d (slice_set ls k new)
+whole_dropped dom ringed d ls k l new w (inl e) g same rests =
+    let v = whole_as dom ringed d doing.Dropping ls e w in
+    whole_as dom ringed doing.Dropping d (slice_set ls k new) (sym e)
+    (make_whole dom ringed doing.Dropping (slice_set ls k new) (length ls) (length-set ls k new) w.some w.few w.some (dropped_fits dom ringed ls k l new v.fits g same rests) (λ h. absurd (false≢true h)))
+whole_dropped dom ringed d ls k l new w (inr e) g same rests =
+    let v = whole_as dom ringed d (doing.Undoing e.0) ls e.1 w in
+    whole_as dom ringed (doing.Undoing e.0) d (slice_set ls k new) (sym e.1)
+    (make_whole dom ringed (doing.Undoing e.0) (slice_set ls k new) (length ls) (length-set ls k new) w.some w.few w.some (dropped_fits dom ringed ls k l new v.fits g same rests) (λ h. absurd (false≢true h)))
+
+pub given_idle : (dom : ℕ) (ringed : Bool) (d : Doing) (ls : List Link) (k : ℕ) (l : Link) → Whole dom ringed d ls → GivesUp d → slice_get ls k ≡ Some l → idle l ≡ true
+given_idle dom ringed d ls k l w gives g =
+    let lt = within ls k l g in (w.fits k l g).rests (λ x. absurd (omega (arith, x, busy_given d (length ls) gives, lt)))

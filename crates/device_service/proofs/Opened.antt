@@ -1,16 +1,19 @@
 -- What joined parts show.
-use Rattle.std.proofs.Common.{◌≡◌, ◌≢◌, ◌⊎◌, inl, inr, ℕ, ◌+◌, ◌-◌, ◌<◌, ◌≤◌, ◌++◌, Bool, true, false, List, [], ◌∷◌, Option, Some, None, length, map, slice_get, slice_set, refl, sym, ap, subst, ◌∙◌, arith}
+use Rattle.std.proofs.Common.{◌≡◌, ◌≢◌, ◌⊎◌, inl, inr, ℕ, ◌+◌, ◌-◌, ◌<◌, ◌≤◌, ◌++◌, Bool, true, false, List, [], ◌∷◌, Option, Some, None, if◌then◌else◌, is_some, length, map, slice_get, slice_set, refl, sym, ap, subst, ◌∙◌, arith}
+use Rattle.pv_words.specs.declared.access.Access.{Access}
 use Rattle.pv_words.specs.declared.grant.Hold.{Hold}
+use Rattle.pv_words.specs.Plan.{MayGo, Plan, Turns, Want}
 use Rattle.link_core.specs.declared.link.Link.{Link}
 use Rattle.link_core.specs.Activities.{Joined, Page, answer_plan, hold_list, look_plan, pages_of, take_plan}
-use Rattle.link_core.specs.Link.{held_of, idle, joined_of, page_of, rsp_of}
+use Rattle.link_core.specs.Link.{answered_of, held_of, idle, joined_of, page_of, rsp_of}
 use Rattle.link_core.proofs.Links.{rsp_joined, whole_answer, whole_take}
 use Rattle.device_service.specs.declared.parts.Doing.{Doing}
 use Rattle.device_service.specs.Doing.{is_open}
 use Rattle.device_service.specs.Nodes.{Ringed}
-use Rattle.device_service.specs.Parts.{answer_from, answer_of, joined_in, kind_in, look_of, take_from, take_of}
+use Rattle.device_service.specs.Parts.{answer_from, answer_of, answered_if, joined_in, kind_in, look_of, take_from, take_of}
+use Rattle.device_service.specs.Work.{counted}
 use Rattle.device_service.proofs.Held.{page_shown}
-use Rattle.device_service.proofs.Lists.{get_map, map_set_same}
+use Rattle.device_service.proofs.Lists.{get_map, get_set, map_set, map_set_same, within}
 
 some_is : (x y : Joined) → Some x ≡ Some y → x ≡ y
 some_is x y e = cc
@@ -69,3 +72,27 @@ module _ (d : Doing) (ls : List Link) (k : ℕ) (l : Link) (o : is_open d ≡ tr
       ap (answer_of reply) joined_at
       ∙ (ap (λ (x : Page). answer_plan x (joined_of l).rsp reply) (sym (page_shown l two))
       ∙ (ap (λ n. answer_plan (page_of l) n reply) (sym (rsp_joined l)) ∙ (sym (whole_answer l reply rest) ∙ ap (answer_from reply) (sym g))))
+
+-- a step at a part is one at its link
+pub turns_at : {A : Type 0} (from : Option Link → Plan A) (ls : List Link) (k : ℕ) (l new : Link) (access : Option Access) (end : Option A) → slice_get ls k ≡ Some l → Turns (from (Some l)) access end (from (Some new)) → Turns (from (slice_get ls k)) access end (from (slice_get (slice_set ls k new) k))
+turns_at from ls k l new access end g t =
+    subst (λ (x : Option Link). Turns (from x) access end (from (slice_get (slice_set ls k new) k))) (sym g)
+    (subst (λ (x : Option Link). Turns (from (Some l)) access end (from x)) (sym (get_set ls k new (within ls k l g))) t)
+
+pub may_at : {A : Type 0} (from : Option Link → Plan A) (may : Want → Type 0) (ls : List Link) (k : ℕ) (l : Link) → slice_get ls k ≡ Some l → MayGo may (from (slice_get ls k)) → MayGo may (from (Some l))
+may_at from may ls k l g m = subst (λ (x : Option Link). MayGo may (from x)) g m
+
+-- an Answer that is over counts a reply more
+module _ {A : Type 0} where
+  pub pages_answered : (o : Option A) (old new : Link) → joined_of new ≡ (if is_some o then answered_of (joined_of old) else joined_of old) → pages_of (joined_of new) ≡ pages_of (joined_of old)
+  pages_answered None old new e = ap pages_of e
+  pages_answered (Some x) old new e = ap pages_of e
+
+  pub answered_set : (o : Option A) (b c : Bool) (ls : List Link) (k : ℕ) (old new : Link) → b ≡ true → c ≡ true → slice_get ls k ≡ Some old → joined_of new ≡ (if is_some o then answered_of (joined_of old) else joined_of old) → joined_in c (slice_set ls k new) ≡ answered_if o k (joined_in b ls)
+  answered_set None b c ls k old new p q g e = joined_set b c ls k old new p q g e
+  answered_set (Some x) b c ls k old new p q g e =
+      let is : answered_if (Some x) k (map joined_of ls) ≡ slice_set (map joined_of ls) k (answered_of (joined_of old)) =
+      ap (counted (map joined_of ls) k) (get_map joined_of ls k old g) in
+      ap (λ y. joined_in y (slice_set ls k new)) q
+      ∙ (map_set joined_of ls k new
+      ∙ (ap (slice_set (map joined_of ls) k) e ∙ (sym is ∙ ap (λ y. answered_if (Some x) k (joined_in y ls)) (sym p))))

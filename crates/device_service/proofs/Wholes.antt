@@ -1,5 +1,5 @@
 -- What is always true of the parts stays true where one link changes.
-use Rattle.std.proofs.Common.{◌≡◌, ◌≢◌, ◌⊎◌, inl, inr, ℕ, ◌+◌, ◌<◌, ◌≤◌, Bool, true, false, List, [], Option, Some, None, length, slice_get, slice_set, refl, sym, ap, subst, ◌∙◌, arith}
+use Rattle.std.proofs.Common.{◌≡◌, ◌≢◌, ◌⊎◌, inl, inr, ℕ, ◌+◌, ◌<◌, ◌≤◌, Bool, true, false, List, [], Option, Some, None, OnSome, is_some, length, slice_get, slice_set, refl, sym, ap, subst, ◌∙◌, arith}
 use Rattle.std.proofs.lemmas.Bool.{false≢true}
 use Rattle.std.proofs.lemmas.List.{length-set}
 use Rattle.pv_words.specs.declared.grant.GrantRefusal.{GrantRefusal}
@@ -10,7 +10,7 @@ use Rattle.link_core.proofs.Links.{idle_rings}
 use Rattle.device_service.specs.declared.parts.Doing.{Doing}
 use Rattle.device_service.specs.declared.parts.Doing.TheVariants as doing
 use Rattle.device_service.specs.Doing.{Fits, IsMet, Whole, all_held, bare_in, busy_in, is_mapping, is_open, met_in, part_in, uses_ring}
-use Rattle.device_service.specs.Parts.{Rests, is_asleep, slept_to}
+use Rattle.device_service.specs.Parts.{MayServe, MaySleep, Rests, open_or, slept_to}
 use Rattle.device_service.proofs.Held.{held_bare}
 use Rattle.device_service.proofs.Lists.{same_or_not, get_set, get_set_other, within}
 
@@ -188,3 +188,72 @@ whole_dropped dom ringed d ls k l new w (inr e) g same rests =
 pub given_idle : (dom : ℕ) (ringed : Bool) (d : Doing) (ls : List Link) (k : ℕ) (l : Link) → Whole dom ringed d ls → GivesUp d → slice_get ls k ≡ Some l → idle l ≡ true
 given_idle dom ringed d ls k l w gives g =
     let lt = within ls k l g in (w.fits k l g).rests (λ x. absurd (omega (arith, x, busy_given d (length ls) gives, lt)))
+
+-- an activity at one part begins, or goes on: no other part is busy
+pub serving_open : (d t : Doing) → is_open t ≡ true → MayServe d t → is_open d ≡ true
+serving_open d t o (inl e) = ap is_open e
+serving_open d t o (inr e) = ap is_open e ∙ o
+
+pub serving_busy : (d t : Doing) (n k : ℕ) → busy_in t n ≡ k → MayServe d t → (busy_in d n ≡ n) ⊎ (busy_in d n ≡ k)
+serving_busy d t n k b (inl e) = inl (ap (λ x. busy_in x n) e)
+serving_busy d t n k b (inr e) = inr (ap (λ x. busy_in x n) e ∙ b)
+
+pub sleeping_open : (d : Doing) → MaySleep d → is_open d ≡ true
+sleeping_open d (inl e) = ap is_open e
+sleeping_open (doing.Sleeping part) (inr e) = refl
+sleeping_open doing.Bare (inr e) = absurd (false≢true e)
+sleeping_open (doing.Connecting part) (inr e) = absurd (false≢true e)
+sleeping_open (doing.Undoing why) (inr e) = absurd (false≢true e)
+sleeping_open doing.Open (inr e) = absurd (false≢true e)
+sleeping_open (doing.Taking part) (inr e) = absurd (false≢true e)
+sleeping_open (doing.Answering part) (inr e) = absurd (false≢true e)
+sleeping_open doing.Dropping (inr e) = absurd (false≢true e)
+
+pub sleeping_busy : (d : Doing) (n : ℕ) → MaySleep d → (busy_in d n ≡ n) ⊎ (busy_in d n ≡ slept_to d)
+sleeping_busy d n (inl e) = inl (ap (λ x. busy_in x n) e)
+sleeping_busy (doing.Sleeping part) n (inr e) = inr refl
+sleeping_busy doing.Bare n (inr e) = absurd (false≢true e)
+sleeping_busy (doing.Connecting part) n (inr e) = absurd (false≢true e)
+sleeping_busy (doing.Undoing why) n (inr e) = absurd (false≢true e)
+sleeping_busy doing.Open n (inr e) = absurd (false≢true e)
+sleeping_busy (doing.Taking part) n (inr e) = absurd (false≢true e)
+sleeping_busy (doing.Answering part) n (inr e) = absurd (false≢true e)
+sleeping_busy doing.Dropping n (inr e) = absurd (false≢true e)
+
+pub sleeping_in : (d : Doing) (n : ℕ) → MaySleep d → 0 < n → part_in d < n → slept_to d < n
+sleeping_in d n (inl e) some come_to = let zero : slept_to d ≡ 0 = ap slept_to e in omega (arith, zero, some)
+sleeping_in (doing.Sleeping part) n (inr e) some come_to = come_to
+sleeping_in doing.Bare n (inr e) some come_to = some
+sleeping_in (doing.Connecting part) n (inr e) some come_to = some
+sleeping_in (doing.Undoing why) n (inr e) some come_to = some
+sleeping_in doing.Open n (inr e) some come_to = some
+sleeping_in (doing.Taking part) n (inr e) some come_to = some
+sleeping_in (doing.Answering part) n (inr e) some come_to = some
+sleeping_in doing.Dropping n (inr e) some come_to = some
+
+-- it goes on, or is over
+module _ {A : Type 0} where
+  pub open_then : (o : Option A) (t x : Doing) → is_some o ≡ true → x ≡ doing.Open → x ≡ open_or o t
+  open_then None t x s e = absurd (false≢true s)
+  open_then (Some y) t x s e = e
+
+  pub open_else : (o : Option A) (t x : Doing) → is_some o ≡ false → x ≡ t → x ≡ open_or o t
+  open_else None t x s e = e
+  open_else (Some y) t x s e = absurd (false≢true (sym s))
+
+  pub open_after : (o : Option A) (t : Doing) → is_open t ≡ true → is_open (open_or o t) ≡ true
+  open_after None t e = e
+  open_after (Some y) t e = refl
+
+  rests_after : (o : Option A) (t : Doing) (n k : ℕ) (new : Link) → busy_in t n ≡ k → OnSome o (idle new ≡ true) → k ≢ busy_in (open_or o t) n → idle new ≡ true
+  rests_after None t n k new e rests other = absurd (other (sym e))
+  rests_after (Some y) t n k new e rests other = rests
+
+  in_after : (o : Option A) (t : Doing) (n : ℕ) → 0 < n → part_in t < n → part_in (open_or o t) < n
+  in_after None t n some lt = lt
+  in_after (Some y) t n some lt = some
+
+  pub whole_served : (dom : ℕ) (ringed : Bool) (d t : Doing) (ls : List Link) (k : ℕ) (old new : Link) (o : Option A) → Whole dom ringed d ls → is_open t ≡ true → busy_in t (length ls) ≡ k → part_in t < length ls → ringed ≡ true → MayServe d t → slice_get ls k ≡ Some old → dom_of new ≡ dom_of old → held_of new ≡ held_of old → pages_of (joined_of new) ≡ pages_of (joined_of old) → OnSome o (idle new ≡ true) → Whole dom ringed (open_or o t) (slice_set ls k new)
+  whole_served dom ringed d t ls k old new o w opened busy come_to rung serving g same held pages rests =
+      served dom ringed d ls w (serving_open d t opened serving) (open_or o t) k old new (open_after o t opened) g (serving_busy d t (length ls) k busy serving) same held pages
+      (rests_after o t (length ls) k new busy rests) (in_after o t (length ls) w.some come_to) (λ _. rung)

@@ -20,3 +20,4 @@ pub mod Wholes
 pub mod Opened
 pub mod Connects
 pub mod Faults
+pub mod Sleeps

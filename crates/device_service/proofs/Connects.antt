@@ -1,5 +1,5 @@
 -- What is left of a Connect.
-use Rattle.std.proofs.Common.{◌≡◌, inl, inr, ℕ, zero, suc, ◌+◌, ◌-◌, ◌<◌, ◌≤◌, ◌++◌, Bool, true, false, nat_lt, List, [], ◌∷◌, Option, Some, None, Result, Ok, Err, length, map, take, slice_get, slice_set, refl, sym, ap, subst, ◌∙◌, arith, if◌then◌else◌}
+use Rattle.std.proofs.Common.{◌≡◌, ℕ, suc, ◌+◌, ◌-◌, ◌<◌, ◌≤◌, ◌++◌, Bool, true, false, nat_lt, List, [], ◌∷◌, Option, Some, None, Result, Ok, Err, is_some, length, map, take, slice_get, slice_set, refl, sym, ap, subst, ◌∙◌, arith, if◌then◌else◌}
 use Rattle.std.proofs.lemmas.Bool.{false≢true}
 use Rattle.std.proofs.lemmas.List.{length-set, take-set}
 use Rattle.pv_words.specs.declared.access.Access.{Access}
@@ -8,7 +8,7 @@ use Rattle.pv_words.specs.declared.grant.GrantRefusal.{GrantRefusal}
 use Rattle.pv_words.specs.declared.grant.GrantRefusal.TheVariants as refusal
 use Rattle.pv_words.specs.declared.grant.Hold.{Hold}
 use Rattle.pv_words.specs.declared.grant.Mode.TheVariants.{Write}
-use Rattle.pv_words.specs.Plan.{Plan, Finished, Make, Want, Goes, MayGo, IsUnfinished, joined, wanted}
+use Rattle.pv_words.specs.Plan.{Plan, Finished, Want, Goes, MayGo, IsUnfinished, joined, wanted}
 use Rattle.grant_table.specs.Mapping.{flags_plan, unmap_want}
 use Rattle.link_core.specs.declared.link.Link.{Link}
 use Rattle.link_core.specs.Activities.{Joined, Connected, Joins, Refuses, connect_plan, hold_list, unmaps, with_event, with_ring}
@@ -18,10 +18,9 @@ use Rattle.link_core.proofs.Links.{joins_by_access, whole_connect}
 use Rattle.device_core.specs.Site.{Site}
 use Rattle.device_service.specs.declared.parts.Doing.{Doing}
 use Rattle.device_service.specs.declared.parts.Doing.TheVariants as doing
-use Rattle.device_service.specs.Doing.{all_held}
-use Rattle.device_service.specs.Nodes.{Kind, Ringed, Ringless, Refs, refs_at, refs_from}
+use Rattle.device_service.specs.Nodes.{Kind, refs_at, refs_from}
 use Rattle.device_service.specs.declared.parts.Parts.{Parts}
-use Rattle.device_service.specs.Parts.{JoinsByAccess, LeftBy, MayDrop, UndoneAs, connect_from, connect_in, connect_left, doing_of, ending_of, held_of, kind_in, kind_of, later, met_links}
+use Rattle.device_service.specs.Parts.{JoinsByAccess, LeftBy, MayDrop, UndoneAs, connect_from, connect_in, connect_left, connects, doing_of, ending_of, held_of, kind_in, kind_of, later, met_links}
 use Rattle.device_service.specs.Work.{all_pages, after_part, connect_parts}
 use Rattle.device_service.proofs.Lists.{get_set, take_more_of, take_past, within}
 use Rattle.device_service.proofs.Sleeps.{goes_joined, may_joined, unfinished_joined}
@@ -233,3 +232,22 @@ joins_once frames grants ring event l j (Some a) q end t = tt
 pub came_rung : (ringed : Bool) (nodes : List NodeValue) (part : ℕ) (rung : Bool) (end : Option (Result (Unit {0}) GrantRefusal)) (new : Link) → CameBy (refs_at (kind_in ringed) nodes part).ring rung end new → ringed ≡ true → rung ≡ true → Came end new
 came_rung true nodes part rung end new h r u = h u
 came_rung false nodes part rung end new h r u = absurd (false≢true r)
+
+pub refused_on : (site : Site) (nodes : List NodeValue) (new : Parts) (p : Plan Ending) (access : Option Access) (rest : List Hold) (why : GrantRefusal) (end : Option (Result (Unit {0}) GrantRefusal)) → is_some access ≡ true → ((a : Access) → access ≡ Some a → Goes p a (unmaps rest (Finished (Err why)))) → UndoneAs why rest end → LeftBy why rest (doing_of new) → held_of new ≡ rest → Leads p access (ending_of new end) (connect_left site nodes new)
+refused_on site nodes new p None rest why end some goes over left held = absurd (false≢true some)
+refused_on site nodes new p (Some a) rest why end some goes over left held = refused_goes site nodes new p rest a why end (goes a refl) over left held
+
+pub none_of : {A : Type 0} (o : Option A) → is_some o ≡ false → o ≡ None
+none_of None h = refl
+none_of (Some x) h = absurd (false≢true (sym h))
+
+-- what a Connect is not in
+pub never_connects : (d : Doing) → connects d ≡ true → ((part : ℕ) → d ≡ doing.Connecting part → ⊥) → ((why : GrantRefusal) → d ≡ doing.Undoing why → ⊥) → ⊥
+never_connects doing.Bare c n m = false≢true c
+never_connects (doing.Connecting part) c n m = n part refl
+never_connects (doing.Undoing why) c n m = m why refl
+never_connects doing.Open c n m = false≢true c
+never_connects (doing.Taking part) c n m = false≢true c
+never_connects (doing.Answering part) c n m = false≢true c
+never_connects (doing.Sleeping part) c n m = false≢true c
+never_connects doing.Dropping c n m = false≢true c

@@ -1,5 +1,5 @@
 -- Steps of a Sleep, part by part.
-use Rattle.std.proofs.Common.{◌≡◌, ◌≢◌, ℕ, ◌+◌, ◌<◌, ◌≤◌, Bool, true, false, List, ◌∷◌, Option, Some, None, length, map, drop, slice_get, slice_set, refl, sym, ap, subst, ◌∙◌, arith}
+use Rattle.std.proofs.Common.{◌≡◌, ℕ, ◌+◌, ◌≤◌, Bool, true, false, List, ◌∷◌, Option, Some, None, length, map, drop, slice_get, slice_set, refl, sym, ap, subst, ◌∙◌, arith}
 use Rattle.std.proofs.lemmas.List.{drop-set-lt}
 use Rattle.pv_words.specs.declared.access.Access.{Access}
 use Rattle.pv_words.specs.Plan.{Plan, Finished, Make, Goes, MayGo, Turns, Want, IsUnfinished, joined}
@@ -12,7 +12,7 @@ use Rattle.device_service.specs.declared.parts.Doing.TheVariants as doing
 use Rattle.device_service.specs.Parts.{sleep_from, sleeping, slept_to}
 use Rattle.device_service.specs.Work.{ring_page, sleep_all, sleeps_on}
 use Rattle.device_service.proofs.Held.{page_shown}
-use Rattle.device_service.proofs.Lists.{drop_get, drop_past, get_set, get_set_other, got, within}
+use Rattle.device_service.proofs.Lists.{drop_get, drop_past, get_set, within}
 
 -- one that isn't under way begins at the first part
 pub none_slept : (d : Doing) → ((part : ℕ) → d ≡ doing.Sleeping part → ⊥) → 0 ≡ slept_to d

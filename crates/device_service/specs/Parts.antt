@@ -1,5 +1,5 @@
 -- What the parts of a device hold, and what is left of their activities.
-use Rattle.std.specs.Prelude.{◌≡◌, ◌≢◌, ◌⊎◌, ℕ, ◌+◌, ◌-◌, ◌<◌, ◌≤◌, Bool, true, false, List, [], ◌∷◌, ◌++◌, Option, Some, None, Result, Ok, Err, drop, length, map, slice_get, take}
+use Rattle.std.specs.Prelude.{◌≡◌, ◌⊎◌, ℕ, ◌+◌, ◌-◌, ◌<◌, Bool, true, false, List, [], ◌∷◌, Option, Some, None, Result, Ok, Err, drop, length, map, slice_get, take}
 use Rattle.pv_words.specs.declared.access.Access.{Access}
 use Rattle.pv_words.specs.declared.device.NodeValue.{NodeValue}
 use Rattle.pv_words.specs.declared.grant.GrantRefusal.{GrantRefusal}
@@ -10,13 +10,12 @@ use Rattle.ring_words.specs.declared.Looked.TheVariants as looked
 use Rattle.grant_table.specs.Mapping.{unmap_want}
 use Rattle.link_core.specs.declared.link.Link.{Link}
 use Rattle.link_core.specs.Activities.{Joined, answer_plan, look_plan, take_plan, unmaps}
-use Rattle.link_core.specs.Activities as activities
 use Rattle.link_core.specs.Link as link
 use Rattle.device_core.specs.Site.{Site}
 use Rattle.device_service.specs.declared.parts.Doing.{Doing}
 use Rattle.device_service.specs.declared.parts.Doing.TheVariants as doing
 use Rattle.device_service.specs.declared.parts.Parts.{Parts}
-use Rattle.device_service.specs.Nodes.{Kind, Ringed, Ringless, Refs, refs_at, refs_from}
+use Rattle.device_service.specs.Nodes.{Kind, Ringed, Ringless, refs_at, refs_from}
 use Rattle.device_service.specs.Claims.{site_of}
 use Rattle.device_service.specs.Work.{after_part, connect_parts, counted, ring_page, sleep_all, sleeps_on}
 pub use Rattle.device_service.specs.Doing.{all_held, is_open}

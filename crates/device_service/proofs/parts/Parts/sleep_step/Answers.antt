@@ -1,4 +1,4 @@
-use Rattle.std.proofs.Common.{◌≡◌, ◌+◌, ◌<◌, ◌≤◌, Bool, Some, None, true, length, slice_get, slice_set, refl, sym, ap, subst, ◌∙◌, arith}
+use Rattle.std.proofs.Common.{◌≡◌, ◌+◌, ◌<◌, ◌≤◌, Bool, Some, None, true, length, slice_set, refl, sym, ap, subst, ◌∙◌, arith}
 use Rattle.std.proofs.lemmas.Bool.{false≢true}
 use Rattle.std.proofs.lemmas.List.{length-set}
 use Rattle.pv_words.specs.Plan.{MayGo, Turns}
@@ -6,7 +6,7 @@ use Rattle.link_core.specs.Activities.{pages_of}
 use Rattle.link_core.specs.Link.{idle, sleep_left as link_left}
 use Rattle.device_service.specs.declared.parts.Doing.TheVariants as doing
 use Rattle.device_service.specs.Doing.{is_open}
-use Rattle.device_service.specs.Parts.{count_of, doing_of, dom_of, held_of, joined_of, kind_of, sleep_left, sleeping, slept_to}
+use Rattle.device_service.specs.Parts.{count_of, doing_of, dom_of, held_of, joined_of, kind_of, sleep_left, sleeping}
 use Rattle.device_service.proofs.Held.{held_set, here, in_all}
 use Rattle.device_service.proofs.Lists.{get_set_other, got}
 use Rattle.device_service.proofs.Opened.{joined_set, rung_by}

@@ -21,3 +21,4 @@ pub mod Opened
 pub mod Connects
 pub mod Faults
 pub mod Sleeps
+pub mod PartsLaws

@@ -17,7 +17,7 @@ use Rattle.device_service.specs.declared.parts.Doing.TheVariants as doing
 use Rattle.device_service.specs.declared.parts.Parts.{Parts}
 use Rattle.device_service.specs.Nodes.{Kind, Ringed, Ringless, refs_at, refs_from}
 use Rattle.device_service.specs.Claims.{site_of}
-use Rattle.device_service.specs.Work.{after_part, connect_parts, counted, ring_page, sleep_all, sleeps_on}
+use Rattle.device_service.specs.Work.{after_part, all_pages, connect_parts, counted, ring_page, sleep_all, sleeps_on}
 pub use Rattle.device_service.specs.Doing.{all_held, is_open}
 
 -- the domain of their pages
@@ -125,6 +125,11 @@ end_of p (Err why) = Err why
 abbrev pub ending_of : Parts → Option (Result (Unit {0}) GrantRefusal) → Option (Result (List Joined) GrantRefusal)
 ending_of p None = None
 ending_of p (Some r) = Some (end_of p r)
+
+-- the pages that are held once a Connect is over
+abbrev pub kept_by : Result (List Joined) GrantRefusal → List Hold
+kept_by (Ok js) = all_pages js
+kept_by (Err why) = []
 
 -- the activity is this one, or the parts rest and it begins
 abbrev pub MayServe : Doing → Doing → Type 0

@@ -11,6 +11,7 @@ use Rattle.grant_table.specs.Mapping.{unmap_want}
 use Rattle.link_core.specs.declared.link.Link.{Link}
 use Rattle.link_core.specs.Activities.{Joined, answer_plan, look_plan, take_plan, unmaps}
 use Rattle.link_core.specs.Link as link
+use Rattle.link_core.specs.Link.{Leads}
 use Rattle.device_core.specs.Site.{Site}
 use Rattle.device_service.specs.declared.parts.Doing.{Doing}
 use Rattle.device_service.specs.declared.parts.Doing.TheVariants as doing
@@ -215,3 +216,20 @@ pub record Keeps (old new : Parts) : Type 0 where
   pub same : Same old new
   pub held : held_of new ≡ held_of old
   pub stays : joined_of new ≡ joined_of old
+
+-- what is left of a Connect over the frames and grant entries of their domain
+abbrev pub connect_of : (frames grants : ℕ → ℕ) → List NodeValue → Parts → Plan (Result (List Joined) GrantRefusal)
+connect_of frames grants nodes p = connect_left (site_in frames grants p) nodes p
+
+-- one step leads from what was left of it to what is left then, or ends it
+abbrev pub ConnectLeads : Site → List NodeValue → Parts → Parts → Option Access → Option (Result (Unit {0}) GrantRefusal) → Type 0
+ConnectLeads site nodes old new access ends = Leads (connect_left site nodes old) access (ending_of new ends) (connect_left site nodes new)
+
+abbrev pub ConnectSteps : (frames grants : ℕ → ℕ) → List NodeValue → Parts → Parts → Option Access → Option (Result (Unit {0}) GrantRefusal) → Type 0
+ConnectSteps frames grants nodes old new access ends = ConnectLeads (site_in frames grants old) nodes old new access ends
+
+-- what is left of one that begins is the whole of it
+abbrev pub Begins : Parts → Type 0
+Begins p =
+    (site : Site) (nodes : List NodeValue)
+    → site.dom ≡ dom_of p → site.parts ≡ count_of p → connect_left site nodes p ≡ connect_parts site (refs_from (kind_of p) nodes 0 site.parts) []

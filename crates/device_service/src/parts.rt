@@ -57,7 +57,10 @@ impl Parts {
     ghost use Rattle.ring_words.specs.declared.Looked.{Looked};
     ghost use Rattle.device_service.specs.declared.parts.Doing.TheVariants as doing;
     ghost use Rattle.device_service.specs.Nodes.{Ringed, refs_from};
-    ghost use Rattle.device_service.specs.Parts.{Connected, Drops, IsOpen, JoinsByAccess, Keeps, LeftBy, MayDrop, MayServe, MaySleep, Rests, Same, Slept, answer_left, answered_if, connect_left, connects, count_of, doing_of, dom_of, ending_of, held_of, joined_of, kind_in, kind_of, look_of, open_or, site_in, sleep_left, slept_to, take_left, UndoneAs};
+    ghost use Rattle.device_service.specs.Parts.{answer_left, answered_if, connect_of, connects, count_of, doing_of, dom_of, held_of};
+    ghost use Rattle.device_service.specs.Parts.{joined_of, kind_in, kind_of, look_of, open_or, sleep_left, slept_to, take_left};
+    ghost use Rattle.device_service.specs.Parts.{Begins, ConnectLeads, ConnectSteps, Connected, Drops, IsOpen, JoinsByAccess, Keeps};
+    ghost use Rattle.device_service.specs.Parts.{LeftBy, MayDrop, MayServe, MaySleep, Rests, Same, Slept, UndoneAs};
     ghost use Rattle.device_service.specs.Work.{connect_parts};
 
     /// So many parts of this domain's device, each with a ring or without, none of which is joined.
@@ -147,7 +150,7 @@ impl Parts {
     pub fn begin(&mut self)
         requires { doing_of self.old ≡ doing.Bare }
         ensures connects { connects (doing_of self.new) ≡ true }
-        ensures begins { (site : Site) (nodes : List NodeValue) → site.dom ≡ dom_of self.new → site.parts ≡ count_of self.new → connect_left site nodes self.new ≡ connect_parts site (refs_from (kind_of self.new) nodes 0 site.parts) [] }
+        ensures begins { Begins self.new }
         ensures keeps { Keeps self.old self.new }
     {
         self.doing = Doing::Connecting(0);
@@ -187,7 +190,7 @@ impl Parts {
     fn undo<W: Words>(&mut self, words: &mut W, why: GrantRefusal) -> Turn<Result<(), GrantRefusal>>
         requires undoing { doing_of self.old ≡ doing.Undoing why }
         requires may { MayDrop (W.may words.old) (held_of self.old) }
-        ensures leads { (site : Site) (nodes : List NodeValue) → Leads (connect_left site nodes self.old) result.access (ending_of self.new result.done) (connect_left site nodes self.new) }
+        ensures leads { (site : Site) (nodes : List NodeValue) → ConnectLeads site nodes self.old self.new result.access result.done }
         ensures made { Makes W.makes words.old result.access words.new }
         ensures stays { (pages : List Hold) → AccessIn pages result.access }
         ensures connected { Connected result.done (doing_of self.new) }
@@ -216,8 +219,8 @@ impl Parts {
         nodes: &Nodes,
     ) -> Turn<Result<(), GrantRefusal>>
         requires connecting { connects (doing_of self.old) ≡ true }
-        requires may { MayGo (W.may words.old) (connect_left (site_in (W.frames_of words.old) (W.grants_of words.old) self.old) nodes.now self.old) }
-        ensures leads { Leads (connect_left (site_in (W.frames_of words.old) (W.grants_of words.old) self.old) nodes.now self.old) result.access (ending_of self.new result.done) (connect_left (site_in (W.frames_of words.old) (W.grants_of words.old) self.old) nodes.now self.new) }
+        requires may { MayGo (W.may words.old) (connect_of (W.frames_of words.old) (W.grants_of words.old) nodes.now self.old) }
+        ensures leads { ConnectSteps (W.frames_of words.old) (W.grants_of words.old) nodes.now self.old self.new result.access result.done }
         ensures made { Makes W.makes words.old result.access words.new }
         ensures stays { AccessIn (held_of self.old) result.access }
         ensures connected { Connected result.done (doing_of self.new) }

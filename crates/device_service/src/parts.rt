@@ -50,18 +50,16 @@ impl Parts {
     ghost use Rattle.pv_words.specs.Plan.{Plan, MayGo, Makes, Turns};
     ghost use Rattle.link_core.specs.declared.link.Link.{Link};
     ghost use Rattle.link_core.specs.Activities.{Joined};
-    ghost use Rattle.link_core.specs.Link.{Leads};
     ghost use Rattle.link_core.specs.Link as link;
     ghost use Rattle.link_core.specs.Stays.{AccessIn};
     ghost use Rattle.device_core.specs.Site.{Site};
     ghost use Rattle.ring_words.specs.declared.Looked.{Looked};
     ghost use Rattle.device_service.specs.declared.parts.Doing.TheVariants as doing;
-    ghost use Rattle.device_service.specs.Nodes.{Ringed, refs_from};
+    ghost use Rattle.device_service.specs.Nodes.{Ringed};
     ghost use Rattle.device_service.specs.Parts.{answer_left, answered_if, connect_of, connects, count_of, doing_of, dom_of, held_of};
     ghost use Rattle.device_service.specs.Parts.{joined_of, kind_in, kind_of, look_of, open_or, sleep_left, slept_to, take_left};
     ghost use Rattle.device_service.specs.Parts.{Begins, ConnectLeads, ConnectSteps, Connected, Drops, IsOpen, JoinsByAccess, Keeps};
     ghost use Rattle.device_service.specs.Parts.{LeftBy, MayDrop, MayServe, MaySleep, Rests, Same, Slept, UndoneAs};
-    ghost use Rattle.device_service.specs.Work.{connect_parts};
 
     /// So many parts of this domain's device, each with a ring or without, none of which is joined.
     pub fn new(alloc: Global, dom: DomId, parts: u8, ringed: bool) -> Result<Parts, AllocError>

@@ -1,5 +1,6 @@
 pub mod Claims
 pub mod Fitting
+pub mod Hearing
 pub mod Sound
 pub mod Resting
 pub mod SoundBegins

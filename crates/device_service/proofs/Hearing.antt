@@ -1,5 +1,5 @@
 -- What a backend hears, wherever it stands.
-use Rattle.std.proofs.Common.{◌≡◌, List, Option, Some, refl}
+use Rattle.std.proofs.Common.{◌≡◌, List, Option, Some, Result, Ok, Err, OnErr, refl}
 use Rattle.pv_words.specs.declared.device.HostRefusal.TheVariants.{NotConnected}
 use Rattle.pv_words.specs.declared.device.State.{State}
 use Rattle.pv_words.specs.declared.device.State.TheVariants as state
@@ -30,6 +30,11 @@ module _ {S E : Type 0} {g : Ghosts S E} where
   heard_in site d w activity.Serving news = refl
   heard_in site d w activity.Answering news = refl
   heard_in site d w activity.Sleeping news = refl
+
+-- what holds at each refusal
+pub err_only : {A E : Type 0} (r : Result A E) (P : Type 0) → ((why : E) → r ≡ Err why → P) → OnErr r P
+err_only (Ok x) P h = tt
+err_only (Err why) P h = h why refl
 
 pub apart_refuses : {V : Type 0} (b : State) (es : List V) → (b ≡ state.Connected → ⊥) → refusal_of b es ≡ Some NotConnected
 apart_refuses state.Connected es n = absurd (n refl)

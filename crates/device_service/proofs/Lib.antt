@@ -1,6 +1,8 @@
 pub mod Claims
 pub mod Fitting
 pub mod Hearing
+pub mod Leaving
+pub mod PartsLaws
 pub mod Sound
 pub mod Resting
 pub mod SoundBegins

@@ -108,6 +108,7 @@ impl<S: Serve + Drop> Backend<S> {
         self.closing = true;
         self.kept = None;
         self.hand = None;
+        self.activity = Activity::Between;
         Said::Closed(why)
     }
 
@@ -183,6 +184,7 @@ impl<S: Serve + Drop> Backend<S> {
         self.hand = None;
         self.service.start(&self.read);
         self.waiting.clear();
+        self.activity = Activity::Between;
         Step {
             access: None,
             said: Some(Said::State(s)),

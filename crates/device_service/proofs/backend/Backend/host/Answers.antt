@@ -1,11 +1,11 @@
-use Rattle.std.proofs.Common.{◌≡◌, List, Result, Some, rules, refl, sym, ap, ◌∙◌}
+use Rattle.std.proofs.Common.{◌≡◌, List, Result, Some, refl, sym, ap, ◌∙◌}
 use Rattle.pv_words.specs.declared.device.State.TheVariants as state
 use Rattle.pv_words.specs.declared.device.HostRefusal.{HostRefusal}
 use Rattle.host_events.specs.Queue.{refusal_in, refusal_of, unless}
 use Rattle.device_core.specs.Order.{Hosts}
 use Rattle.device_service.specs.Stand.{dom_of, given_up, held_of, parts_of, stand_in, stand_of, work_of}
 use Rattle.device_service.specs.Work.{refused_at}
-use Rattle.device_service.proofs.Hearing.{apart_refuses, err_only, heard_in}
+use Rattle.device_service.proofs.Hearing.{apart_refuses, err_only, heard_in, same_backend}
 use Rattle.device_service.proofs.Leaving.{event_within, waits_pushed}
 use Rattle.device_service.proofs.backend.Backend.host.Goals as goal
 
@@ -58,7 +58,10 @@ returns-clause-refusal g c =
 pub returns-clause-err : goal.returns-clause-err
 returns-clause-err g c =
     let d = c.args.self.now in
-    err_only c.push.result _ (λ why e. let same : c.push.new.self ≡ d.waiting = c.push.ensures.waits ∙ ap (λ (r : Result (Unit {0}) HostRefusal). unless (refusal_in r) d.waiting (Some c.in-Some.event)) e in search rules)
+    err_only c.push.result _
+    (λ why e.
+    let same : c.push.new.self ≡ d.waiting = c.push.ensures.waits ∙ ap (λ (r : Result (Unit {0}) HostRefusal). unless (refusal_in r) d.waiting (Some c.in-Some.event)) e in
+    same_backend _ d record { dev = refl; dom = refl; connection = refl; seen = refl; read = refl; parts = refl; closing = refl; kept = refl; hand = refl; reply = refl; at = refl; left = refl; round = refl; waiting = same; service = refl; activity = refl })
 
 pub returns-clause-held : goal.returns-clause-held
 unfolding held_of

@@ -1,5 +1,5 @@
 -- What stays true of a backend that rests, or closes its connection, and what is left of its work.
-use Rattle.std.proofs.Common.{◌≡◌, inl, inr, ℕ, ◌<◌, ◌==◌, ◌++◌, Bool, true, false, List, [], ◌∷◌, Option, Some, None, length, is_some, refl, sym, ap, subst, ◌∙◌, arith}
+use Rattle.std.proofs.Common.{◌≡◌, inl, inr, ℕ, ◌<◌, ◌≤◌, ◌==◌, ◌++◌, Bool, true, false, List, [], ◌∷◌, Option, Some, None, length, is_some, refl, sym, ap, subst, ◌∙◌, arith}
 use Rattle.std.proofs.lemmas.Bool.{false≢true}
 use Rattle.pv_words.specs.declared.device.HostRefusal.{HostRefusal}
 use Rattle.pv_words.specs.declared.device.Reason.{Reason}
@@ -7,7 +7,9 @@ use Rattle.pv_words.specs.declared.grant.Hold.{Hold}
 use Rattle.host_events.specs.Queue.{unless}
 use Rattle.device_service.specs.Waits.{WaitAt}
 use Rattle.pv_words.specs.declared.device.State.{State}
-use Rattle.xenbus_states.specs.Connection.{Connection, moved_to}
+use Rattle.xenbus_states.specs.Connection.{Connection, first_connection, moved_to}
+use Rattle.xenbus_states.specs.Nodes.{no_nodes}
+use Rattle.pv_words.specs.declared.device.NodeValue.{NodeValue}
 use Rattle.link_core.specs.Activities.{Joined}
 use Rattle.device_service.specs.declared.backend.Activity.{Activity}
 use Rattle.device_service.specs.declared.backend.Activity.TheVariants as activity
@@ -19,7 +21,7 @@ use Rattle.device_service.specs.Activity.{StandsAs, is_leaving, may_hold, restin
 use Rattle.device_service.specs.Parts.{doing_of, is_open, joined_of}
 use Rattle.device_service.specs.Service.{Service}
 use Rattle.device_service.specs.Stand.{known_in}
-use Rattle.device_service.specs.Work.{Work, entered, shut}
+use Rattle.device_service.specs.Work.{Work, entered, first_work, shut}
 use Rattle.device_service.proofs.PartsLaws.{joined_none}
 
 -- between two activities the parts rest
@@ -108,3 +110,19 @@ left_nil (h ∷ hs) ks e = let wrong : ⊥ = cc in absurd wrong
 pub right_nil : (hs ks : List Hold) → hs ++ ks ≡ [] → ks ≡ []
 right_nil [] ks e = e
 right_nil (h ∷ hs) ks e = let wrong : ⊥ = cc in absurd wrong
+
+pub within_first : (n m : ℕ) → n ≡ m → 1 ≤ m → 0 < n
+within_first n m e some = omega (arith, e, some)
+
+pub none_held : (hs ks : List Hold) → hs ≡ [] → ks ≡ [] → hs ++ ks ≡ []
+none_held hs ks e f = ap (λ (xs : List Hold). xs ++ ks) e ∙ f
+
+-- a backend when it is declared
+pub new_work : {X A V : Type 0} (s : Service X A V) (k : Connection) (seen read : List NodeValue) (js : List Joined) (es : List V) (x : X) → k ≡ first_connection → seen ≡ no_nodes → read ≡ no_nodes → js ≡ [] → es ≡ [] → x ≡ s.begun no_nodes → record (first_work s) { connection = k; seen = seen; read = read; parts = js; waiting = es; service = x } ≡ first_work s
+new_work s k seen read js es x a b c d e f =
+    ap (λ y. record (first_work s) { connection = y; seen = seen; read = read; parts = js; waiting = es; service = x }) a
+    ∙ (ap (λ y. record (first_work s) { seen = y; read = read; parts = js; waiting = es; service = x }) b
+    ∙ (ap (λ y. record (first_work s) { read = y; parts = js; waiting = es; service = x }) c
+    ∙ (ap (λ y. record (first_work s) { parts = y; waiting = es; service = x }) d
+    ∙ (ap (λ y. record (first_work s) { waiting = y; service = x }) e
+    ∙ ap (λ y. record (first_work s) { service = y }) f))))

@@ -1,6 +1,16 @@
 -- What stays true of a backend that rests, or closes its connection, and what is left of its work.
-use Rattle.std.proofs.Common.{◌≡◌, inl, inr, ℕ, ◌<◌, ◌≤◌, ◌==◌, ◌++◌, Bool, true, false, List, [], ◌∷◌, Option, Some, None, length, is_some, refl, sym, ap, subst, ◌∙◌, arith}
-use Rattle.std.proofs.lemmas.Bool.{false≢true}
+use Rattle.std.proofs.Common.{◌≡◌, inl, inr, ℕ, ◌<◌, ◌≤◌, ◌==◌, ◌++◌, Bool, true, false, List, [], ◌∷◌, Option, Some, None, length, length-append, is_some, refl, sym, ap, subst, ◌∙◌, arith}
+use Rattle.std.proofs.lemmas.Bool.{false≢true, true≢false}
+use Rattle.std.proofs.lemmas.Bool.Decides.{nat_tests}
+use Rattle.pv_words.specs.declared.access.Access.{Access}
+use Rattle.pv_words.specs.declared.device.Said.{Said}
+use Rattle.pv_words.specs.declared.device.Said.TheVariants as said
+use Rattle.pv_words.specs.Plan.{MayGo, Want}
+use Rattle.device_core.specs.Order.{Between, Stand, Went}
+use Rattle.device_core.specs.Site.{Site}
+use Rattle.device_service.specs.Dropping.{Drops, MayDrop}
+use Rattle.device_service.specs.Goes.{GoesOut}
+use Rattle.device_service.proofs.Held.{nil_of}
 use Rattle.pv_words.specs.declared.device.HostRefusal.{HostRefusal}
 use Rattle.pv_words.specs.declared.device.Reason.{Reason}
 use Rattle.pv_words.specs.declared.grant.Hold.{Hold}
@@ -17,12 +27,12 @@ use Rattle.device_service.specs.declared.parts.Doing.{Doing}
 use Rattle.device_service.specs.declared.parts.Doing.TheVariants as doing
 use Rattle.device_service.specs.declared.parts.Parts.{Parts}
 use Rattle.device_service.specs.declared.round.Hand.{Hand}
-use Rattle.device_service.specs.Activity.{StandsAs, is_leaving, may_hold, resting}
-use Rattle.device_service.specs.Parts.{doing_of, is_open, joined_of}
+use Rattle.device_service.specs.Activity.{StandsAs, is_answering, is_leaving, is_working, may_hold, resting}
+use Rattle.device_service.specs.Parts.{Rests, doing_of, held_of, is_open, joined_of}
 use Rattle.device_service.specs.Service.{Service}
-use Rattle.device_service.specs.Stand.{known_in}
-use Rattle.device_service.specs.Work.{Work, entered, first_work, shut}
-use Rattle.device_service.proofs.PartsLaws.{joined_none}
+use Rattle.device_service.specs.Stand.{known_in, leaving_plan, stand_at}
+use Rattle.device_service.specs.Work.{Work, End, Shut, all_pages, device, entered, first_work, said_at, settled, shut}
+use Rattle.device_service.proofs.PartsLaws.{held_bare, held_open, joined_none}
 
 -- between two activities the parts rest
 pub rests_between : (a : Activity) (opened : Bool) (d : Doing) (at : ℕ) (hand : Option Hand) → a ≡ activity.Between → StandsAs a opened d at hand → d ≡ resting opened
@@ -126,3 +136,97 @@ new_work s k seen read js es x a b c d e f =
     ∙ (ap (λ y. record (first_work s) { parts = y; waiting = es; service = x }) d
     ∙ (ap (λ y. record (first_work s) { waiting = y; service = x }) e
     ∙ ap (λ y. record (first_work s) { service = y }) f))))
+
+-- a service between two activities holds the pages of what it knows
+module _ {S X : Type 0} (pages : X → List Hold) (knows : S → X) (holds : S → List Hold) (going : S → Bool) (same : (s : S) → going s ≡ false → holds s ≡ pages (knows s)) (s : S) (idle : going s ≡ false) (n : ℕ) (count : n ≡ length (holds s)) where
+  pub some_pages : 0 < n → 0 < length (pages (knows s))
+  some_pages some = omega (arith, some, count, ap length (same s idle))
+
+  pub no_pages : n ≤ 0 → pages (knows s) ≡ []
+  no_pages none = nil_of (pages (knows s)) (omega (arith, none, count, ap length (same s idle)))
+
+pub idle_in : (a : Activity) (why : Reason) (b : Bool) → a ≡ activity.Leaving why → b ≡ is_working a → b ≡ false
+idle_in a why b e f = f ∙ ap is_working e
+
+pub idle_between : (a : Activity) (b : Bool) → a ≡ activity.Between → b ≡ is_working a → b ≡ false
+idle_between a b e f = f ∙ ap is_working e
+
+pub some_of : (hs : List Hold) → (length hs == 0) ≡ false → 0 < length hs
+some_of [] h = absurd (true≢false h)
+some_of (x ∷ xs) h = omega arith
+
+pub none_of : (hs : List Hold) → (length hs == 0) ≡ true → hs ≡ []
+none_of [] h = refl
+none_of (x ∷ xs) h = let wrong : ⊥ = grind (arith, nat_tests, h) in absurd wrong
+
+pub some_first : (hs ks : List Hold) → 0 < length hs → 0 < length (hs ++ ks)
+some_first hs ks some = omega (arith, some, length-append hs ks)
+
+pub some_last : (hs ks : List Hold) → 0 < length ks → 0 < length (hs ++ ks)
+some_last hs ks some = omega (arith, some, length-append hs ks)
+
+-- the first of the pages may be unmapped
+pub may_first : (may : Want → Type 0) (hs ks : List Hold) → MayDrop may (hs ++ ks) → MayDrop may hs
+may_first may [] ks h = tt
+may_first may (x ∷ xs) ks h = h
+
+pub may_last : (may : Want → Type 0) (hs ks : List Hold) → hs ≡ [] → MayDrop may (hs ++ ks) → MayDrop may ks
+may_last may hs ks e h = subst (λ (xs : List Hold). MayDrop may (xs ++ ks)) e h
+
+pub may_leave : (A V : Type 0) (may : Want → Type 0) (why : Reason) (hs : List Hold) → MayGo may (leaving_plan {A = A} {V = V} why hs) → MayDrop may hs
+may_leave A V may why [] h = tt
+may_leave A V may why (x ∷ xs) h = h
+
+pub stands_leaving : (a : Activity) (why : Reason) (opened : Bool) (d : Doing) (at : ℕ) (hand : Option Hand) → a ≡ activity.Leaving why → d ≡ doing.Dropping → StandsAs a opened d at hand
+stands_leaving a why opened d at hand e f = subst (λ (x : Activity). StandsAs x opened d at hand) (sym e) f
+
+-- in a Close pages may be held, and no request is answered
+pub may_hold_leaving : {P : Type 0} (a : Activity) (why : Reason) (opened : Bool) → a ≡ activity.Leaving why → may_hold a opened ≡ false → P
+may_hold_leaving a why opened e h = absurd (true≢false (ap (λ (x : Activity). may_hold x opened) (sym e) ∙ h))
+
+pub answers_none : {P : Type 0} (a : Activity) (why : Reason) → a ≡ activity.Leaving why → is_answering a ≡ true → P
+answers_none a why e h = absurd (false≢true (ap is_answering (sym e) ∙ h))
+
+-- parts in a Close aren't joined
+pub dropping_joins : (p : Parts) → doing_of p ≡ doing.Dropping → joined_of p ≡ []
+dropping_joins p e = joined_none p (ap is_open e)
+
+pub rests_of : (opened : Bool) (d : Doing) → d ≡ resting opened → Rests d
+rests_of true d e = inl e
+rests_of false d e = inr e
+
+-- parts that rest hold the pages of what they are joined to
+pub pages_rest : (p : Parts) (opened : Bool) → doing_of p ≡ resting opened → all_pages (joined_of p) ≡ held_of p
+pages_rest p true e = sym (held_open p (ap is_open e))
+pages_rest p false e = ap all_pages (bare_joins p e) ∙ sym (held_bare p e)
+
+module _ {X A V : Type 0} (s : Service X A V) (site : Site) (why : Reason) where
+  -- some page is left
+  pub went_on : (w : Work X V) (hs : List Hold) → 0 < length hs → Went (device s site) w (leaving_plan why hs) None (stand_at w (leaving_plan why hs))
+  went_on w [] some = let wrong : ⊥ = omega (arith, some) in absurd wrong
+  went_on w (x ∷ xs) some = (refl, refl)
+
+  -- none is
+  pub went_shut : (w : Work X V) (hs : List Hold) (told : Said) (new : Stand (Work X V) (End A V)) → hs ≡ [] → told ≡ said.Closed why → new ≡ Between (shut s w) → Went (device s site) w (leaving_plan why hs) (Some told) new
+  unfolding said_at settled
+  went_shut w hs told new e f h = subst (λ xs. Went (device s site) w (leaving_plan why xs) (Some told) new) (sym e) (ap Some f, h)
+
+  -- the first page is unmapped, of the service, or of the parts
+  pub leave_first : (v w : Work X V) (hs hs' ks : List Hold) (a : Access) (event : Option Said) (new : Stand (Work X V) (End A V)) → Drops hs a hs' → v ≡ w → Went (device s site) v (leaving_plan why (hs' ++ ks)) event new → GoesOut s site w (leaving_plan why (hs ++ ks)) (Some a) event new
+  leave_first v w [] hs' ks a event new d e h = absurd d
+  leave_first v w (x ∷ xs) hs' ks a event new d e h =
+      (leaving_plan why (xs ++ ks), (d.0, refl),
+      subst (λ ys. Went (device s site) w (leaving_plan why (ys ++ ks)) event new) d.1 (subst (λ (u : Work X V). Went (device s site) u (leaving_plan why (hs' ++ ks)) event new) e h))
+
+  pub leave_last : (v w : Work X V) (hs ks ks' : List Hold) (a : Access) (event : Option Said) (new : Stand (Work X V) (End A V)) → hs ≡ [] → Drops ks a ks' → v ≡ w → Went (device s site) v (leaving_plan why (hs ++ ks')) event new → GoesOut s site w (leaving_plan why (hs ++ ks)) (Some a) event new
+  leave_last v w hs [] ks' a event new b d e h = absurd d
+  leave_last v w hs (x ∷ xs) ks' a event new b d e h =
+      subst (λ ys. GoesOut s site w (leaving_plan why (ys ++ (x ∷ xs))) (Some a) event new) (sym b)
+      (leaving_plan why xs, (d.0, refl),
+      subst (λ ys. Went (device s site) w (leaving_plan why ys) event new) d.1
+      (subst (λ ys. Went (device s site) w (leaving_plan why (ys ++ ks')) event new) b
+      (subst (λ (u : Work X V). Went (device s site) u (leaving_plan why (hs ++ ks')) event new) e h)))
+
+  -- nothing was left
+  pub leave_none : (w : Work X V) (hs : List Hold) (told : Said) (new : Stand (Work X V) (End A V)) → hs ≡ [] → told ≡ said.Closed why → new ≡ Between (shut s w) → GoesOut s site w (leaving_plan why hs) None (Some told) new
+  leave_none w hs told new e f h = record { end = Shut why; why = why; over = ap (leaving_plan why) e; closes = refl; says = ap Some f; left = h }

@@ -1,6 +1,7 @@
 pub mod Claims
 pub mod Fitting
 pub mod Hearing
+pub mod HeldAll
 pub mod Leaving
 pub mod PartsLaws
 pub mod Sound

@@ -230,3 +230,7 @@ module _ {X A V : Type 0} (s : Service X A V) (site : Site) (why : Reason) where
   -- nothing was left
   pub leave_none : (w : Work X V) (hs : List Hold) (told : Said) (new : Stand (Work X V) (End A V)) → hs ≡ [] → told ≡ said.Closed why → new ≡ Between (shut s w) → GoesOut s site w (leaving_plan why hs) None (Some told) new
   leave_none w hs told new e f h = record { end = Shut why; why = why; over = ap (leaving_plan why) e; closes = refl; says = ap Some f; left = h }
+
+-- a page of the service is unmapped: what it knows otherwise stays
+pub strips_same : {X : Type 0} (stripped : X → X) (a : Activity) (why : Reason) (x y : X) → a ≡ activity.Leaving why → stripped y ≡ stripped x → known_in stripped (is_leaving a) y ≡ known_in stripped (is_leaving a) x
+strips_same stripped a why x y e f = known_leaving stripped a why y e ∙ (f ∙ sym (known_leaving stripped a why x e))

@@ -5,11 +5,11 @@ use Rattle.std.proofs.lemmas.Bool.Decides.{nat_tests}
 use Rattle.pv_words.specs.declared.access.Access.{Access}
 use Rattle.pv_words.specs.declared.device.Said.{Said}
 use Rattle.pv_words.specs.declared.device.Said.TheVariants as said
-use Rattle.pv_words.specs.Plan.{MayGo, Want}
+use Rattle.pv_words.specs.Plan.{MayGo, Plan, Want}
 use Rattle.device_core.specs.Order.{Between, Stand, Went}
 use Rattle.device_core.specs.Site.{Site}
 use Rattle.device_service.specs.Dropping.{Drops, MayDrop}
-use Rattle.device_service.specs.Goes.{GoesOut}
+use Rattle.device_service.specs.Goes.{Closes, Comes, GoesOut}
 use Rattle.device_service.proofs.Held.{nil_of}
 use Rattle.pv_words.specs.declared.device.HostRefusal.{HostRefusal}
 use Rattle.pv_words.specs.declared.device.Reason.{Reason}
@@ -31,7 +31,7 @@ use Rattle.device_service.specs.Activity.{StandsAs, is_answering, is_leaving, is
 use Rattle.device_service.specs.Parts.{Rests, doing_of, held_of, is_open, joined_of}
 use Rattle.device_service.specs.Service.{Service}
 use Rattle.device_service.specs.Stand.{known_in, leaving_plan, stand_at}
-use Rattle.device_service.specs.Work.{Work, End, Shut, all_pages, device, entered, first_work, said_at, settled, shut}
+use Rattle.device_service.specs.Work.{Work, End, Answered, Denied, Done, Lacked, Left, Met, Own, Raised, Renewed, Saw, Shut, Slept, Took, all_pages, device, leaving, entered, first_work, said_at, settled, shut}
 use Rattle.device_service.proofs.PartsLaws.{held_bare, held_open, joined_none}
 
 -- between two activities the parts rest
@@ -234,3 +234,44 @@ module _ {X A V : Type 0} (s : Service X A V) (site : Site) (why : Reason) where
 -- a page of the service is unmapped: what it knows otherwise stays
 pub strips_same : {X : Type 0} (stripped : X → X) (a : Activity) (why : Reason) (x y : X) → a ≡ activity.Leaving why → stripped y ≡ stripped x → known_in stripped (is_leaving a) y ≡ known_in stripped (is_leaving a) x
 strips_same stripped a why x y e f = known_leaving stripped a why y e ∙ (f ∙ sym (known_leaving stripped a why x e))
+
+module _ {X A V : Type 0} (s : Service X A V) where
+  -- a Close begins
+  pub leaving_as : (w : Work X V) (js : List Joined) (y : X) → w.connecting ≡ false → js ≡ [] → y ≡ s.stripped w.service → record w { connecting = false; parts = js; service = y } ≡ leaving s w
+  leaving_as w js y e f h =
+      ap (λ b. record w { connecting = b; parts = js; service = y }) (sym e)
+      ∙ (ap (λ ks. record w { parts = ks; service = y }) f ∙ ap (λ (x : X). record w { parts = []; service = x }) h)
+
+  module _ (site : Site) (w : Work X V) where
+    closes_told : (end : End A V) (why : Reason) → Closes end why → (said_at s w end ≡ Some (said.Closed why)) × (shut s w ≡ settled s site w end)
+    unfolding said_at settled
+    closes_told (Denied refusal) why h = (ap (λ x. Some (said.Closed x)) (sym h), refl)
+    closes_told (Shut told) why h = (ap (λ x. Some (said.Closed x)) (sym h), refl)
+    closes_told (Saw x) why h = absurd h
+    closes_told (Took x) why h = absurd h
+    closes_told (Own x) why h = absurd h
+    closes_told (Done x) why h = absurd h
+    closes_told (Answered x) why h = absurd h
+    closes_told (Slept x) why h = absurd h
+    closes_told (Met x) why h = absurd h
+    closes_told (Lacked x) why h = absurd h
+    closes_told Left why h = absurd h
+    closes_told Renewed why h = absurd h
+    closes_told (Raised part e p) why h = absurd h
+
+    -- a step that goes out is one that begins
+    pub comes_out : (p : Plan (End A V)) (access : Option Access) (event : Option Said) (new : Stand (Work X V) (End A V)) → GoesOut s site w p access event new → Comes s site w p access event new
+    comes_out p None event new o =
+        let t = closes_told o.end o.why o.closes in
+        record { end = o.end; told = said.Closed o.why; over = o.over; says = o.says; told_is = t.0; left = o.left ∙ ap (λ x. Between x) t.1 }
+    comes_out p (Some a) event new o = o
+
+    pub comes_as : (v : Work X V) (p q : Plan (End A V)) (access : Option Access) (event : Option Said) (new : Stand (Work X V) (End A V)) → v ≡ w → q ≡ p → GoesOut s site v q access event new → Comes s site w p access event new
+    comes_as v p q access event new e f o =
+        comes_out p access event new
+        (subst (λ x. GoesOut s site w x access event new) f (subst (λ (u : Work X V). GoesOut s site u q access event new) e o))
+
+-- the pages that a Close gives up
+pub closing_pages : {X : Type 0} (pages : X → List Hold) (p q : Parts) (opened : Bool) (y x : X) → doing_of p ≡ resting opened → y ≡ x → held_of q ≡ held_of p → pages y ++ all_pages (joined_of p) ≡ pages x ++ held_of q
+closing_pages pages p q opened y x rests known held =
+    ap (λ z. pages z ++ all_pages (joined_of p)) known ∙ ap (λ hs. pages x ++ hs) (pages_rest p opened rests ∙ sym held)

@@ -116,8 +116,8 @@ impl<S: Serve + Drop> Backend<S> {
     // The next access of a Connect.
     pub(super) fn connect<W: Words>(&mut self, words: &mut W) -> Step
         requires connecting { self.old.activity ≡ activity.Connecting }
-        requires may { MayGo (W.may words.old) (connect_left (site_at (W.frames_of words.old) (W.grants_of words.old) self.old) self.old.read.now self.old.parts) }
-        ensures goes { GoesOut S.service (site_at (W.frames_of words.old) (W.grants_of words.old) self.old) (work_of self.old) (mapped connected (connect_left (site_at (W.frames_of words.old) (W.grants_of words.old) self.old) self.old.read.now self.old.parts)) result.access result.said (stand_of (site_at (W.frames_of words.old) (W.grants_of words.old) self.old) self.new) }
+        requires may { MayGo (W.may words.old) (connect_left (site_at (W.frames_of words.old) (W.grants_of words.old) self.old) self.old.read self.old.parts) }
+        ensures goes { GoesOut S.service (site_at (W.frames_of words.old) (W.grants_of words.old) self.old) (work_of self.old) (mapped connected (connect_left (site_at (W.frames_of words.old) (W.grants_of words.old) self.old) self.old.read self.old.parts)) result.access result.said (stand_of (site_at (W.frames_of words.old) (W.grants_of words.old) self.old) self.new) }
         ensures made { Makes W.makes words.old result.access words.new }
         ensures stays { AccessIn (held_of self.old) result.access }
         ensures same { Same self.old self.new }
@@ -125,6 +125,7 @@ impl<S: Serve + Drop> Backend<S> {
         let turn = self.parts.connect_step(words, &self.read);
         let access = turn.access;
         let Some(end) = turn.done else {
+            self.activity = Activity::Connecting;
             return Step { access, said: None };
         };
         self.activity = Activity::Between;

@@ -9,7 +9,7 @@ use Rattle.pv_words.specs.Held.{Has, Covers, CoversToWrite}
 use Rattle.pv_words.specs.Plan.{Plan, Finished, Want, Load, Store, Swap, Clear, MayGo, wanted}
 use Rattle.grant_table.specs.Mapping.{unmap_want}
 use Rattle.link_core.specs.declared.link.Link.{Link}
-use Rattle.link_core.specs.Activities.{Joined, hold_list, pages_of, page_at, unmaps}
+use Rattle.link_core.specs.Activities.{pages_of, page_at, unmaps}
 use Rattle.link_core.specs.Link.{held_of, joined_of, page_of, drop_left, Leads}
 use Rattle.link_core.specs.Stays.{LiesIn, AccessIn}
 use Rattle.link_core.proofs.Links.{holds_at_most, page_held}

@@ -24,3 +24,4 @@ pub mod Wholes
 pub mod Opened
 pub mod Connects
 pub mod Faults
+pub mod Sleeps

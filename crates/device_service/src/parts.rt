@@ -3,9 +3,9 @@
 ghost use Rattle.std.specs.Prelude.{◌≡◌, ◌<◌, ◌≤◌, ◌==◌, [], IfOk, IsSome, Some, false, length, slice_get, true};
 ghost use Rattle.device_service.specs.Doing.{Whole};
 
-use crate::reading::number_at;
+use crate::reading::{event_ref, ring_ref};
 use link_core::Link;
-use pv_words::{Access, DomId, GrantRef, GrantRefusal, Hold, Turn, Words};
+use pv_words::{Access, DomId, GrantRefusal, Hold, Turn, Words};
 use ring_words::Looked;
 use std::alloc::{AllocError, Global};
 use xenbus_states::Nodes;
@@ -57,7 +57,7 @@ impl Parts {
     ghost use Rattle.ring_words.specs.declared.Looked.{Looked};
     ghost use Rattle.device_service.specs.declared.parts.Doing.TheVariants as doing;
     ghost use Rattle.device_service.specs.Nodes.{Ringed, refs_from};
-    ghost use Rattle.device_service.specs.Parts.{Connected, Drops, IsOpen, JoinsByAccess, Keeps, LeftBy, MayDrop, MayServe, MaySleep, Rests, Same, Slept, answer_left, answered_if, connect_left, connects, count_of, doing_of, dom_of, ending_of, held_of, joined_of, kind_in, kind_of, look_of, open_or, site_in, sleep_left, take_left, UndoneAs};
+    ghost use Rattle.device_service.specs.Parts.{Connected, Drops, IsOpen, JoinsByAccess, Keeps, LeftBy, MayDrop, MayServe, MaySleep, Rests, Same, Slept, answer_left, answered_if, connect_left, connects, count_of, doing_of, dom_of, ending_of, held_of, joined_of, kind_in, kind_of, look_of, open_or, site_in, sleep_left, slept_to, take_left, UndoneAs};
     ghost use Rattle.device_service.specs.Work.{connect_parts};
 
     /// So many parts of this domain's device, each with a ring or without, none of which is joined.
@@ -229,12 +229,8 @@ impl Parts {
             Doing::Undoing(why) => return self.undo(words, why),
             _ => unreachable!(),
         };
-        let ring = if self.ringed {
-            Some(GrantRef(number_at(nodes, part, 0)))
-        } else {
-            None
-        };
-        let event = GrantRef(number_at(nodes, part, if self.ringed { 2 } else { 0 }));
+        let ring = ring_ref(nodes, part, self.ringed);
+        let event = event_ref(nodes, part, self.ringed);
         let turn = self.links[part as usize].connect_step(words, ring, event);
         let access = turn.access;
         let Some(end) = turn.done else {
@@ -326,6 +322,16 @@ impl Parts {
         turn
     }
 
+    // The part that a Sleep has come to; it begins at the first.
+    fn slept_to(&self) -> u8
+        ensures { result ≡ slept_to (doing_of self.now) }
+    {
+        match self.doing {
+            Doing::Sleeping(part) => part,
+            _ => 0,
+        }
+    }
+
     /// The next access of a Sleep over all parts, in order. It ends with false at the first that has a request.
     pub fn sleep_step<W: Words>(&mut self, words: &mut W) -> Turn<bool>
         requires serving { MaySleep (doing_of self.old) }
@@ -337,10 +343,7 @@ impl Parts {
         ensures doing { Slept result.done (doing_of self.new) }
         ensures keeps { Keeps self.old self.new }
     {
-        let part = match self.doing {
-            Doing::Sleeping(part) => part,
-            _ => 0,
-        };
+        let part = self.slept_to();
         let turn = self.links[part as usize].sleep_step(words);
         let access = turn.access;
         let Some(quiet) = turn.done else {

@@ -1,5 +1,6 @@
 pub mod Claims
 pub mod Fitting
+pub mod Connecting
 pub mod Hearing
 pub mod HeldAll
 pub mod Leaving

@@ -1,5 +1,10 @@
 pub mod Claims
 pub mod Fitting
+pub mod Connecting
+pub mod Hearing
+pub mod HeldAll
+pub mod Leaving
+pub mod PartsLaws
 pub mod Sound
 pub mod Resting
 pub mod SoundBegins
@@ -21,4 +26,3 @@ pub mod Opened
 pub mod Connects
 pub mod Faults
 pub mod Sleeps
-pub mod PartsLaws

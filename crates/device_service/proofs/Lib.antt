@@ -14,3 +14,9 @@ mod SoundSettles
 mod SoundTells
 pub mod SoundWork
 pub mod Telling
+pub mod Held
+pub mod Lists
+pub mod Wholes
+pub mod Opened
+pub mod Connects
+pub mod Faults

@@ -162,7 +162,7 @@ LeftBy why (h ∷ hs) d = d ≡ doing.Undoing why
 -- they are joined by an access, never without one
 abbrev pub JoinsByAccess : Option Access → Option (Result (Unit {0}) GrantRefusal) → Type 0
 JoinsByAccess None (Some (Ok u)) = ⊥
-JoinsByAccess access done = Unit {0}
+JoinsByAccess access other = Unit {0}
 
 -- the parts rest: they are joined, or none holds a page
 abbrev pub Rests : Doing → Type 0

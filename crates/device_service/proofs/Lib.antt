@@ -20,3 +20,7 @@ pub mod Wholes
 pub mod Opened
 pub mod Connects
 pub mod Faults
+pub mod PartsLaws
+pub mod Works
+pub mod Serving
+pub mod Deeds

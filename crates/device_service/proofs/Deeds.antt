@@ -1,5 +1,5 @@
 -- What the steps of a service's activities come to.
-use Rattle.std.proofs.Common.{◌≡◌, inl, inr, ℕ, Bool, true, false, List, Option, Some, None, slice_get, refl, sym, ap, subst, ◌∙◌}
+use Rattle.std.proofs.Common.{◌≡◌, inl, inr, ℕ, [], Bool, true, false, List, ◌∷◌, Option, Some, None, slice_get, refl, sym, ap, subst, ◌∙◌}
 use Rattle.std.proofs.lemmas.Bool.{false≢true, true≢false}
 use Rattle.pv_words.specs.declared.access.Access.{Access}
 use Rattle.pv_words.specs.declared.device.Said.{Said}
@@ -19,6 +19,7 @@ use Rattle.device_service.specs.declared.serve.Serve.{Ghosts}
 use Rattle.device_service.specs.Activity.{is_serving}
 use Rattle.device_service.specs.Goes.{Begins, Comes, ComesAs}
 use Rattle.device_service.specs.Operating as op
+use Rattle.device_service.specs.Parts.{answer_of as parts_answer}
 use Rattle.device_service.specs.Service.{Deed, Job, Raises, Runs, Service, Starves, Works}
 use Rattle.device_service.specs.Stand.{stand_in, stand_of, work_of}
 use Rattle.device_service.specs.Work.{Answered, Done, End, Own, Work, answer_of, decides, decides_by, device, does, does_event, ring_page, said_at, serves_by, settled}
@@ -97,6 +98,10 @@ module _ {X A V : Type 0} (s : Service X A V) (site : Site) where
   pub begins_as : (o c : Order (Work X V) (End A V)) (access : Option Access) (event : Option Said) (new : Stand (Work X V) (End A V)) → o ≡ c → Begins s site c access event new → Begins s site o access event new
   begins_as o c access event new e h = subst (λ (x : Order (Work X V) (End A V)). Begins s site x access event new) (sym e) h
 
+  pub begins_to : (o c : Order (Work X V) (End A V)) (access : Option Access) (event : Option Said) (mid new : Stand (Work X V) (End A V)) → o ≡ c → new ≡ mid → Begins s site c access event mid → Begins s site o access event new
+  begins_to o c access event mid new e f h =
+      subst (λ (x : Stand (Work X V) (End A V)). Begins s site o access event x) (sym f) (begins_as o c access event mid e h)
+
   pub may_as : (may : Want → Type 0) (o c : Order (Work X V) (End A V)) → o ≡ c → MayChoose may o → MayChoose may c
   may_as may o c e h = subst (λ (x : Order (Work X V) (End A V)). MayChoose may x) e h
 
@@ -152,8 +157,8 @@ module _ {X A V : Type 0} (s : Service X A V) (site : Site) where
   of_first v page rsp reply u q None event new g = absurd g
   of_first v page rsp reply u q (Some a) event new g = inl (answer_in_page (λ b. Answered b) page rsp reply a g.0 g.1, g)
 
-  pub begins_starved : (w v : Work X V) (job : Job X A) (j : Joined) (at : Option Access) (said access' : Option Said) (access : Option Access) (event : Option Said) (y : X) (new : Stand (Work X V) (End A V)) → v ≡ record w { service = y } → Wanting job at said y → GoesOn (device s site) v (answer_of s y j) access event new → Begins s site (does s w job j) access event new
-  begins_starved w v job j at said access' access event y new e b g =
+  pub begins_starved : (w v : Work X V) (job : Job X A) (j : Joined) (at : Option Access) (told : Option Said) (access : Option Access) (event : Option Said) (y : X) (new : Stand (Work X V) (End A V)) → v ≡ record w { service = y } → Wanting job at told y → GoesOn (device s site) v (answer_of s y j) access event new → Begins s site (does s w job j) access event new
+  begins_starved w v job j at told access event y new e b g =
       let same : v ≡ record w { service = b.starved } = e ∙ ap (λ (x : X). record w { service = x }) b.left in
       let goes : GoesOn (device s site) (record w { service = b.starved }) (answer_of s b.starved j) access event new =
       subst (λ (x : X). GoesOn (device s site) (record w { service = b.starved }) (answer_of s x j) access event new) b.left
@@ -205,6 +210,76 @@ module _ {S E : Type 0} {g : Ghosts S E} (site : Site) where
       subst (λ (x : Stand (Work g.Known E) (End g.End E)). GoesOn (device g.service site) (work_of d) p access event x) (sym e)
       (goes_as g.service site (work_of d) (serving_work d) p access event mid (serving_is d serves) h)
 
-  pub begins_to : (o c : Order (Work g.Known E) (End g.End E)) (access : Option Access) (event : Option Said) (mid new : Stand (Work g.Known E) (End g.End E)) → o ≡ c → new ≡ mid → Begins g.service site c access event mid → Begins g.service site o access event new
-  begins_to o c access event mid new e f h =
-      subst (λ (x : Stand (Work g.Known E) (End g.End E)). Begins g.service site o access event x) (sym f) (begins_as g.service site o c access event mid e h)
+  -- an activity of the service for the request in hand, and one for a waiting event
+  module _ (d e : Backend S E g) (access : Option Access) (now : Now) (event : Option Said) where
+    pub works_on : d.activity ≡ activity.Working → e.activity ≡ activity.Working → serving_work e ≡ record (serving_work d) { service = g.knows e.service } → op.Continues g.service (g.knows d.service) (g.left site d.service) access now event (g.knows e.service) (g.left site e.service) → now ≡ phase.GoesOn → GoesOn (device g.service site) (work_of d) (mapped Own (g.left site d.service)) access event (stand_of site e)
+    works_on at at' same c n =
+        goes_to d (mapped Own (g.left site d.service)) access event (During (serving_work e) (mapped Own (g.left site e.service))) (stand_of site e) (ap is_serving at) (during_own e at')
+        (continues_on g.service site (λ a. Own a) (λ vs. vs) (own_end g.service site) (serving_work d) (serving_work e) now event (g.knows e.service) (g.left site e.service) (g.left site d.service) access same c n)
+
+    pub works_over : d.activity ≡ activity.Working → e.activity ≡ activity.Between → serving_work e ≡ record (serving_work d) { service = g.knows e.service } → op.Continues g.service (g.knows d.service) (g.left site d.service) access now event (g.knows e.service) (g.left site e.service) → (now ≡ phase.GoesOn → ⊥) → GoesOn (device g.service site) (work_of d) (mapped Own (g.left site d.service)) access event (stand_of site e)
+    works_over at at' same c n =
+        goes_to d (mapped Own (g.left site d.service)) access event (Between (serving_work e)) (stand_of site e) (ap is_serving at) (between_is site e at')
+        (continues_over g.service site (λ a. Own a) (λ vs. vs) (own_end g.service site) (serving_work d) (serving_work e) now event (g.knows e.service) (g.left site e.service) (g.left site d.service) access same c n)
+
+    pub serves_on : d.activity ≡ activity.Serving → e.activity ≡ activity.Serving → serving_work e ≡ record (serving_work d) { service = g.knows e.service } → op.Continues g.service (g.knows d.service) (g.left site d.service) access now event (g.knows e.service) (g.left site e.service) → now ≡ phase.GoesOn → GoesOn (device g.service site) (work_of d) (mapped Done (g.left site d.service)) access event (stand_of site e)
+    serves_on at at' same c n =
+        goes_to d (mapped Done (g.left site d.service)) access event (During (serving_work e) (mapped Done (g.left site e.service))) (stand_of site e) (ap is_serving at) (during_done e at')
+        (continues_on g.service site (λ a. Done a) (λ vs. behind vs) (done_end g.service site) (serving_work d) (serving_work e) now event (g.knows e.service) (g.left site e.service) (g.left site d.service) access same c n)
+
+    pub serves_over : d.activity ≡ activity.Serving → e.activity ≡ activity.Between → serving_work e ≡ record (serving_work d) { waiting = behind (serving_work d).waiting; service = g.knows e.service } → op.Continues g.service (g.knows d.service) (g.left site d.service) access now event (g.knows e.service) (g.left site e.service) → (now ≡ phase.GoesOn → ⊥) → GoesOn (device g.service site) (work_of d) (mapped Done (g.left site d.service)) access event (stand_of site e)
+    serves_over at at' same c n =
+        goes_to d (mapped Done (g.left site d.service)) access event (Between (serving_work e)) (stand_of site e) (ap is_serving at) (between_is site e at')
+        (continues_over g.service site (λ a. Done a) (λ vs. behind vs) (done_end g.service site) (serving_work d) (serving_work e) now event (g.knows e.service) (g.left site e.service) (g.left site d.service) access same c n)
+
+    -- their first steps, by the part `j`
+    module _ (o : Option Joined) (j : Joined) (there : o ≡ Some j) (at : d.activity ≡ activity.Between) where
+      pub decides_on : g.service.ready (g.knows d.service) ≡ false → e.activity ≡ activity.Working → serving_work e ≡ record (serving_work d) { service = g.knows e.service } → op.Begins g.service (g.service.job site (g.knows d.service)) access now event (g.knows e.service) (g.left site e.service) → now ≡ phase.GoesOn → Begins g.service site (decides_by g.service site (work_of d) o) access event (stand_of site e)
+      decides_on r at' same b n =
+          begins_to g.service site (decides_by g.service site (work_of d) o) (does g.service (serving_work d) (g.service.job site (g.knows d.service)) j) access event (During (serving_work e) (mapped Own (g.left site e.service))) (stand_of site e)
+          (decides_is g.service site (work_of d) (serving_work d) o j (serving_is d (ap is_serving at)) there r) (during_own e at')
+          (begins_on g.service site (serving_work d) (serving_work e) (g.service.job site (g.knows d.service)) j access now event (g.knows e.service) (g.left site e.service) same b n)
+
+      pub decides_over : g.service.ready (g.knows d.service) ≡ false → e.activity ≡ activity.Between → serving_work e ≡ record (serving_work d) { service = g.knows e.service } → op.Begins g.service (g.service.job site (g.knows d.service)) access now event (g.knows e.service) (g.left site e.service) → now ≡ phase.Over → Begins g.service site (decides_by g.service site (work_of d) o) access event (stand_of site e)
+      decides_over r at' same b n =
+          begins_to g.service site (decides_by g.service site (work_of d) o) (does g.service (serving_work d) (g.service.job site (g.knows d.service)) j) access event (Between (serving_work e)) (stand_of site e)
+          (decides_is g.service site (work_of d) (serving_work d) o j (serving_is d (ap is_serving at)) there r) (between_is site e at')
+          (begins_over g.service site (serving_work d) (serving_work e) (g.service.job site (g.knows d.service)) j access now event (g.knows e.service) (g.left site e.service) same b n)
+
+      -- memory is wanting, and the answer begins
+      pub decides_starved : (r : Backend S E g) (deed : Option Access) (told : Option Said) → g.service.ready (g.knows d.service) ≡ false → e.activity ≡ activity.Between → serving_work e ≡ record (serving_work d) { service = g.knows e.service } → Wanting g.service site (g.service.job site (g.knows d.service)) deed told (g.knows e.service) → GoesOn (device g.service site) (work_of e) (mapped Answered (parts_answer (g.service.reply (g.knows e.service)) o)) access event (stand_of site r) → Begins g.service site (decides_by g.service site (work_of d) o) access event (stand_of site r)
+      decides_starved r deed told ready at' same b h =
+          let w = serving_work d in
+          let goes : GoesOn (device g.service site) (serving_work e) (answer_of g.service (g.knows e.service) j) access event (stand_of site r) =
+          subst (λ (x : Work g.Known E). GoesOn (device g.service site) x (answer_of g.service (g.knows e.service) j) access event (stand_of site r)) (serving_is e (ap is_serving at'))
+          (subst (λ (x : Option Joined). GoesOn (device g.service site) (work_of e) (mapped Answered (parts_answer (g.service.reply (g.knows e.service)) x)) access event (stand_of site r)) there h) in
+          begins_as g.service site (decides_by g.service site (work_of d) o) (does g.service w (g.service.job site (g.knows d.service)) j) access event (stand_of site r)
+          (decides_is g.service site (work_of d) w o j (serving_is d (ap is_serving at)) there ready)
+          (begins_starved g.service site w (serving_work e) (g.service.job site (g.knows d.service)) j deed told access event (g.knows e.service) (stand_of site r) same b goes)
+
+      pub waits_on : (v : E) → op.is_raise (g.service.event (g.knows d.service) v) ≡ false → e.activity ≡ activity.Serving → serving_work e ≡ record (serving_work d) { service = g.knows e.service } → op.Serves g.service (g.knows d.service) (g.service.event (g.knows d.service) v) access now event (g.knows e.service) (g.left site e.service) → now ≡ phase.GoesOn → Begins g.service site (serves_by g.service (work_of d) v o) access event (stand_of site e)
+      waits_on v r at' same b n =
+          let k = serves_is g.service site (work_of d) (serving_work d) v o j (serving_is d (ap is_serving at)) there r in
+          begins_to g.service site (serves_by g.service (work_of d) v o) (Act (serving_work d) (mapped Done k.0)) access event (During (serving_work e) (mapped Done (g.left site e.service))) (stand_of site e) k.2 (during_done e at')
+          (comes_on g.service site (λ a. Done a) (λ vs. behind vs) (done_end g.service site) (serving_work d) (serving_work e) now event (g.knows e.service) (g.left site e.service) k.0 access same
+          (runs_first g.service site (g.knows d.service) (g.service.event (g.knows d.service) v) k.0 access now event (g.knows e.service) (g.left site e.service) k.1 b) n)
+
+      pub waits_over : (v : E) → op.is_raise (g.service.event (g.knows d.service) v) ≡ false → e.activity ≡ activity.Between → serving_work e ≡ record (serving_work d) { waiting = behind (serving_work d).waiting; service = g.knows e.service } → op.Serves g.service (g.knows d.service) (g.service.event (g.knows d.service) v) access now event (g.knows e.service) (g.left site e.service) → (now ≡ phase.GoesOn → ⊥) → Begins g.service site (serves_by g.service (work_of d) v o) access event (stand_of site e)
+      waits_over v r at' same b n =
+          let k = serves_is g.service site (work_of d) (serving_work d) v o j (serving_is d (ap is_serving at)) there r in
+          begins_to g.service site (serves_by g.service (work_of d) v o) (Act (serving_work d) (mapped Done k.0)) access event (Between (serving_work e)) (stand_of site e) k.2 (between_is site e at')
+          (comes_over g.service site (λ a. Done a) (λ vs. behind vs) (done_end g.service site) (serving_work d) (serving_work e) now event (g.knows e.service) (g.left site e.service) k.0 access same
+          (runs_first g.service site (g.knows d.service) (g.service.event (g.knows d.service) v) k.0 access now event (g.knows e.service) (g.left site e.service) k.1 b) n)
+
+  -- what may be done then
+  module _ (d : Backend S E g) (may : Want → Type 0) (o : Option Joined) (j : Joined) (there : o ≡ Some j) (at : d.activity ≡ activity.Between) where
+    pub may_decide : g.service.ready (g.knows d.service) ≡ false → MayChoose may (decides_by g.service site (work_of d) o) → MayChoose may (does g.service (serving_work d) (g.service.job site (g.knows d.service)) j)
+    may_decide r m =
+        may_as g.service site may (decides_by g.service site (work_of d) o) (does g.service (serving_work d) (g.service.job site (g.knows d.service)) j)
+        (decides_is g.service site (work_of d) (serving_work d) o j (serving_is d (ap is_serving at)) there r) m
+
+    pub may_wait : (v : E) → op.is_raise (g.service.event (g.knows d.service) v) ≡ false → MayChoose may (serves_by g.service (work_of d) v o) → op.MayDeed may (g.service.event (g.knows d.service) v)
+    may_wait v r m =
+        let k = serves_is g.service site (work_of d) (serving_work d) v o j (serving_is d (ap is_serving at)) there r in
+        may_deed g.service site may (g.service.event (g.knows d.service) v) k.0 k.1
+        (may_mapped may k.0 (λ a. Done a) (may_as g.service site may (serves_by g.service (work_of d) v o) (Act (serving_work d) (mapped Done k.0)) k.2 m))

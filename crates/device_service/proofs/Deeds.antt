@@ -247,15 +247,14 @@ module _ {S E : Type 0} {g : Ghosts S E} (site : Site) where
           (begins_over g.service site (serving_work d) (serving_work e) (g.service.job site (g.knows d.service)) j access now event (g.knows e.service) (g.left site e.service) same b n)
 
       -- memory is wanting, and the answer begins
-      pub decides_starved : (r : Backend S E g) (deed : Option Access) (told : Option Said) → g.service.ready (g.knows d.service) ≡ false → e.activity ≡ activity.Between → serving_work e ≡ record (serving_work d) { service = g.knows e.service } → Wanting g.service site (g.service.job site (g.knows d.service)) deed told (g.knows e.service) → GoesOn (device g.service site) (work_of e) (mapped Answered (parts_answer (g.service.reply (g.knows e.service)) o)) access event (stand_of site r) → Begins g.service site (decides_by g.service site (work_of d) o) access event (stand_of site r)
-      decides_starved r deed told ready at' same b h =
+      pub decides_starved : (z : Work g.Known E) (y : g.Known) (new : Stand (Work g.Known E) (End g.End E)) (deed : Option Access) (told : Option Said) → g.service.ready (g.knows d.service) ≡ false → z ≡ record (serving_work d) { service = y } → Wanting g.service site (g.service.job site (g.knows d.service)) deed told y → GoesOn (device g.service site) z (mapped Answered (parts_answer (g.service.reply y) o)) access event new → Begins g.service site (decides_by g.service site (work_of d) o) access event new
+      decides_starved z y new deed told ready same b h =
           let w = serving_work d in
-          let goes : GoesOn (device g.service site) (serving_work e) (answer_of g.service (g.knows e.service) j) access event (stand_of site r) =
-          subst (λ (x : Work g.Known E). GoesOn (device g.service site) x (answer_of g.service (g.knows e.service) j) access event (stand_of site r)) (serving_is e (ap is_serving at'))
-          (subst (λ (x : Option Joined). GoesOn (device g.service site) (work_of e) (mapped Answered (parts_answer (g.service.reply (g.knows e.service)) x)) access event (stand_of site r)) there h) in
-          begins_as g.service site (decides_by g.service site (work_of d) o) (does g.service w (g.service.job site (g.knows d.service)) j) access event (stand_of site r)
+          let goes : GoesOn (device g.service site) z (answer_of g.service y j) access event new =
+          subst (λ (x : Option Joined). GoesOn (device g.service site) z (mapped Answered (parts_answer (g.service.reply y) x)) access event new) there h in
+          begins_as g.service site (decides_by g.service site (work_of d) o) (does g.service w (g.service.job site (g.knows d.service)) j) access event new
           (decides_is g.service site (work_of d) w o j (serving_is d (ap is_serving at)) there ready)
-          (begins_starved g.service site w (serving_work e) (g.service.job site (g.knows d.service)) j deed told access event (g.knows e.service) (stand_of site r) same b goes)
+          (begins_starved g.service site w z (g.service.job site (g.knows d.service)) j deed told access event y new same b goes)
 
       pub waits_on : (v : E) → op.is_raise (g.service.event (g.knows d.service) v) ≡ false → e.activity ≡ activity.Serving → serving_work e ≡ record (serving_work d) { service = g.knows e.service } → op.Serves g.service (g.knows d.service) (g.service.event (g.knows d.service) v) access now event (g.knows e.service) (g.left site e.service) → now ≡ phase.GoesOn → Begins g.service site (serves_by g.service (work_of d) v o) access event (stand_of site e)
       waits_on v r at' same b n =

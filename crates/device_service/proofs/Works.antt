@@ -58,6 +58,13 @@ module _ {S E : Type 0} {g : Ghosts S E} where
       ap (λ (b : Bool). record (work_of d) { connecting = b }) (not_connecting d.activity e)
       ∙ ap (λ (b : Bool). record (work_of d) { connecting = false; service = known_in g.service.stripped b (g.knows d.service) }) (not_leaving d.activity e)
 
+  -- the same, but for what the service knows
+  pub serving_with : (d : Backend S E g) (y : g.Known) → is_serving d.activity ≡ true → record (work_of d) { service = known_in g.service.stripped (is_leaving d.activity) y } ≡ record (serving_work d) { service = y }
+  unfolding work_of
+  serving_with d y e =
+      ap (λ (b : Bool). record (work_of d) { connecting = b; service = known_in g.service.stripped (is_leaving d.activity) y }) (not_connecting d.activity e)
+      ∙ ap (λ (b : Bool). record (work_of d) { connecting = false; service = known_in g.service.stripped b y }) (not_leaving d.activity e)
+
 module _ {X A V : Type 0} (s : Service X A V) (site : Site) where
   pub goes_as : (z w : Work X V) (p : Plan (End A V)) (access : Option Access) (event : Option Said) (new : Stand (Work X V) (End A V)) → z ≡ w → GoesOn (device s site) w p access event new → GoesOn (device s site) z p access event new
   goes_as z w p access event new e h = subst (λ (x : Work X V). GoesOn (device s site) x p access event new) (sym e) h

@@ -2,7 +2,7 @@ use Rattle.std.proofs.Common.{◌≡◌, ◌∙◌, ℕ, Option, Some, ap, refl,
 use Rattle.link_core.specs.Activities.{Joined, answer_plan}
 use Rattle.pv_words.specs.Plan.{MayGo}
 use Rattle.device_core.specs.Site.{Site}
-use Rattle.device_service.specs.Activity.{hand_part, is_open}
+use Rattle.device_service.specs.Activity.{hand_part, is_open, is_serving}
 use Rattle.device_service.specs.Claims.{site_of}
 use Rattle.device_service.specs.Operating as op
 use Rattle.device_service.specs.Parts as of_parts
@@ -10,7 +10,7 @@ use Rattle.device_service.specs.Stand.{dom_of, held_of, parts_of, work_of}
 use Rattle.device_service.specs.Work.{ring_page}
 use Rattle.device_service.proofs.Deeds.{decides_on, decides_over, decides_starved, may_decide, may_job, may_starved, still, wanting}
 use Rattle.device_service.proofs.Serving.{in_parts, in_service, joined_at, open_between, open_in}
-use Rattle.device_service.proofs.Works.{serving_work}
+use Rattle.device_service.proofs.Works.{serving_with, serving_work}
 use Rattle.device_service.proofs.backend.Backend.decide.Goals as goal
 
 pub begin-deed-requires-clause-may : goal.begin-deed-requires-clause-may
@@ -58,7 +58,7 @@ returns-in-Answers-clause-begins g c =
     let b = wanting s (site (parts_of d)) (s.job (site (parts_of d)) x) _ _ _ _ _ begins c.in-Answers.is in
     let there : slice_get (of_parts.joined_of d.parts) (hand_part d.hand) ≡ (slice_get (of_parts.joined_of d.parts) c.args.hand.part) = ap (λ h. slice_get (of_parts.joined_of d.parts) (hand_part h)) c.requires.hand in
     let goes = c.reply.ensures.goes (site (parts_of d)) in
-    decides_starved (site (parts_of d)) d _ c.reply.result.access deed.result.now c.reply.result.said (slice_get (of_parts.joined_of d.parts) c.args.hand.part) j.0 j.1 c.requires.between c.reply.new.self deed.result.access deed.result.said c.requires.works c.requires.between refl b (rw there at goes)
+    decides_starved (site (parts_of d)) d d c.reply.result.access deed.result.now c.reply.result.said (slice_get (of_parts.joined_of d.parts) c.args.hand.part) j.0 j.1 c.requires.between _ (g.S.Serve.knows deed.new.self) _ deed.result.access deed.result.said c.requires.works (serving_with d (g.S.Serve.knows deed.new.self) (ap is_serving c.requires.between)) b (rw there at goes)
 
 pub returns-in-Answers-clause-stays : goal.returns-in-Answers-clause-stays
 unfolding held_of

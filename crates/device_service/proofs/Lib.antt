@@ -24,3 +24,4 @@ pub mod PartsLaws
 pub mod Works
 pub mod Serving
 pub mod Deeds
+pub mod Choices

@@ -147,6 +147,10 @@ module _ {S E : Type 0} {g : Ghosts S E} (site : Site) where
       ap (λ (a : Activity). stand_in site d (work_of d) a) e
       ∙ ap (λ (w : Work g.Known E). Between w) (serving_is d (ap is_serving e))
 
+  pub between_as : (d : Backend S E g) → d.activity ≡ activity.Between → stand_of site d ≡ Between (work_of d)
+  unfolding stand_of
+  between_as d e = ap (λ (a : Activity). stand_in site d (work_of d) a) e
+
   -- an activity ends with this step
   pub ends_between : {B : Type 0} (f : B → End g.End E) (d e : Backend S E g) (p : Plan B) (access : Option Access) (x : B) (q : Plan B) (event : Option Said) → is_serving d.activity ≡ true → e.activity ≡ activity.Between → Turns p access (Some x) q → event ≡ said_at g.service (serving_work d) (f x) → serving_work e ≡ settled g.service site (serving_work d) (f x) → GoesOn (device g.service site) (work_of d) (mapped f p) access event (stand_of site e)
   ends_between f d e p access x q event serves rests t says n =

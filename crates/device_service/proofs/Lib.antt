@@ -1,12 +1,21 @@
+pub mod Choices
 pub mod Claims
-pub mod Fitting
 pub mod Connecting
+pub mod Connects
+pub mod Deeds
+pub mod Faults
+pub mod Fitting
 pub mod Hearing
+pub mod Held
 pub mod HeldAll
 pub mod Leaving
+pub mod Lists
+pub mod Opened
 pub mod PartsLaws
-pub mod Sound
 pub mod Resting
+pub mod Serving
+pub mod Sleeps
+pub mod Sound
 pub mod SoundBegins
 mod SoundConnect
 mod SoundFound
@@ -19,10 +28,5 @@ mod SoundSettles
 mod SoundTells
 pub mod SoundWork
 pub mod Telling
-pub mod Held
-pub mod Lists
 pub mod Wholes
-pub mod Opened
-pub mod Connects
-pub mod Faults
-pub mod Sleeps
+pub mod Works

@@ -1,7 +1,8 @@
 //! What a connected backend does: it serves requests and its host's events, and sleeps.
 
 ghost use Rattle.std.specs.Prelude.{◌≡◌, ◌<◌, None, Some, is_some, length, not, slice_get, true, false};
-ghost use Rattle.device_service.specs.Activity.{MayServe, is_open};
+ghost use Rattle.device_service.specs.Activity.{MayServe, hand_part, is_open};
+ghost use Rattle.device_service.specs.Nodes.{Ringed};
 ghost use Rattle.device_service.specs.Parts as of_parts;
 ghost use Rattle.device_service.specs.Rows.{hand_in};
 ghost use Rattle.device_service.specs.Work.{next_look, part_in};
@@ -50,7 +51,7 @@ impl<S: Serve + Drop> Backend<S> {
     ghost use Rattle.device_service.specs.declared.backend.Activity.TheVariants as activity;
     ghost use Rattle.device_service.specs.declared.round.Round.TheVariants as round;
     ghost use Rattle.device_service.specs.Goes.{Begins};
-    ghost use Rattle.device_service.specs.Stand.{Same, hand_part, held_of, parts_of, site_at, stand_of, work_of};
+    ghost use Rattle.device_service.specs.Stand.{Same, held_of, parts_of, site_at, stand_of, work_of};
     ghost use Rattle.device_service.specs.Work.{Answered, Done, Own, Saw, Slept, Took, decides_by, device, looks_at, serves_by, with_hand};
 
     // The first step of what comes next while all parts are connected.
@@ -152,10 +153,10 @@ impl<S: Serve + Drop> Backend<S> {
         ensures same { Same self.old self.new }
     {
         let deed = self.service.go_on(self.dom, self.parts.len(), words);
-        self.activity = match deed.now {
-            Now::GoesOn => Activity::Working,
-            _ => Activity::Between,
-        };
+        match deed.now {
+            Now::GoesOn => {}
+            _ => self.activity = Activity::Between,
+        }
         Step {
             access: deed.access,
             said: deed.said,
@@ -217,7 +218,7 @@ impl<S: Serve + Drop> Backend<S> {
         requires may { MayGo (W.may words.old) (of_parts.answer_of (S.service.reply (S.knows self.old.service)) (slice_get (of_parts.joined_of self.old.parts) (hand_part self.old.hand))) }
         ensures goes { (site : Site) → GoesOn (device S.service site) (work_of self.old) (mapped Answered (of_parts.answer_of (S.service.reply (S.knows self.old.service)) (slice_get (of_parts.joined_of self.old.parts) (hand_part self.old.hand)))) result.access result.said (stand_of site self.new) }
         ensures made { Makes W.makes words.old result.access words.new }
-        ensures stays { AccessIn (held_of self.old) result.access }
+        ensures stays { AccessIn (of_parts.held_of self.old.parts) result.access }
         ensures same { Same self.old self.new }
     {
         self.reply = self.service.reply();
@@ -233,7 +234,7 @@ impl<S: Serve + Drop> Backend<S> {
         requires may { MayGo (W.may words.old) (of_parts.answer_left (hand_part self.old.hand) self.old.reply self.old.parts) }
         ensures goes { (site : Site) → GoesOn (device S.service site) (work_of self.old) (mapped Answered (of_parts.answer_left (hand_part self.old.hand) self.old.reply self.old.parts)) result.access result.said (stand_of site self.new) }
         ensures made { Makes W.makes words.old result.access words.new }
-        ensures stays { AccessIn (held_of self.old) result.access }
+        ensures stays { AccessIn (of_parts.held_of self.old.parts) result.access }
         ensures same { Same self.old self.new }
     {
         let Some(hand) = self.hand else {
@@ -259,6 +260,7 @@ impl<S: Serve + Drop> Backend<S> {
         requires serving { MayServe self.old.activity activity.Taking }
         requires opened { is_open self.old.activity self.old.closing self.old.connection.back ≡ true }
         requires hand { self.old.hand ≡ None }
+        requires ringed { S.service.kind ≡ Ringed }
         requires may { MayGo (W.may words.old) (of_parts.take_left self.old.at self.old.parts) }
         ensures goes { (site : Site) → GoesOn (device S.service site) (work_of self.old) (mapped Took (of_parts.take_left self.old.at self.old.parts)) result.access result.said (stand_of site self.new) }
         ensures made { Makes W.makes words.old result.access words.new }
@@ -287,6 +289,7 @@ impl<S: Serve + Drop> Backend<S> {
         requires serving { MayServe self.old.activity activity.Sleeping }
         requires opened { is_open self.old.activity self.old.closing self.old.connection.back ≡ true }
         requires hand { self.old.hand ≡ None }
+        requires ringed { S.service.kind ≡ Ringed }
         requires may { MayGo (W.may words.old) (of_parts.sleep_left self.old.parts) }
         ensures goes { (site : Site) → GoesOn (device S.service site) (work_of self.old) (mapped Slept (of_parts.sleep_left self.old.parts)) result.access result.said (stand_of site self.new) }
         ensures made { Makes W.makes words.old result.access words.new }
@@ -314,6 +317,7 @@ impl<S: Serve + Drop> Backend<S> {
         requires opened { is_open self.old.activity self.old.closing self.old.connection.back ≡ true }
         requires hand { self.old.hand ≡ None }
         requires round { self.old.round ≡ round.Looks part served }
+        requires ringed { S.service.kind ≡ Ringed }
         requires may { MayGo (W.may words.old) (of_parts.look_of (slice_get (of_parts.joined_of self.old.parts) part)) }
         ensures goes { (site : Site) → site.parts ≡ parts_of self.old → GoesOn (device S.service site) (work_of self.old) (mapped Saw (of_parts.look_of (slice_get (of_parts.joined_of self.old.parts) part))) result.access result.said (stand_of site self.new) }
         ensures made { Makes W.makes words.old result.access words.new }

@@ -2,19 +2,14 @@
 //! and names, and what its service owes for that. It is theory alone, which no program uses yet.
 #![tactic(auto)]
 
-mod backend;
 mod deed;
 mod laws;
-mod parts;
-mod reading;
 mod refusing;
 mod round;
 mod serve;
 
-pub use backend::{Activity, Backend};
 pub use deed::{Deed, Now};
 pub use laws::services_run;
-pub use parts::{Doing, Parts};
 pub use refusing::{Refusing, refusing_runs};
 pub use round::{Hand, Round};
 pub use serve::Serve;

@@ -4,6 +4,7 @@ pub mod Freeing
 pub mod Gets
 pub mod Held
 pub mod HeldAll
+pub mod Keeps
 pub mod Leaving
 pub mod Lefts
 pub mod Lists

@@ -6,6 +6,7 @@ pub mod Laws
 pub mod Left
 pub mod Machine
 pub mod Reply
+pub mod Service
 pub mod Stock
 pub mod Store
 pub mod Waiting

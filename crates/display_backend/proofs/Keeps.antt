@@ -56,7 +56,7 @@ use Rattle.device_service.specs.Rows.{made_if}
 use Rattle.device_service.specs.Claims.{KeepsLaws, site_of}
 use Rattle.device_service.specs.Laws.{AreHeld, AreLost, Facts, FitsBeside, IsOfService, IsRaise, IsTouching, Laws, Leads, Same, WantsFor, evidence}
 use Rattle.device_service.proofs.Fitting.{fits_carried}
-use Rattle.display_service.specs.Display.{reply_for, ready_for, goes_of, Known, Ending, Listed, Freed, Served, Lines, display, table, shows, freeing, ready_at, job_of, job_for, says_at, after_end}
+use Rattle.display_backend.specs.Service.{reply_for, ready_for, goes_of, Known, Ending, Listed, Freed, Served, Lines, display, table, shows, freeing, ready_at, job_of, job_for, says_at, after_end}
 
 -- a request in hand, as the display's lemmas speak of it
 abbrev hand_of : Request → Hand

@@ -2,6 +2,7 @@ pub mod Choices
 pub mod Deciding
 pub mod Freeing
 pub mod Gets
+pub mod HasWork
 pub mod Held
 pub mod HeldAll
 pub mod Keeps

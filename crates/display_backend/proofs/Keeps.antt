@@ -42,6 +42,8 @@ use Rattle.display_backend.specs.Stock.{Stock, pages_of, buffer_pages, pages_und
 use Rattle.display_backend.specs.Machine.{Hand, verdict, is_accepted, is_creation}
 use Rattle.display_backend.specs.Reply.{status_in}
 use Rattle.display_backend.specs.Work.{Naming, live_names, names_under, numbers, numbered, stock_after, is_denied, said_of}
+use Rattle.display_backend.specs.Kept as kept
+use Rattle.display_backend.specs.Kept.{hand_of, Come, HasCome, IsNamed, IsWalking, IsFreeing, facts}
 use Rattle.display_backend.proofs.HasWork.{create_accepted, create_refused, destroy_accepted, destroy_bare}
 use Rattle.display_backend.proofs.Order.{none_left, none_under, parted}
 use Rattle.display_backend.proofs.SoundAnswer.{answer_same, answer_sound, answer_none, answer_all, answer_rows, answer_names, answers_at, done_as}
@@ -58,38 +60,6 @@ use Rattle.device_service.specs.Claims.{KeepsLaws, site_of}
 use Rattle.device_service.specs.Laws.{AreHeld, AreLost, Facts, FitsBeside, IsOfService, IsRaise, IsTouching, Laws, Leads, Same, WantsFor, evidence}
 use Rattle.device_service.proofs.Fitting.{fits_carried}
 use Rattle.display_backend.specs.Service.{has_work, reply_for, ready_for, goes_of, Known, Ending, Listed, Freed, Served, Lines, display, table, shows, freeing, ready_at, job_of, job_for, says_at, after_end}
-
--- a request in hand, as the display's lemmas speak of it
-abbrev hand_of : Request → Hand
-hand_of q = record { part = 0; request = q }
-
-abbrev Come : Stock → Progress → Option Request → Type 0
-Come st p None = (p ≡ progress.Decided) × (st.mapped ≡ [])
-Come st p (Some q) = HasComeTo st (hand_of q) p
-
-abbrev HasCome : Bool → Known → Type 0
-HasCome b x = (is_some x.request ≡ b) × Come x.stock x.progress x.request
-
-abbrev IsNamed : Known → List ℕ → Type 0
-IsNamed x m = length m ≡ length x.stock.buffers
-
--- an accepted CREATE that has its pages mapped; an accepted DESTROY whose buffer has its pages unmapped
-pub record IsWalking (x : Known) : Type 0 where
-  pub request : Request
-  pub create : Create
-  pub in_hand : x.request ≡ Some request
-  pub creating : IsCreating x.stock (hand_of request) create
-  pub decided : x.progress ≡ progress.Decided
-  pub none : x.stock.mapped ≡ []
-
-pub record IsFreeing (x : Known) : Type 0 where
-  pub request : Request
-  pub cookie : ℕ
-  pub in_hand : x.request ≡ Some request
-  pub destroying : IsDestroying x.stock (hand_of request) cookie
-  pub decided : x.progress ≡ progress.Decided
-  pub bare : pages_under cookie x.stock.buffers ≡ []
-  pub none : x.stock.mapped ≡ []
 
 -- what isn't ready is decided
 ready_decided : (p : Progress) (working : Bool) → ready_at p working ≡ false → p ≡ progress.Decided
@@ -153,37 +123,22 @@ module _ (frames grants : ℕ → ℕ) (dom parts : ℕ) where
   site = site_of frames grants dom parts
 
   abbrev IsSane : Known → Type 0
-  IsSane x = AreOf (grants dom) dom (pages_of x.stock) × AreSound x.stock.buffers
-
-  abbrev HasListed : Walked → Type 0
-  HasListed (walked.Pages ps) = AreOf (grants dom) dom ps × (0 < length ps)
-  HasListed (walked.Refused why) = Unit {0}
+  IsSane x = kept.IsSane frames grants dom parts x
 
   abbrev EndsHeld : Known → Ending → Type 0
-  EndsHeld x (Listed came) = IsWalking x × HasListed came
-  EndsHeld x Freed = IsFreeing x
-  EndsHeld x (Served e) = ⊥
-
-  -- why the walk of the CREATE in hand was refused, as the words show that were found last
-  abbrev ListedFound : Known → Found → Walked → Type 0
-  ListedFound x f (walked.Pages ps) = Unit {0}
-  ListedFound x f (walked.Refused why) =
-      (q : Request) (c : Create) → x.request ≡ Some q → q.asked ≡ asked.Create c → walk.IsReason (frames dom) (grants dom) c.gref_directory Read f why
+  EndsHeld x a = kept.EndsHeld frames grants dom parts x a
 
   abbrev EndsFound : Known → Found → Ending → Type 0
-  EndsFound x f (Listed came) = ListedFound x f came
-  EndsFound x f Freed = Unit {0}
-  EndsFound x f (Served e) = Unit {0}
+  EndsFound x f a = kept.EndsFound frames grants dom parts x f a
 
   abbrev EndsOwn : Known → Found → List Touch → Ending → Type 0
-  EndsOwn x f ts a = EndsHeld x a × EndsFound x f a
+  EndsOwn x f ts a = kept.EndsOwn frames grants dom parts x f ts a
 
   abbrev EndsDone : Waiting → Known → Found → List Touch → Ending → Type 0
-  EndsDone e x f ts (Served v) = v ≡ e
-  EndsDone e x f ts other = ⊥
+  EndsDone e x f ts a = kept.EndsDone frames grants dom parts e x f ts a
 
   abbrev Meets : Known → Want → Note → Type 0
-  Meets x want note = IsUntouched note
+  Meets x want note = kept.Meets frames grants dom parts x want note
 
   -- an answer is one that the request may get
   answer_at : (x : Known) (q : Request) (p : Progress) (a : Asked) (b : Bool) → q.asked ≡ a → is_accepted (verdict x.stock.buffers q.asked) ≡ b → ready_at p (has_work x.stock.buffers a) ≡ true → HasComeTo x.stock (hand_of q) p → IsAnswerAt x.stock (hand_of q) p
@@ -508,10 +463,7 @@ module _ (frames grants : ℕ → ℕ) (dom parts : ℕ) where
   takes st None p words s h = (s, (refl, h.1.1))
   takes st (Some q) p words s h = absurd (true≢false h.0)
 
-  abbrev pub facts : Facts Known Ending Waiting (List ℕ)
-  facts = record { Sane = IsSane; Has = HasCome; Named = IsNamed; EndsOwn = EndsOwn; EndsDone = EndsDone; Meets = Meets }
-
-  pub laws : Laws display table shows facts site frames grants
+  pub laws : Laws display table shows (facts frames grants dom parts) site frames grants
   laws =
       record {
         kind_is = refl;

@@ -1,4 +1,5 @@
 pub mod Choices
+pub mod Counted
 pub mod Deciding
 pub mod Freeing
 pub mod Gets

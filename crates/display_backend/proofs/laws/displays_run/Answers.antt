@@ -2,7 +2,8 @@ use Rattle.device_service.proofs.Claims.{services_keep, services_run}
 use Rattle.device_service.proofs.Resting.{rests_asleep}
 use Rattle.device_service.proofs.Telling.{readings_tell}
 use Rattle.display_backend.specs.Service.{display, shows, table}
-use Rattle.display_backend.proofs.Keeps.{facts, keeps_laws}
+use Rattle.display_backend.specs.Kept.{facts}
+use Rattle.display_backend.proofs.Keeps.{keeps_laws}
 use Rattle.display_backend.proofs.laws.displays_run.Goals as goal
 
 pub returns-clause-runs : goal.returns-clause-runs

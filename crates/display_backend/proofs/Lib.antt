@@ -17,6 +17,7 @@ pub mod Places
 pub mod Rounds
 pub mod Serve
 pub mod Served
+pub mod Serviced
 pub mod Serving
 pub mod Sound
 pub mod SoundAnswer

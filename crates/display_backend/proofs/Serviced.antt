@@ -1,5 +1,5 @@
 -- What a step of a display's service comes to.
-use Rattle.std.proofs.Common.{◌≡◌, inl, inr, ℕ, zero, suc, ◌<◌, ◌++◌, Bool, true, false, not, cond, nat_lt, List, [], ◌∷◌, drop, length, Option, Some, None, Ok, Err, slice_get, is_some, refl, sym, ap, subst, ◌∙◌, arith}
+use Rattle.std.proofs.Common.{◌≡◌, inl, inr, ℕ, zero, suc, ℤ, ◌<◌, ◌++◌, Bool, true, false, not, cond, nat_lt, List, [], ◌∷◌, drop, length, Option, Some, None, Ok, Err, slice_get, is_some, refl, sym, ap, subst, ◌∙◌, arith}
 use Rattle.std.proofs.lemmas.Bool.{true≢false}
 use Rattle.pv_words.specs.declared.access.Access.{Access}
 use Rattle.pv_words.specs.declared.device.Said.{Said}
@@ -9,7 +9,8 @@ use Rattle.pv_words.specs.declared.grant.GrantRefusal.TheVariants.{NoEntry}
 use Rattle.pv_words.specs.declared.grant.Mode.TheVariants.{Read}
 use Rattle.pv_words.specs.declared.place.Place.TheVariants.{Cell, Grant}
 use Rattle.pv_words.specs.Memory.{place_of}
-use Rattle.pv_words.specs.Plan.{Plan, Finished, Make, Want, Load, Store, Swap, Clear, Goes, MayGo, Turns, IsUnfinished, joined, mapped, wanted}
+use Rattle.pv_words.specs.Plan as plan
+use Rattle.pv_words.specs.Plan.{Plan, Finished, Make, Want, Load, Store, Swap, Clear, MayGo, Turns, IsUnfinished, joined, mapped, wanted}
 use Rattle.grant_table.specs.Mapping.{flags_plan, unmap_want}
 use Rattle.displ_wire.specs.declared.Asked.{Asked}
 use Rattle.displ_wire.specs.declared.Asked.TheVariants as asked
@@ -19,7 +20,8 @@ use Rattle.display_buffers.specs.Buffers.{check_of, has_cookie}
 use Rattle.page_directory.specs.declared.walk.Walked.{Walked}
 use Rattle.page_directory.specs.declared.walk.Walked.TheVariants as walked
 use Rattle.page_directory.specs.Joins.{TurnsOrEnds}
-use Rattle.page_directory.specs.WalkLeft.{PagesByAccess}
+use Rattle.page_directory.specs.declared.walk.Walk.{Walk}
+use Rattle.page_directory.specs.WalkLeft.{PagesByAccess, walk_left, dom_of, held_by}
 use Rattle.page_directory.specs.Walking.{walk_plan, entry_plan, rest_plan, with_map}
 use Rattle.link_core.specs.Activities.{unmaps}
 use Rattle.link_core.specs.Stays.{LiesIn, AccessIn}
@@ -33,15 +35,21 @@ use Rattle.display_backend.specs.declared.course.Course.{Course}
 use Rattle.display_backend.specs.declared.course.Course.TheVariants.{Rests, Walks, Frees}
 use Rattle.display_backend.specs.declared.display.Progress.{Progress}
 use Rattle.display_backend.specs.declared.display.Progress.TheVariants as progress
-use Rattle.display_backend.specs.Course.{is_under_way, stock_at, left_at, Creates, Destroys, ComesTo, InHand, HasDestroy, Releases, Stands}
-use Rattle.display_backend.specs.Service.{Known, Ending, Listed, Freed, after_walk, display, has_work, ready_at, ready_for, says_at}
+use Rattle.display_backend.specs.Course.{Goes, is_under_way, is_walk_of, pages_walked, stock_at, left_at, Creates, Destroys, ComesTo, InHand, HasDestroy, Releases, Stands}
+use Rattle.display_backend.specs.Service.{Known, Ending, Listed, Freed, after_walk, display, has_work, ready_at, ready_for, reply_for, says_at}
 use Rattle.display_backend.specs.Stock.{Stock, Held, pages_of, pages_under, with_pages, less_one, bared, all_bared, stripped, first_less, without_first_in, without_first_of, without_first}
 use Rattle.display_backend.proofs.Freeing.{Clears}
 use Rattle.display_backend.proofs.Order.{buffers_stay, first_of_one, none_under, others_stay}
 use Rattle.display_backend.proofs.Out.{goes_mapped}
-use Rattle.display_backend.proofs.SoundRows.{AreLike, numbered_all_bared, same_check}
+use Rattle.display_backend.proofs.SoundRows.{AreLike, like_verdict, numbered_all_bared, numbered_bared, same_check}
 use Rattle.display_backend.proofs.Stocks.{bare_freed}
+use Rattle.display_backend.specs.Machine.{verdict}
+use Rattle.display_backend.specs.Reply.{reply_to, status_in}
 use Rattle.display_backend.specs.Work.{numbered}
+use Rattle.display_backend.proofs.Stays.{lies_left}
+use Rattle.device_core.specs.Site.{Site}
+use Rattle.device_service.specs.Claims.{site_of}
+use Rattle.std.proofs.lemmas.Bool.{eqb-true}
 
 abbrev stock : List Hold → List Held → Stock
 stock mapped buffers = record { mapped = mapped; buffers = buffers }
@@ -93,26 +101,6 @@ comes_further x (Finished came) None now told y left u c = absurd u
 comes_further x (Make want note more) None now told y left u c = let over = c.over in let wrong : ⊥ = cc over in absurd wrong
 comes_further x p (Some a) now told y left u c = c
 
--- it begins at a grant entry, or it is over at once
-entry_in_grant : (frames dom gref : ℕ) (more : Hold → Plan Walked) (b : Bool) (a : Access) (q : Plan Ending) → Goes (mapped Listed (joined (cond b (flags_plan frames dom gref Read) (Finished (Err (NoEntry gref)))) (with_map [] more))) a q → is_in_page (place_of a) ≡ false
-entry_in_grant frames dom gref more true a q g = ap is_in_page (place_wanted _ a g.0)
-entry_in_grant frames dom gref more false a q g = absurd g
-
-walk_in_grant : (frames grants dom gref count : ℕ) (a : Access) (q : Plan Ending) → Goes (mapped Listed (walk_plan frames grants dom gref Read count)) a q → is_in_page (place_of a) ≡ false
-unfolding walk_plan
-walk_in_grant frames grants dom gref zero a q g = absurd g
-walk_in_grant frames grants dom gref (suc n) a q g =
-    entry_in_grant frames dom gref (λ d. entry_plan frames grants dom Read (rest_plan frames grants dom Read n d 0) d 0 []) (nat_lt gref grants) a q g
-
-pub walk_out_of_pages : (x : Known) (frames grants dom gref count : ℕ) (access : Option Access) (now : Now) (told : Option Said) (y : Known) (left : Plan Ending) → Comes display x (mapped Listed (walk_plan frames grants dom gref Read count)) access now told y left → IsOutOfPages display access
-walk_out_of_pages x frames grants dom gref count None now told y left c = tt
-walk_out_of_pages x frames grants dom gref count (Some a) now told y left c = walk_in_grant frames grants dom gref count a c.0 c.1
-
--- where memory is wanting the request is to be answered
-pub ready_starved : (s : Stock) (hand : Option Request) → display.ready (knowing s hand progress.NoMemory) ≡ true
-ready_starved s None = refl
-ready_starved s (Some q) = refl
-
 -- an access to no page
 lies_in_none : (want : Want) (pages : List Hold) → LiesIn [] want → LiesIn pages want
 lies_in_none (Load (Cell d f w)) pages h = absurd h
@@ -146,7 +134,7 @@ drops_first [] left a some clears e = absurd (omega (arith, some))
 drops_first (h ∷ hs) left a some clears e = (clears h refl, e)
 
 -- the Release of a DESTROY
-unmap_goes : (hs : List Hold) (more : Plan Ending) (a : Access) → 0 < length hs → Clears hs a → Goes (unmaps hs more) a (unmaps (drop 1 hs) more)
+unmap_goes : (hs : List Hold) (more : Plan Ending) (a : Access) → 0 < length hs → Clears hs a → plan.Goes (unmaps hs more) a (unmaps (drop 1 hs) more)
 unmap_goes [] more a some clears = absurd (omega (arith, some))
 unmap_goes (h ∷ hs) more a some clears = (clears h refl, refl)
 
@@ -158,7 +146,7 @@ free_left_on x y (h ∷ hs) left some e l = (refl, refl, e, l)
 pub free_goes : (x y : Known) (p : Plan Ending) (hs rest : List Hold) (a : Access) (left : Plan Ending) → p ≡ unmaps hs (Finished Freed) → 0 < length hs → Clears hs a → rest ≡ drop 1 hs → 0 < length rest → y ≡ x → left ≡ unmaps rest (Finished Freed) → Continues display x p (Some a) GoesOn None y left
 free_goes x y p hs rest a left is some clears e more same l = (
   unmaps rest (Finished Freed),
-  subst (λ (z : Plan Ending). Goes z a (unmaps rest (Finished Freed))) (sym is) (subst (λ (z : List Hold). Goes (unmaps hs (Finished Freed)) a (unmaps z (Finished Freed))) (sym e) (unmap_goes hs (Finished Freed) a some clears)),
+  subst (λ (z : Plan Ending). plan.Goes z a (unmaps rest (Finished Freed))) (sym is) (subst (λ (z : List Hold). plan.Goes (unmaps hs (Finished Freed)) a (unmaps z (Finished Freed))) (sym e) (unmap_goes hs (Finished Freed) a some clears)),
   free_left_on x y rest left more same l,
 )
 
@@ -166,7 +154,7 @@ free_goes x y p hs rest a left is some clears e more same l = (
 pub free_ends : (x y : Known) (p : Plan Ending) (hs : List Hold) (a : Access) (left : Plan Ending) → p ≡ unmaps hs (Finished Freed) → 0 < length hs → Clears hs a → drop 1 hs ≡ [] → y ≡ record x { progress = progress.Released } → Continues display x p (Some a) Over None y left
 free_ends x y p hs a left is some clears e n = (
   Finished Freed,
-  subst (λ (z : Plan Ending). Goes z a (Finished Freed)) (sym is) (subst (λ (z : List Hold). Goes (unmaps hs (Finished Freed)) a (unmaps z (Finished Freed))) e (unmap_goes hs (Finished Freed) a some clears)),
+  subst (λ (z : Plan Ending). plan.Goes z a (Finished Freed)) (sym is) (subst (λ (z : List Hold). plan.Goes (unmaps hs (Finished Freed)) a (unmaps z (Finished Freed))) e (unmap_goes hs (Finished Freed) a some clears)),
   (refl, refl, n),
 )
 
@@ -284,3 +272,31 @@ strips_less course s t idle e =
     ∙ (ap (λ x. stripped x) e
     ∙ (buffers_stay s
     ∙ ap (λ x. stripped x) (sym (at_rest course s idle))))
+
+-- the walk under way goes on
+pub walk_continues : (frames grants : ℕ → ℕ) (dom parts : ℕ) (course mid : Course) (w : Walk) (hand : Option Request) (p : Progress) (s : Stock) (count : ℕ) (access : Option Access) (now : Now) (told : Option Said) (y : Known) (left : Site → Plan Ending) → course ≡ Walks w → mid ≡ Rests → is_walk_of dom course ≡ true → Stands course hand p s.buffers count → ((n : ℕ) → Comes display (knowing (stock_at mid s) hand p) (mapped Listed (walk_left (frames (dom_of w)) (grants (dom_of w)) w)) access now told y (left (site_of frames grants (dom_of w) n))) → Continues display (knowing (stock_at course s) hand p) (left_at (site_of frames grants dom parts) course s) access now told y (left (site_of frames grants dom parts))
+walk_continues frames grants dom parts course mid w hand p s count access now told y left is rests of st comes =
+    let dom_is : dom_of w ≡ dom = eqb-true _ _ (subst (λ (k : Course). is_walk_of dom k ≡ true) is of) in
+    let goes : Goes w = (subst (λ (k : Course). Stands k hand p s.buffers count) is st).2 in
+    let plan = walk_left (frames (dom_of w)) (grants (dom_of w)) w in
+    let from = subst (λ (k : Course). Comes display (knowing (stock_at k s) hand p) (mapped Listed plan) access now told y (left (site_of frames grants (dom_of w) parts))) rests (comes parts) in
+    let further = comes_further (knowing s hand p) plan access now told y (left (site_of frames grants (dom_of w) parts)) (goes.further (frames (dom_of w)) (grants (dom_of w))) from in
+    let at = subst (λ n. Continues display (knowing s hand p) (mapped Listed (walk_left (frames n) (grants n) w)) access now told y (left (site_of frames grants n parts))) dom_is further in
+    subst (λ (k : Course). Continues display (knowing (stock_at k s) hand p) (left_at (site_of frames grants dom parts) k s) access now told y (left (site_of frames grants dom parts))) (sym is) at
+
+-- in a page that it holds
+pub in_walked : (access : Option Access) (course : Course) (w : Walk) (s : Stock) → course ≡ Walks w → AccessIn (held_by w) access → AccessIn (pages_walked course ++ pages_of s) access
+in_walked None course w s is h = tt
+in_walked (Some a) course w s is h =
+    subst (λ (k : Course). LiesIn (pages_walked k ++ pages_of s) (wanted a)) (sym is) (lies_left (wanted a) (held_by w) (pages_of s) h)
+
+-- the verdict stays while pages are given up
+verdict_at : (course : Course) (s : Stock) (asks : Asked) → verdict (stock_at course s).buffers asks ≡ verdict s.buffers asks
+verdict_at Rests s asks = refl
+verdict_at (Walks w) s asks = refl
+verdict_at (Frees cookie) s asks = like_verdict (bared cookie s.buffers) s.buffers asks (numbered_bared cookie s.buffers [])
+
+pub reply_is : (course : Course) (q : Request) (hand : Option Request) (p : Progress) (s : Stock) (status : ℤ) → hand ≡ Some q → status ≡ status_in p (verdict s.buffers q.asked) → reply_to q status ≡ reply_for (knowing (stock_at course s) hand p) hand
+reply_is course q hand p s status is e =
+    ap (reply_to q) (e ∙ ap (status_in p) (sym (verdict_at course s q.asked)))
+    ∙ ap (λ (h : Option Request). reply_for (knowing (stock_at course s) h p) h) (sym is)

@@ -26,10 +26,10 @@ pub struct Refusing {
 impl Serve for Refusing {
     type Event = Never;
 
-    ghost use Rattle.std.specs.Prelude.{ℕ, Option, [], false, refl};
+    ghost use Rattle.std.specs.Prelude.{ℕ, Option, [], false, refl, true};
     ghost use Rattle.pv_words.specs.Plan.{Finished};
     ghost use Rattle.device_service.specs.Refusing.{facts, refused, refusing, shows_none};
-    ghost use Rattle.device_service.specs.RefusingKept.{keeps_laws, whole_replies};
+    ghost use Rattle.device_service.specs.RefusingKept.{whole_replies};
 
     ghost Known = { Option ℕ };
 
@@ -47,13 +47,13 @@ impl Serve for Refusing {
 
     ghost known = { λ frames grants dom parts. facts };
 
-    ghost laws = { keeps_laws };
-
     ghost knows = { λ s. s.word };
 
     ghost going = { λ s. false };
 
     ghost left = { λ site s. Finished tt };
+
+    ghost is_of = { λ dom s. true };
 
     ghost holds = { λ s. [] };
 
@@ -70,6 +70,8 @@ impl Serve for Refusing {
     ghost raises_none = { λ x e. refl };
 
     ghost owes_none = { λ x. refl };
+
+    fn keeps_laws() {}
 
     fn is_ringed() -> bool {
         true

@@ -49,9 +49,6 @@ pub trait Serve {
     /// What is known of it.
     ghost known: { (frames grants : ℕ → ℕ) → (dom parts : ℕ) → Facts Known End Self.Event Naming };
 
-    /// It keeps its laws.
-    ghost laws: { KeepsLaws service table shows known };
-
     /// What it knows.
     ghost knows: { Self → Known };
 
@@ -60,6 +57,9 @@ pub trait Serve {
 
     /// What is left of that.
     ghost left: { Site → Self → Plan End };
+
+    /// What is under way is of this domain.
+    ghost is_of: { ℕ → Self → Bool };
 
     /// The pages that it holds.
     ghost holds: { Self → List Hold };
@@ -83,6 +83,10 @@ pub trait Serve {
     ghost raises_none: { (x : Known) (e : Self.Event) → is_raise (service.event x e) ≡ false };
 
     ghost owes_none: { (x : Known) → service.owes x ≡ None };
+
+    /// It keeps its laws.
+    fn keeps_laws()
+        ensures { KeepsLaws service table shows known };
 
     /// Whether each part of its device has a ring.
     fn is_ringed() -> bool
@@ -121,7 +125,8 @@ pub trait Serve {
         ensures begins { Begins service (service.job (site_of (W.frames_of words.old) (W.grants_of words.old) dom.0 parts) (knows self.old)) result.access result.now result.said (knows self.new) (left (site_of (W.frames_of words.old) (W.grants_of words.old) dom.0 parts) self.new) }
         ensures made { Makes W.makes words.old result.access words.new }
         ensures stays { AccessIn (holds self.old) result.access }
-        ensures going { going self.new ≡ is_going result.now };
+        ensures going { going self.new ≡ is_going result.now }
+        ensures domain { is_of dom.0 self.new ≡ true };
 
     /// The first step of what a waiting event leads to.
     fn serve<W: Words>(&mut self, dom: DomId, parts: u8, words: &mut W, event: Self::Event) -> Deed
@@ -130,16 +135,19 @@ pub trait Serve {
         ensures serves { Serves service (knows self.old) (service.event (knows self.old) event) result.access result.now result.said (knows self.new) (left (site_of (W.frames_of words.old) (W.grants_of words.old) dom.0 parts) self.new) }
         ensures made { Makes W.makes words.old result.access words.new }
         ensures stays { AccessIn (holds self.old) result.access }
-        ensures going { going self.new ≡ is_going result.now };
+        ensures going { going self.new ≡ is_going result.now }
+        ensures domain { is_of dom.0 self.new ≡ true };
 
     /// The next step of the activity under way.
     fn go_on<W: Words>(&mut self, dom: DomId, parts: u8, words: &mut W) -> Deed
         requires going { going self.old ≡ true }
+        requires domain { is_of dom.0 self.old ≡ true }
         requires may { MayGo (W.may words.old) (left (site_of (W.frames_of words.old) (W.grants_of words.old) dom.0 parts) self.old) }
         ensures goes { Continues service (knows self.old) (left (site_of (W.frames_of words.old) (W.grants_of words.old) dom.0 parts) self.old) result.access result.now result.said (knows self.new) (left (site_of (W.frames_of words.old) (W.grants_of words.old) dom.0 parts) self.new) }
         ensures made { Makes W.makes words.old result.access words.new }
         ensures stays { AccessIn (holds self.old) result.access }
-        ensures going { going self.new ≡ is_going result.now };
+        ensures going { going self.new ≡ is_going result.now }
+        ensures domain { is_of dom.0 self.new ≡ true };
 
     /// The reply to the request in hand.
     fn reply(&self) -> [u32; 16]

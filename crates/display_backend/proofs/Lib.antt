@@ -1,9 +1,12 @@
 pub mod Choices
+pub mod Counted
 pub mod Deciding
 pub mod Freeing
 pub mod Gets
+pub mod HasWork
 pub mod Held
 pub mod HeldAll
+pub mod Keeps
 pub mod Leaving
 pub mod Lefts
 pub mod Lists
@@ -14,6 +17,7 @@ pub mod Places
 pub mod Rounds
 pub mod Serve
 pub mod Served
+pub mod Serviced
 pub mod Serving
 pub mod Sound
 pub mod SoundAnswer

@@ -40,6 +40,7 @@ use Rattle.device_core.specs.Site.{Site}
 use Rattle.display_backend.specs.Machine.{Hears, Hand, IsOwnCause, IsReason, IsStatus, needs_of, owes, verdict, is_accepted}
 use Rattle.display_backend.specs.Reply.{status_in}
 use Rattle.display_backend.specs.Work.{Work, Naming, End, Saw, Took, Listed, Freed, Answered, Slept, Met, Denied, Lacked, Shut, Left, Renewed, Served, all_pages, after_look, after_sleep, after_answer, after_walk, settled, told, bus_of, rows_of, is_denied, reading, display, refused_at, replied_in, said_at}
+pub use Rattle.display_backend.specs.Kept.{IsCreating, IsDestroying, HasComeTo}
 use Rattle.display_backend.proofs.SoundPlans.{AllOwn}
 
 -- what the domain has, and how many parts
@@ -60,24 +61,6 @@ IsNamed w m = length m.ids ≡ length w.stock.buffers
 
 abbrev pub IsServing : Work → Type 0
 IsServing w = (w.connection.back ≡ state.Connected) × (w.closing ≡ false)
-
--- the request in hand is a CREATE that is accepted, or a DESTROY of this cookie
-abbrev pub IsCreating : Stock → Hand → Create → Type 0
-IsCreating stock h c = (h.request.asked ≡ asked.Create c) × (verdict stock.buffers h.request.asked ≡ pos 0)
-
-abbrev pub IsDestroying : Stock → Hand → ℕ → Type 0
-IsDestroying stock h cookie =
-    (h.request.asked ≡ asked.Destroy cookie) × (verdict stock.buffers h.request.asked ≡ pos 0)
-
--- How far the request in hand has come: pages are mapped for an accepted CREATE alone, and those of the buffer of an accepted
--- DESTROY are unmapped.
-abbrev pub HasComeTo : Stock → Hand → Progress → Type 0
-HasComeTo stock h progress.Decided = stock.mapped ≡ []
-HasComeTo stock h progress.NoMemory = ((c : Create) × IsCreating stock h c) × (stock.mapped ≡ [])
-HasComeTo stock h progress.Denied = ((c : Create) × IsCreating stock h c) × (stock.mapped ≡ [])
-HasComeTo stock h progress.Mapped = ((c : Create) × IsCreating stock h c) × (0 < length stock.mapped)
-HasComeTo stock h progress.Released =
-    ((cookie : ℕ) × IsDestroying stock h cookie × (pages_under cookie stock.buffers ≡ [])) × (stock.mapped ≡ [])
 
 abbrev pub HasComeIn : Stock → Progress → Option Hand → Type 0
 HasComeIn stock p None = (p ≡ progress.Decided) × (stock.mapped ≡ [])

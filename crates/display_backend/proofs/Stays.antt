@@ -52,7 +52,7 @@ in_served access dom busy o ls k l opened fits lt e stays =
     in_all access ls k l e (stays ((fits k l e).both met))
 
 -- an access lies in the pages of some of several lists
-lies_left : (want : Want) (xs ys : List Hold) → LiesIn xs want → LiesIn (xs ++ ys) want
+pub lies_left : (want : Want) (xs ys : List Hold) → LiesIn xs want → LiesIn (xs ++ ys) want
 lies_left (Load (Cell d f w)) xs ys h = has_left (Covers d.0 f.0) xs ys h
 lies_left (Store (Cell d f w) v) xs ys h = has_left (CoversToWrite d.0 f.0) xs ys h
 lies_left (Swap (Cell d f w) old new) xs ys h = has_left (CoversToWrite d.0 f.0) xs ys h

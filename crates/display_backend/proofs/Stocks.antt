@@ -8,30 +8,8 @@ use Rattle.display_buffers.specs.Buffers.{has_cookie, buffer_of, check_of, made_
 use Rattle.display_buffers.specs.Pixels.{page_count}
 use Rattle.display_buffers.proofs.Checks.{passes}
 use Rattle.display_backend.specs.Stock.{Stock, Held, pages_of, buffer_pages, pages_under, with_pages, less_one, bared, all_bared, stripped}
+pub use Rattle.display_backend.specs.Kept.{left_nil, right_nil, bare_stripped}
 use Rattle.display_backend.specs.Whole.{HavePages, HavePagesBut}
-
-pub left_nil : {A : Type 0} (xs ys : List A) → xs ++ ys ≡ [] → xs ≡ []
-left_nil [] ys e = refl
-left_nil (x ∷ xs) ys e = let wrong : ⊥ = cc in absurd wrong
-
-pub right_nil : {A : Type 0} (xs ys : List A) → xs ++ ys ≡ [] → ys ≡ []
-right_nil [] ys e = e
-right_nil (x ∷ xs) ys e = let wrong : ⊥ = cc in absurd wrong
-
--- where no page is held, giving up all of them changes nothing
-bare_buffers : (bs : List Held) → buffer_pages bs ≡ [] → all_bared bs ≡ bs
-bare_buffers [] e = refl
-bare_buffers (b ∷ bs) e =
-    ap (λ pages. with_pages b pages ∷ all_bared bs) (sym (left_nil b.pages (buffer_pages bs) e))
-    ∙ ap (λ cs. b ∷ cs) (bare_buffers bs (right_nil b.pages (buffer_pages bs) e))
-
-abbrev stock : List Hold → List Held → Stock
-stock mapped buffers = record { mapped = mapped; buffers = buffers }
-
-pub bare_stripped : (s : Stock) → pages_of s ≡ [] → stripped s ≡ s
-bare_stripped s e =
-    ap (λ hs. stock hs (all_bared s.buffers)) (sym (left_nil s.mapped (buffer_pages s.buffers) e))
-    ∙ ap (stock s.mapped) (bare_buffers s.buffers (right_nil s.mapped (buffer_pages s.buffers) e))
 
 pub bare_freed : (cookie : ℕ) (bs : List Held) → pages_under cookie bs ≡ [] → bared cookie bs ≡ bs
 bare_freed cookie [] e = refl

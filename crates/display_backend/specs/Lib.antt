@@ -1,11 +1,16 @@
 pub mod Activity
+pub mod Course
+pub mod CourseFacts
 pub mod Display
 pub mod Facts
 pub mod Goes
+pub mod Kept
+pub mod Known
 pub mod Laws
 pub mod Left
 pub mod Machine
 pub mod Reply
+pub mod Service
 pub mod Stock
 pub mod Store
 pub mod Waiting

@@ -8,60 +8,13 @@ ghost use Rattle.display_backend.specs.Whole.{IsReady, IsDue, Creates};
 ghost use Rattle.display_backend.specs.Work.{stock_after};
 
 use super::{Activity, Display, Progress, Round};
-use crate::store::Store;
+use crate::verdict::{EACCES, ENOMEM, answered, verdict_on};
 use crate::waiting::said_of;
 use device_core::Step;
-use displ_wire::{Asked, Create, Refused, Request, decode, encode_reply, is_zero};
+use displ_wire::{Asked, Create, Request, decode, encode_reply};
 use page_directory::{Walk, Walked};
 use pv_words::{GrantRef, Mode, Reason, Said, Words};
 use ring_words::Looked;
-
-// The status where memory was wanting, and where a page was denied.
-const ENOMEM: i32 = -12;
-
-const EACCES: i32 = -13;
-
-// The verdict on a request.
-fn verdict_on(store: &Store, asked: &Asked) -> i32
-    ensures { result ≡ verdict (stock_of store.now).buffers asked.now }
-{
-    match asked {
-        Asked::Create(create) => match store.check(create) {
-            Ok(()) => 0,
-            Err(why) => why.status(),
-        },
-        Asked::Destroy(cookie) => {
-            if store.is_live(*cookie) {
-                0
-            } else {
-                Refused::Unknown.status()
-            }
-        }
-        Asked::Config(config) => {
-            if is_zero(config) {
-                0
-            } else {
-                Refused::Unknown.status()
-            }
-        }
-        _ => Refused::NotSupported.status(),
-    }
-}
-
-// What the reply to a request makes of the buffers.
-fn answered(store: &mut Store, asked: &Asked, status: i32)
-    requires { status ≡ pos 0 → IsReady asked.now (stock_of store.old) (is_whole store.old) }
-    ensures { stock_of store.new ≡ stock_after (stock_of store.old) asked.now (is_accepted status) }
-{
-    if status != 0 {
-        return;
-    }
-    match asked {
-        Asked::Create(create) => store.create(create),
-        Asked::Destroy(cookie) => store.destroy(*cookie),
-        _ => {}
-    }
-}
 
 impl Display {
     ghost use Rattle.pv_words.specs.declared.grant.Hold.{Hold};

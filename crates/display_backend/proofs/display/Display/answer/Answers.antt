@@ -16,6 +16,7 @@ use Rattle.display_backend.specs.Machine.{verdict, is_accepted}
 use Rattle.display_backend.specs.Reply.{status_in}
 use Rattle.display_backend.specs.Whole.{InHand, IsDue, Settled}
 use Rattle.display_backend.specs.Work.{Answered, stock_after, settled, said_at}
+use Rattle.display_backend.proofs.Counted.{ready_answer}
 use Rattle.display_backend.proofs.Serve.{here, serve_on, serve_ends}
 use Rattle.display_backend.proofs.Served.{served}
 use Rattle.display_backend.proofs.Stores.{stored_on, stored_none, quiet_serving, hand_answering, settled_after, ready_to}
@@ -126,4 +127,4 @@ answered-requires g c =
     let come = subst (λ (x : Option Request). InHand x d.progress (stock_of d.store) (is_whole d.store)) c.in-Some-hand.is (hand_answering c.requires.opened c.requires.serving d.stored) in
     let told = d.stored.told c.requires.opened q c.in-Some-hand.is in
     let fits_in : SFits w32 d.status = search rules in
-    λ zero. ready_to d.progress q.asked (stock_of d.store) (is_whole d.store) d.status come due told (sym (to_z-of_z w32 d.status fits_in) ∙ zero)
+    λ zero. ready_answer q.asked d.store (ready_to d.progress q.asked (stock_of d.store) (is_whole d.store) d.status come due told (sym (to_z-of_z w32 d.status fits_in) ∙ zero))

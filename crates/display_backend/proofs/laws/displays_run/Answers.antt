@@ -1,9 +1,10 @@
 use Rattle.device_service.proofs.Claims.{services_keep, services_run}
 use Rattle.device_service.proofs.Resting.{rests_asleep}
 use Rattle.device_service.proofs.Telling.{readings_tell}
-use Rattle.display_service.specs.Display.{display, shows, table}
-use Rattle.display_service.proofs.Keeps.{facts, keeps_laws}
-use Rattle.display_service.proofs.laws.displays_run.Goals as goal
+use Rattle.display_backend.specs.Service.{display, shows, table}
+use Rattle.display_backend.specs.Kept.{facts}
+use Rattle.display_backend.proofs.Keeps.{keeps_laws}
+use Rattle.display_backend.proofs.laws.displays_run.Goals as goal
 
 pub returns-clause-runs : goal.returns-clause-runs
 returns-clause-runs c = services_run display table shows facts keeps_laws

@@ -42,6 +42,9 @@ use Rattle.display_backend.specs.Stock.{Stock, pages_of, buffer_pages, pages_und
 use Rattle.display_backend.specs.Machine.{Hand, verdict, is_accepted, is_creation}
 use Rattle.display_backend.specs.Reply.{status_in}
 use Rattle.display_backend.specs.Work.{Naming, live_names, names_under, numbers, numbered, stock_after, is_denied, said_of}
+use Rattle.display_backend.specs.Kept as kept
+use Rattle.display_backend.specs.Kept.{hand_of, Come, HasCome, IsNamed, IsWalking, IsFreeing, facts}
+use Rattle.display_backend.proofs.HasWork.{create_accepted, create_refused, destroy_accepted, destroy_bare}
 use Rattle.display_backend.proofs.Order.{none_left, none_under, parted}
 use Rattle.display_backend.proofs.SoundAnswer.{answer_same, answer_sound, answer_none, answer_all, answer_rows, answer_names, answers_at, done_as}
 use Rattle.display_backend.proofs.SoundNames.{GoesFrom, names_none, none_bared, name_goes}
@@ -56,59 +59,15 @@ use Rattle.device_service.specs.Rows.{made_if}
 use Rattle.device_service.specs.Claims.{KeepsLaws, site_of}
 use Rattle.device_service.specs.Laws.{AreHeld, AreLost, Facts, FitsBeside, IsOfService, IsRaise, IsTouching, Laws, Leads, Same, WantsFor, evidence}
 use Rattle.device_service.proofs.Fitting.{fits_carried}
-use Rattle.display_service.specs.Display.{reply_for, ready_for, goes_of, Known, Ending, Listed, Freed, Served, Lines, display, table, shows, freeing, ready_at, job_of, job_for, says_at, after_end}
+use Rattle.display_backend.specs.Service.{has_work, reply_for, ready_for, goes_of, Known, Ending, Listed, Freed, Served, Lines, display, table, shows, freeing, ready_at, job_of, job_for, says_at, after_end}
 
--- a request in hand, as the display's lemmas speak of it
-abbrev hand_of : Request → Hand
-hand_of q = record { part = 0; request = q }
-
-abbrev Come : Stock → Progress → Option Request → Type 0
-Come st p None = (p ≡ progress.Decided) × (st.mapped ≡ [])
-Come st p (Some q) = HasComeTo st (hand_of q) p
-
-abbrev HasCome : Bool → Known → Type 0
-HasCome b x = (is_some x.request ≡ b) × Come x.stock x.progress x.request
-
-abbrev IsNamed : Known → List ℕ → Type 0
-IsNamed x m = length m ≡ length x.stock.buffers
-
--- an accepted CREATE that has its pages mapped; an accepted DESTROY whose buffer has its pages unmapped
-pub record IsWalking (x : Known) : Type 0 where
-  pub request : Request
-  pub create : Create
-  pub in_hand : x.request ≡ Some request
-  pub creating : IsCreating x.stock (hand_of request) create
-  pub decided : x.progress ≡ progress.Decided
-  pub none : x.stock.mapped ≡ []
-
-pub record IsFreeing (x : Known) : Type 0 where
-  pub request : Request
-  pub cookie : ℕ
-  pub in_hand : x.request ≡ Some request
-  pub destroying : IsDestroying x.stock (hand_of request) cookie
-  pub decided : x.progress ≡ progress.Decided
-  pub bare : pages_under cookie x.stock.buffers ≡ []
-  pub none : x.stock.mapped ≡ []
-
--- what makes a request one that leads to something
-data IsLed (q : Request) (x : Known) : Type 0 where
-  creates : (c : Create) → q.asked ≡ asked.Create c → IsLed q x
-  destroys : (cookie : ℕ) → q.asked ≡ asked.Destroy cookie → IsLed q x
-
-led : (q : Request) (x : Known) (p : Progress) (a : Asked) (b : Bool) → q.asked ≡ a → is_accepted (verdict x.stock.buffers q.asked) ≡ b → x.progress ≡ p → ready_at p a b ≡ false → IsLed q x × (verdict x.stock.buffers q.asked ≡ pos 0) × (x.progress ≡ progress.Decided)
-led q x progress.Decided (asked.Create c) true e f g h = (creates c e, accepted_is _ f, g)
-led q x progress.Decided (asked.Destroy cookie) true e f g h = (destroys cookie e, accepted_is _ f, g)
-led q x progress.Decided (asked.Create c) false e f g h = absurd (true≢false h)
-led q x progress.Decided (asked.Destroy cookie) false e f g h = absurd (true≢false h)
-led q x progress.Decided (asked.Config c) b e f g h = absurd (true≢false h)
-led q x progress.Decided (asked.Attach c) b e f g h = absurd (true≢false h)
-led q x progress.Decided (asked.Detach c) b e f g h = absurd (true≢false h)
-led q x progress.Decided (asked.Flip c) b e f g h = absurd (true≢false h)
-led q x progress.Decided asked.Other b e f g h = absurd (true≢false h)
-led q x progress.NoMemory a b e f g h = absurd (true≢false h)
-led q x progress.Denied a b e f g h = absurd (true≢false h)
-led q x progress.Mapped a b e f g h = absurd (true≢false h)
-led q x progress.Released a b e f g h = absurd (true≢false h)
+-- what isn't ready is decided
+ready_decided : (p : Progress) (working : Bool) → ready_at p working ≡ false → p ≡ progress.Decided
+ready_decided progress.Decided working h = refl
+ready_decided progress.NoMemory working h = absurd (true≢false h)
+ready_decided progress.Denied working h = absurd (true≢false h)
+ready_decided progress.Mapped working h = absurd (true≢false h)
+ready_decided progress.Released working h = absurd (true≢false h)
 
 and_right : (a b : Bool) → (a && b) ≡ true → b ≡ true
 and_right true b h = h
@@ -164,43 +123,28 @@ module _ (frames grants : ℕ → ℕ) (dom parts : ℕ) where
   site = site_of frames grants dom parts
 
   abbrev IsSane : Known → Type 0
-  IsSane x = AreOf (grants dom) dom (pages_of x.stock) × AreSound x.stock.buffers
-
-  abbrev HasListed : Walked → Type 0
-  HasListed (walked.Pages ps) = AreOf (grants dom) dom ps × (0 < length ps)
-  HasListed (walked.Refused why) = Unit {0}
+  IsSane x = kept.IsSane frames grants dom parts x
 
   abbrev EndsHeld : Known → Ending → Type 0
-  EndsHeld x (Listed came) = IsWalking x × HasListed came
-  EndsHeld x Freed = IsFreeing x
-  EndsHeld x (Served e) = ⊥
-
-  -- why the walk of the CREATE in hand was refused, as the words show that were found last
-  abbrev ListedFound : Known → Found → Walked → Type 0
-  ListedFound x f (walked.Pages ps) = Unit {0}
-  ListedFound x f (walked.Refused why) =
-      (q : Request) (c : Create) → x.request ≡ Some q → q.asked ≡ asked.Create c → walk.IsReason (frames dom) (grants dom) c.gref_directory Read f why
+  EndsHeld x a = kept.EndsHeld frames grants dom parts x a
 
   abbrev EndsFound : Known → Found → Ending → Type 0
-  EndsFound x f (Listed came) = ListedFound x f came
-  EndsFound x f Freed = Unit {0}
-  EndsFound x f (Served e) = Unit {0}
+  EndsFound x f a = kept.EndsFound frames grants dom parts x f a
 
   abbrev EndsOwn : Known → Found → List Touch → Ending → Type 0
-  EndsOwn x f ts a = EndsHeld x a × EndsFound x f a
+  EndsOwn x f ts a = kept.EndsOwn frames grants dom parts x f ts a
 
   abbrev EndsDone : Waiting → Known → Found → List Touch → Ending → Type 0
-  EndsDone e x f ts (Served v) = v ≡ e
-  EndsDone e x f ts other = ⊥
+  EndsDone e x f ts a = kept.EndsDone frames grants dom parts e x f ts a
 
   abbrev Meets : Known → Want → Note → Type 0
-  Meets x want note = IsUntouched note
+  Meets x want note = kept.Meets frames grants dom parts x want note
 
   -- an answer is one that the request may get
-  answer_at : (x : Known) (q : Request) (p : Progress) (a : Asked) (b : Bool) → q.asked ≡ a → is_accepted (verdict x.stock.buffers q.asked) ≡ b → ready_at p a b ≡ true → HasComeTo x.stock (hand_of q) p → IsAnswerAt x.stock (hand_of q) p
-  answer_at x q progress.Decided (asked.Create c) true e f h come = absurd (false≢true h)
+  answer_at : (x : Known) (q : Request) (p : Progress) (a : Asked) (b : Bool) → q.asked ≡ a → is_accepted (verdict x.stock.buffers q.asked) ≡ b → ready_at p (has_work x.stock.buffers a) ≡ true → HasComeTo x.stock (hand_of q) p → IsAnswerAt x.stock (hand_of q) p
+  answer_at x q progress.Decided (asked.Create c) true e f h come = absurd (false≢true (sym (create_refused x.stock.buffers q.asked c e h) ∙ f))
   answer_at x q progress.Decided (asked.Create c) false e f h come = (done_as x.stock q.asked (asked.Create c) (is_accepted (verdict x.stock.buffers q.asked)) false e f come, inl refl)
-  answer_at x q progress.Decided (asked.Destroy k) true e f h come = absurd (false≢true h)
+  answer_at x q progress.Decided (asked.Destroy k) true e f h come = (done_as x.stock q.asked (asked.Destroy k) (is_accepted (verdict x.stock.buffers q.asked)) true e f (destroy_bare x.stock.buffers q.asked k h, come), inl refl)
   answer_at x q progress.Decided (asked.Destroy k) false e f h come = (done_as x.stock q.asked (asked.Destroy k) (is_accepted (verdict x.stock.buffers q.asked)) false e f come, inl refl)
   answer_at x q progress.Decided (asked.Config c) b e f h come = (done_as x.stock q.asked (asked.Config c) (is_accepted (verdict x.stock.buffers q.asked)) b e f come, inl refl)
   answer_at x q progress.Decided (asked.Attach c) b e f h come = (done_as x.stock q.asked (asked.Attach c) (is_accepted (verdict x.stock.buffers q.asked)) b e f come, inl refl)
@@ -339,33 +283,31 @@ module _ (frames grants : ℕ → ℕ) (dom parts : ℕ) where
   abbrev Begun : Known → Known → Plan Ending → Type 0
   Begun x y pl = IsSane y × HasCome true y × FitsBeside display frames grants dom Meets EndsOwn x y pl
 
-  begins_in : (x : Known) (q : Request) → x.request ≡ Some q → IsSane x → HasComeTo x.stock (hand_of q) x.progress → (p : Progress) (a : Asked) (b : Bool) → x.progress ≡ p → q.asked ≡ a → is_accepted (verdict x.stock.buffers q.asked) ≡ b → ready_at p a b ≡ false → (y : Known) (pl : Plan Ending) → Leads (job_of site x a) y pl → Begun x y pl
-  begins_in x q has s come progress.Decided (asked.Create c) true e f g h y pl leads =
+  begins_in : (x : Known) (q : Request) → x.request ≡ Some q → IsSane x → HasComeTo x.stock (hand_of q) x.progress → (p : Progress) (a : Asked) → x.progress ≡ p → q.asked ≡ a → ready_at p (has_work x.stock.buffers a) ≡ false → (y : Known) (pl : Plan Ending) → Leads (job_of site x a) y pl → Begun x y pl
+  begins_in x q has s come progress.Decided (asked.Create c) e f h y pl leads =
       let none : x.stock.mapped ≡ [] = subst (λ z. HasComeTo x.stock (hand_of q) z) e come in
-      let w : IsWalking x = record { request = q; create = c; in_hand = has; creating = (f, accepted_is _ g); decided = e; none = none } in
+      let w : IsWalking x = record { request = q; create = c; in_hand = has; creating = (f, create_accepted x.stock.buffers q.asked c f h); decided = e; none = none } in
       subst (λ z. Begun x z pl) leads.0 (subst (λ z. Begun x x z) leads.1
       (s, (ap (λ o. is_some o) has, subst (λ (o : Option Request). Come x.stock x.progress o) (sym has) come), beside x x (mapped (λ z. Listed z) (walk_plan (frames dom) (grants dom) dom c.gref_directory Read (walking.pages_of c.buffer_sz))) (λ rest held same. walk_fits x w rest held same) (λ f. walk_found x w f)))
-  begins_in x q has s come progress.Decided (asked.Destroy cookie) true e f g h y pl leads =
+  begins_in x q has s come progress.Decided (asked.Destroy cookie) e f h y pl leads =
       let none : x.stock.mapped ≡ [] = subst (λ z. HasComeTo x.stock (hand_of q) z) e come in
-      let destroying : IsDestroying x.stock (hand_of q) cookie = (f, accepted_is _ g) in
+      let destroying : IsDestroying x.stock (hand_of q) cookie = (f, destroy_accepted x.stock.buffers q.asked cookie f h) in
       let new = freeing x cookie in
       subst (λ z. Begun x z pl) leads.0 (subst (λ z. Begun x new z) leads.1
       (freed_sane x q cookie s has e destroying none, (ap (λ o. is_some o) has, subst (λ (o : Option Request). Come new.stock x.progress o) (sym has) (subst (λ z. HasComeTo new.stock (hand_of q) z) (sym e) none)), beside x new (unmaps (pages_under cookie x.stock.buffers) (Finished Freed)) (λ rest held same. freed_fits x q cookie s has e destroying none rest held same) (λ f. unmaps_found (EndsFound new) f (pages_under cookie x.stock.buffers) (Finished Freed) tt)))
-  begins_in x q has s come progress.Decided (asked.Create c) false e f g h y pl leads = absurd (true≢false h)
-  begins_in x q has s come progress.Decided (asked.Destroy c) false e f g h y pl leads = absurd (true≢false h)
-  begins_in x q has s come progress.Decided (asked.Config c) b e f g h y pl leads = absurd (true≢false h)
-  begins_in x q has s come progress.Decided (asked.Attach c) b e f g h y pl leads = absurd (true≢false h)
-  begins_in x q has s come progress.Decided (asked.Detach c) b e f g h y pl leads = absurd (true≢false h)
-  begins_in x q has s come progress.Decided (asked.Flip c) b e f g h y pl leads = absurd (true≢false h)
-  begins_in x q has s come progress.Decided asked.Other b e f g h y pl leads = absurd (true≢false h)
-  begins_in x q has s come progress.NoMemory a b e f g h y pl leads = absurd (true≢false h)
-  begins_in x q has s come progress.Denied a b e f g h y pl leads = absurd (true≢false h)
-  begins_in x q has s come progress.Mapped a b e f g h y pl leads = absurd (true≢false h)
-  begins_in x q has s come progress.Released a b e f g h y pl leads = absurd (true≢false h)
+  begins_in x q has s come progress.Decided (asked.Config c) e f h y pl leads = absurd (true≢false h)
+  begins_in x q has s come progress.Decided (asked.Attach c) e f h y pl leads = absurd (true≢false h)
+  begins_in x q has s come progress.Decided (asked.Detach c) e f h y pl leads = absurd (true≢false h)
+  begins_in x q has s come progress.Decided (asked.Flip c) e f h y pl leads = absurd (true≢false h)
+  begins_in x q has s come progress.Decided asked.Other e f h y pl leads = absurd (true≢false h)
+  begins_in x q has s come progress.NoMemory a e f h y pl leads = absurd (true≢false h)
+  begins_in x q has s come progress.Denied a e f h y pl leads = absurd (true≢false h)
+  begins_in x q has s come progress.Mapped a e f h y pl leads = absurd (true≢false h)
+  begins_in x q has s come progress.Released a e f h y pl leads = absurd (true≢false h)
 
   begins : (st : Stock) (o : Option Request) (p : Progress) (y : Known) (pl : Plan Ending) → IsSane (known st o p) → HasCome true (known st o p) → display.ready (known st o p) ≡ false → Leads (job_for site (known st o p) o) y pl → Begun (known st o p) y pl
   begins st None p y pl s h r leads = absurd (false≢true h.0)
-  begins st (Some q) p y pl s h r leads = begins_in (known st (Some q) p) q refl s h.1 p q.asked (is_accepted (verdict st.buffers q.asked)) refl refl refl r y pl leads
+  begins st (Some q) p y pl s h r leads = begins_in (known st (Some q) p) q refl s h.1 p q.asked refl refl r y pl leads
 
   begins_shows : (st : Stock) (o : Option Request) (p : Progress) (y : Known) (pl : Plan Ending) (m : List ℕ) → display.ready (known st o p) ≡ false → Leads (job_for site (known st o p) o) y pl → IsNamed (known st o p) m → IsNamed y m × (shows.rows y m ≡ shows.rows (known st o p) m)
   begins_shows st None p y pl m r leads named = absurd (true≢false r)
@@ -401,34 +343,33 @@ module _ (frames grants : ℕ → ℕ) (dom parts : ℕ) where
   abbrev Starving : Known → Known → Type 0
   Starving x y = IsSane y × HasCome true y × (display.ready y ≡ true) × AreSame (pages_of x.stock) (pages_of y.stock)
 
-  starves_in : (x : Known) (q : Request) → x.request ≡ Some q → IsSane x → HasComeTo x.stock (hand_of q) x.progress → (p : Progress) (a : Asked) (b : Bool) → x.progress ≡ p → q.asked ≡ a → is_accepted (verdict x.stock.buffers q.asked) ≡ b → ready_at p a b ≡ false → (y : Known) → WantsFor (job_of site x a) y → Starving x y
-  starves_in x q has s come progress.Decided (asked.Create c) true e f g h y wants =
+  starves_in : (x : Known) (q : Request) → x.request ≡ Some q → IsSane x → HasComeTo x.stock (hand_of q) x.progress → (p : Progress) (a : Asked) → x.progress ≡ p → q.asked ≡ a → ready_at p (has_work x.stock.buffers a) ≡ false → (y : Known) → WantsFor (job_of site x a) y → Starving x y
+  starves_in x q has s come progress.Decided (asked.Create c) e f h y wants =
       let none : x.stock.mapped ≡ [] = subst (λ z. HasComeTo x.stock (hand_of q) z) e come in
       let new : Known = record x { progress = progress.NoMemory } in
       subst (λ z. Starving x z) wants
-      (s, (ap (λ o. is_some o) has, subst (λ (o : Option Request). Come x.stock progress.NoMemory o) (sym has) ((c, (f, accepted_is _ g)), none)), subst (λ (o : Option Request). ready_for new o ≡ true) (sym has) refl, (λ k. refl))
-  starves_in x q has s come progress.Decided (asked.Create c) false e f g h y wants = absurd (true≢false h)
-  starves_in x q has s come p (asked.Destroy c) b e f g h y wants = absurd wants
-  starves_in x q has s come p (asked.Config c) b e f g h y wants = absurd wants
-  starves_in x q has s come p (asked.Attach c) b e f g h y wants = absurd wants
-  starves_in x q has s come p (asked.Detach c) b e f g h y wants = absurd wants
-  starves_in x q has s come p (asked.Flip c) b e f g h y wants = absurd wants
-  starves_in x q has s come p asked.Other b e f g h y wants = absurd wants
-  starves_in x q has s come progress.NoMemory (asked.Create c) b e f g h y wants = absurd (true≢false h)
-  starves_in x q has s come progress.Denied (asked.Create c) b e f g h y wants = absurd (true≢false h)
-  starves_in x q has s come progress.Mapped (asked.Create c) b e f g h y wants = absurd (true≢false h)
-  starves_in x q has s come progress.Released (asked.Create c) b e f g h y wants = absurd (true≢false h)
+      (s, (ap (λ o. is_some o) has, subst (λ (o : Option Request). Come x.stock progress.NoMemory o) (sym has) ((c, (f, create_accepted x.stock.buffers q.asked c f h)), none)), subst (λ (o : Option Request). ready_for new o ≡ true) (sym has) refl, (λ k. refl))
+  starves_in x q has s come p (asked.Destroy c) e f h y wants = absurd wants
+  starves_in x q has s come p (asked.Config c) e f h y wants = absurd wants
+  starves_in x q has s come p (asked.Attach c) e f h y wants = absurd wants
+  starves_in x q has s come p (asked.Detach c) e f h y wants = absurd wants
+  starves_in x q has s come p (asked.Flip c) e f h y wants = absurd wants
+  starves_in x q has s come p asked.Other e f h y wants = absurd wants
+  starves_in x q has s come progress.NoMemory (asked.Create c) e f h y wants = absurd (true≢false h)
+  starves_in x q has s come progress.Denied (asked.Create c) e f h y wants = absurd (true≢false h)
+  starves_in x q has s come progress.Mapped (asked.Create c) e f h y wants = absurd (true≢false h)
+  starves_in x q has s come progress.Released (asked.Create c) e f h y wants = absurd (true≢false h)
 
   starves : (st : Stock) (o : Option Request) (p : Progress) (y : Known) → IsSane (known st o p) → HasCome true (known st o p) → display.ready (known st o p) ≡ false → WantsFor (job_for site (known st o p) o) y → Starving (known st o p) y
   starves st None p y s h r wants = absurd wants
-  starves st (Some q) p y s h r wants = starves_in (known st (Some q) p) q refl s h.1 p q.asked (is_accepted (verdict st.buffers q.asked)) refl refl refl r y wants
+  starves st (Some q) p y s h r wants = starves_in (known st (Some q) p) q refl s h.1 p q.asked refl refl r y wants
 
   starves_shows : (st : Stock) (o : Option Request) (p : Progress) (y : Known) (m : List ℕ) → IsSane (known st o p) → HasCome true (known st o p) → display.ready (known st o p) ≡ false → WantsFor (job_for site (known st o p) o) y → IsNamed (known st o p) m → Same shows IsNamed (known st o p) y m × (shows.goes (known st o p) m ≡ [])
   starves_shows st None p y m s h r wants named = absurd wants
   starves_shows st (Some q) p y m s h r wants named = same_in q.asked wants decided
     where
       decided : p ≡ progress.Decided
-      decided = (led q (known st (Some q) p) p q.asked (is_accepted (verdict st.buffers q.asked)) refl refl refl r).2
+      decided = ready_decided p (has_work st.buffers q.asked) r
 
       same_in : (a : Asked) → WantsFor (job_of site (known st (Some q) p) a) y → p ≡ progress.Decided → Same shows IsNamed (known st (Some q) p) y m × (goes_of (known st (Some q) p) m a ≡ [])
       same_in (asked.Create c) wants e =
@@ -522,10 +463,7 @@ module _ (frames grants : ℕ → ℕ) (dom parts : ℕ) where
   takes st None p words s h = (s, (refl, h.1.1))
   takes st (Some q) p words s h = absurd (true≢false h.0)
 
-  abbrev pub facts : Facts Known Ending Waiting (List ℕ)
-  facts = record { Sane = IsSane; Has = HasCome; Named = IsNamed; EndsOwn = EndsOwn; EndsDone = EndsDone; Meets = Meets }
-
-  pub laws : Laws display table shows facts site frames grants
+  pub laws : Laws display table shows (facts frames grants dom parts) site frames grants
   laws =
       record {
         kind_is = refl;

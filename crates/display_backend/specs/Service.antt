@@ -1,5 +1,5 @@
 -- The display as a service of the order of work of every device.
-use Rattle.std.specs.Prelude.{◌≡◌, ℕ, ◌&&◌, ℤ, pos, Bool, true, false, List, [], Option, Some, None, if◌then◌else◌}
+use Rattle.std.specs.Prelude.{◌≡◌, ℕ, ◌&&◌, nat_lt, ℤ, pos, Bool, true, false, not, List, [], length, replicate, Option, Some, None, if◌then◌else◌}
 use Rattle.pv_words.specs.declared.device.Said.{Said}
 use Rattle.pv_words.specs.declared.device.Said.TheVariants as said
 use Rattle.pv_words.specs.declared.grant.Mode.TheVariants.{Read}
@@ -24,7 +24,7 @@ use Rattle.display_backend.specs.declared.display.Progress.TheVariants as progre
 use Rattle.display_backend.specs.declared.waiting.Waiting.{Waiting}
 use Rattle.display_backend.specs.declared.waiting.Waiting.TheVariants as waiting
 use Rattle.display_backend.specs.Waiting.{waiting_of}
-use Rattle.display_backend.specs.Stock.{Stock, no_stock, pages_of, pages_under, bared}
+use Rattle.display_backend.specs.Stock.{Stock, Held, no_stock, pages_of, pages_under, bared}
 use Rattle.display_backend.specs.Stock as stock
 use Rattle.display_backend.specs.Machine.{verdict, is_accepted, is_creation, IsStatus, replied_to}
 use Rattle.display_backend.specs.Reply.{reply_to, status_in}
@@ -52,18 +52,22 @@ status_for x None = pos 0
 status_for x (Some q) = status_in x.progress (verdict x.stock.buffers q.asked)
 
 abbrev pub reply_for : Known → Option Request → List ℕ
-reply_for x None = []
+reply_for x None = replicate 16 0
 reply_for x (Some q) = reply_to q (status_in x.progress (verdict x.stock.buffers q.asked))
 
--- an accepted CREATE or DESTROY isn't answered at once
-abbrev pub ready_at : Progress → Asked → Bool → Bool
-ready_at progress.Decided (asked.Create c) true = false
-ready_at progress.Decided (asked.Destroy cookie) true = false
-ready_at p asks accepted = true
+-- an accepted CREATE isn't answered at once, nor a DESTROY of a buffer that holds pages
+abbrev pub has_work : List Held → Asked → Bool
+has_work bs (asked.Create c) = is_accepted (verdict bs (asked.Create c))
+has_work bs (asked.Destroy cookie) = nat_lt 0 (length (pages_under cookie bs))
+has_work bs asks = false
+
+abbrev pub ready_at : Progress → Bool → Bool
+ready_at progress.Decided working = not working
+ready_at p working = true
 
 abbrev pub ready_for : Known → Option Request → Bool
 ready_for x None = true
-ready_for x (Some q) = ready_at x.progress q.asked (is_accepted (verdict x.stock.buffers q.asked))
+ready_for x (Some q) = ready_at x.progress (has_work x.stock.buffers q.asked)
 
 abbrev pub freeing : Known → ℕ → Known
 freeing x cookie = record x { stock = record { mapped = x.stock.mapped; buffers = bared cookie x.stock.buffers } }

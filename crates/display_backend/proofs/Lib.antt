@@ -38,6 +38,7 @@ pub mod StockPages
 pub mod Stocks
 pub mod Stores
 pub mod Telling
+pub mod Throughout
 pub mod Walking
 pub mod Wholes
 pub mod Works

@@ -8,7 +8,7 @@ mod store;
 mod waiting;
 
 pub use display::Display;
-pub use laws::{frees_in_order, gives_up_in_order, keeps_pages};
+pub use laws::{frees_in_order, gives_up_in_order, keeps_pages, tells_what_is_held};
 
 #[cfg(test)]
 mod tests;

@@ -3,9 +3,10 @@ use Rattle.std.specs.Prelude.{◌≡◌, ℕ, true, List, ◌++◌, Some}
 use Rattle.std.specs.List.{AllByRecursion}
 use Rattle.pv_words.specs.declared.setup.DeviceSetup.{DeviceSetup}
 use Rattle.pv_words.specs.Port.{Port, PortMay, IsListed}
+use Rattle.page_directory.specs.Same.{AreSame}
 use Rattle.device_core.specs.Order.{Own}
 use Rattle.backend_core.specs.declared.device.Device.{Device}
-use Rattle.backend_core.specs.Device.{StandsFor, MayMakeNext}
+use Rattle.backend_core.specs.Device.{StandsFor, MayMakeNext, held_of}
 use Rattle.backend_core.specs.History.{AnswersIn, IsHistory, IsMachineRunIn, IsPromptIn, KeepsIn, TellsIn, TellsTrulyIn, held_after, site_of}
 use Rattle.backend_core.specs.Kinds.{IsExplained}
 use Rattle.backend_core.specs.Marked.{Item}
@@ -41,3 +42,11 @@ ListingSuffices =
     → StandsFor s.kind (site_of frames grants s) d es → IsExplained s.kind (site_of frames grants s) es
     → p.device ≡ Some s.dev.0 → p.serves s.dom.0 ≡ true → IsListed p s.dev.0 (held_after frames grants s es)
     → MayMakeNext (PortMay frames grants p) (site_of frames grants s) d
+
+-- Wherever a device stands by what it has done and heard, the pages that it tells are just those that its accesses hold, each as
+-- often.
+abbrev pub TellsWhatIsHeld : Type 0
+TellsWhatIsHeld =
+    (frames grants : ℕ → ℕ) (s : DeviceSetup) (d : Device) (es : List Own)
+    → StandsFor s.kind (site_of frames grants s) d es → IsExplained s.kind (site_of frames grants s) es
+    → AreSame (held_after frames grants s es).held (held_of d)

@@ -12,6 +12,7 @@ pub mod Order
 pub mod Out
 pub mod Places
 pub mod Rounds
+pub mod SameLength
 pub mod Serve
 pub mod Served
 pub mod Serving

@@ -45,8 +45,8 @@ use Rattle.display_backend.specs.declared.display.Ending.TheVariants as ending
 use Rattle.display_backend.specs.declared.display.Progress.{Progress}
 use Rattle.display_backend.specs.declared.display.Round.{Round}
 use Rattle.display_backend.specs.Activity.{is_open}
-use Rattle.display_backend.specs.Display.{all_held, answer_from, connect_from, dom_of, end_of, freeing_plan, held_of, later, met_links, parts_in, parts_of, sleep_from, stand_at, stand_in, stand_of, stock_in, stuck, take_from, walk_from, walk_pages, why_of, work_of}
-use Rattle.display_backend.specs.Laws.{TellsWhatIsHeld, first_station, holds_by}
+use Rattle.display_backend.specs.Display.{all_held, answer_from, connect_from, dom_of, end_of, freeing_plan, held_of, later, met_links, parts_in, parts_of, site_of, sleep_from, stand_at, stand_in, stand_of, stock_in, stuck, take_from, walk_from, walk_pages, why_of, work_of}
+use Rattle.display_backend.specs.Laws.{HoldsAsMany, HoldsPage, TellsWhatIsHeld, first_station, holds_by}
 use Rattle.display_backend.specs.Machine.{Refs}
 use Rattle.display_backend.specs.Stock.{Stock, bared, buffer_pages, pages_of, pages_under}
 use Rattle.display_backend.specs.Store.{is_whole, stock_of}
@@ -55,6 +55,7 @@ use Rattle.display_backend.specs.Work.{Work, End, Took, Listed, Freed, Answered,
 use Rattle.display_backend.proofs.Held.{bare_held, held_so_far, joined_held, nil_of}
 use Rattle.display_backend.proofs.Lists.{got, within}
 use Rattle.display_backend.proofs.Order.{none_left, parted}
+use Rattle.display_backend.proofs.SameLength.{same_length, times_at}
 use Rattle.display_backend.proofs.Sound.{Lies, first_carried, first_good, fits_during, learned, sound, tells_between}
 use Rattle.display_backend.proofs.SoundAnswer.{answered_done}
 use Rattle.display_backend.proofs.SoundConnect.{shut_pages}
@@ -388,12 +389,20 @@ display_holds frames grants dom parts d k home g =
     (subst (λ n. Whole n o d.at d.round d.activity d.links.items) home d.whole) (subst (λ n. Stored n o d.activity d.hand d.status d.reply d.progress d.walk (stock_of d.store) (is_whole d.store)) home d.stored) g
 
 pub tells_held : TellsWhatIsHeld
-tells_held frames grants d es explained stands =
+tells_held frames grants d es s =
     let dom = dom_of d in
     let parts = parts_of d in
     let site = the_site frames grants dom parts in
     let k = carried_after (display site) (learned frames site) (Lies frames grants dom parts) (sound frames grants dom parts) first_station (first_carried frames grants dom parts) es in
-    let good = good_after (display site) (learned frames site) (Lies frames grants dom parts) (sound frames grants dom parts) first_station es (first_carried frames grants dom parts) (first_good frames grants dom parts) explained in
-    let here = subst (λ (s : Stand Work End). IsGood (display site) (learned frames site) (Lies frames grants dom parts) (sound frames grants dom parts) s k) (sym stands) good in
+    let good = good_after (display site) (learned frames site) (Lies frames grants dom parts) (sound frames grants dom parts) first_station es (first_carried frames grants dom parts) (first_good frames grants dom parts) s.0 in
+    let here = subst (λ (s : Stand Work End). IsGood (display site) (learned frames site) (Lies frames grants dom parts) (sound frames grants dom parts) s k) (sym s.1) good in
     let is : k.own.holds ≡ holds_by frames site es = ap (λ (l : Learned). l.holds) (own_after (display site) (learned frames site) (Lies frames grants dom parts) (sound frames grants dom parts) first_station es (first_carried frames grants dom parts)) ∙ holds_learned frames (learned_of []) (made_by (display site) first_station es) in
     subst (λ (h : Holds). AreSame h.held (held_of d)) is (display_holds frames grants dom parts d k refl here)
+
+-- so it tells as many pages as they hold, and each is one of these
+pub counts_held : (d : Display) (n : ℕ) → n ≡ length (held_of d) → HoldsAsMany d n
+counts_held d n e frames grants es s =
+    e ∙ sym (same_length (holds_by frames (site_of frames grants d) es).held (held_of d) (tells_held frames grants d es s))
+
+pub one_held : (d : Display) (i : ℕ) (h : Hold) → slice_get (held_of d) i ≡ Some h → HoldsPage d h
+one_held d i h e frames grants es s = omega (arith, times_at (held_of d) i h e, tells_held frames grants d es s h)

@@ -1,10 +1,11 @@
 -- What the pages of buffers come to, and what a display tells that it holds.
-use Rattle.std.specs.Prelude.{◌≡◌, ℕ, List, [], ◌++◌, drop}
+use Rattle.std.specs.Prelude.{◌≡◌, ℕ, ◌<◌, List, [], ◌++◌, drop, length}
 use Rattle.pv_words.specs.Along.{after}
+use Rattle.pv_words.specs.declared.grant.Hold.{Hold}
 use Rattle.pv_words.specs.Held.{Holds, holding, holds_of}
 use Rattle.displ_wire.specs.declared.Create.{Create}
 use Rattle.display_buffers.specs.Buffers.{AreDistinct, cookies}
-use Rattle.page_directory.specs.Same.{AreSame}
+use Rattle.page_directory.specs.Same.{AreSame, times}
 use Rattle.device_core.specs.Order.{Own, Station, Between, IsExplained, at_stand, followed, made_by}
 use Rattle.device_core.specs.Site.{Site}
 use Rattle.display_backend.specs.declared.display.Display.{Display}
@@ -42,11 +43,24 @@ first_station = at_stand (Between first_work)
 abbrev pub holds_by : (frames : ℕ → ℕ) → Site → List Own → Holds
 holds_by frames site es = after (λ h k. holding frames h k.note k.access) (holds_of []) (made_by (display site) first_station es)
 
+-- It stands where what it has done and heard leads, all of it as its order of work gives.
+abbrev pub StandsBy : (frames grants : ℕ → ℕ) → Display → List Own → Type 0
+StandsBy frames grants d es =
+    IsExplained (display (site_of frames grants d)) first_station es
+    × (stand_of (site_of frames grants d) d ≡ (after (followed (display (site_of frames grants d))) first_station es).stand)
+
+-- Whatever it has done and heard, where it stands by that its accesses hold so many pages; and they hold this page.
+abbrev pub HoldsAsMany : Display → ℕ → Type 0
+HoldsAsMany d n =
+    (frames grants : ℕ → ℕ) (es : List Own) → StandsBy frames grants d es → n ≡ length (holds_by frames (site_of frames grants d) es).held
+
+abbrev pub HoldsPage : Display → Hold → Type 0
+HoldsPage d h =
+    (frames grants : ℕ → ℕ) (es : List Own) → StandsBy frames grants d es → 0 < times h (holds_by frames (site_of frames grants d) es).held
+
 -- Wherever a display stands by what it has done and heard, the pages that it tells are just those that its accesses hold, each as
 -- often.
 abbrev pub TellsWhatIsHeld : Type 0
 TellsWhatIsHeld =
     (frames grants : ℕ → ℕ) (d : Display) (es : List Own)
-    → IsExplained (display (site_of frames grants d)) first_station es
-    → stand_of (site_of frames grants d) d ≡ (after (followed (display (site_of frames grants d))) first_station es).stand
-    → AreSame (holds_by frames (site_of frames grants d) es).held (held_of d)
+    → StandsBy frames grants d es → AreSame (holds_by frames (site_of frames grants d) es).held (held_of d)

@@ -66,61 +66,61 @@ use Rattle.display_backend.proofs.SoundWork.{EndsSo, IsSane, held_pages, sleep_p
 use Rattle.display_backend.proofs.Wholes.{AllFit}
 
 -- all accesses of the plan go to words of pages
-abbrev InPages : {A : Type 0} → Plan A → Type 0
-InPages p = plan.Fits (λ want note. is_in_page (aim_of want) ≡ true) (λ x. Unit {0}) p
+abbrev StaysInPages : {A : Type 0} → Plan A → Type 0
+StaysInPages p = plan.Fits (λ want note. is_in_page (aim_of want) ≡ true) (λ x. Unit {0}) p
 
-in_joined : {A B : Type 0} (p : Plan A) (f : A → Plan B) → InPages p → ((x : A) → InPages (f x)) → InPages (joined p f)
+in_joined : {A B : Type 0} (p : Plan A) (f : A → Plan B) → StaysInPages p → ((x : A) → StaysInPages (f x)) → StaysInPages (joined p f)
 in_joined (Finished x) f h more = more x
 in_joined (Make want note next) f h more = (h.0, λ v. in_joined (next v) f (h.1 v) more)
 
-in_either : {A : Type 0} (b : Bool) (p q : Plan A) → InPages p → InPages q → InPages (if b then p else q)
+in_either : {A : Type 0} (b : Bool) (p q : Plan A) → StaysInPages p → StaysInPages q → StaysInPages (if b then p else q)
 in_either true p q i j = i
 in_either false p q i j = j
 
-in_loads : (page : Page) (rsp n i : ℕ) (taken : List ℕ) → InPages (loads (slot_place page rsp) Finished n i taken)
+in_loads : (page : Page) (rsp n i : ℕ) (taken : List ℕ) → StaysInPages (loads (slot_place page rsp) Finished n i taken)
 unfolding loads
 in_loads page rsp zero i taken = tt
 in_loads page rsp (suc n) i taken = (refl, λ v. in_loads page rsp n (i + 1) (taken ++ v ∷ []))
 
-in_stores : (page : Page) (rsp i : ℕ) (more : Plan Bool) (vs : List ℕ) → InPages more → InPages (stores (slot_place page rsp) more i vs)
+in_stores : (page : Page) (rsp i : ℕ) (more : Plan Bool) (vs : List ℕ) → StaysInPages more → StaysInPages (stores (slot_place page rsp) more i vs)
 unfolding stores
 in_stores page rsp i more [] h = h
 in_stores page rsp i more (v ∷ vs) h = (refl, λ w. in_stores page rsp (i + 1) more vs h)
 
-in_take_rest : (page : Page) (rsp n : ℕ) (words : List ℕ) → InPages (take_rest page rsp n words)
+in_take_rest : (page : Page) (rsp n : ℕ) (words : List ℕ) → StaysInPages (take_rest page rsp n words)
 in_take_rest page rsp n words = in_loads page rsp (16 - n) n _
 
-in_answer_rest : (page : Page) (rsp n : ℕ) (reply : List ℕ) → InPages (answer_rest page rsp n reply)
+in_answer_rest : (page : Page) (rsp n : ℕ) (reply : List ℕ) → StaysInPages (answer_rest page rsp n reply)
 in_answer_rest page rsp n reply =
     in_either (n == 17) (event_plan page rsp) (stores (slot_place page rsp) (publish_plan page rsp) n (drop n reply)) (refl, λ v. tt)
     (in_stores page rsp n (publish_plan page rsp) (drop n reply) (refl, λ v. (refl, λ w. tt)))
 
-in_sleep_rest : (page : Page) (rsp n : ℕ) → InPages (sleep_rest page rsp n)
+in_sleep_rest : (page : Page) (rsp n : ℕ) → StaysInPages (sleep_rest page rsp n)
 in_sleep_rest page rsp n = in_either (n == 1) (check_plan page rsp) (sleep_plan page rsp) (refl, λ v. tt) (refl, λ v. (refl, λ w. tt))
 
-in_take : (o : Option Link) → InPages (take_from o)
+in_take : (o : Option Link) → StaysInPages (take_from o)
 unfolding take_left
 in_take None = tt
 in_take (Some l) = in_take_rest (page_of l) (rsp_of l) _ _
 
-in_answer : (reply : List ℕ) (o : Option Link) → InPages (answer_from reply o)
+in_answer : (reply : List ℕ) (o : Option Link) → StaysInPages (answer_from reply o)
 unfolding answer_left
 in_answer reply None = tt
 in_answer reply (Some l) = in_answer_rest (page_of l) (rsp_of l) _ reply
 
-in_on : (more : Plan Bool) (b : Bool) → InPages more → InPages (sleeps_on more b)
+in_on : (more : Plan Bool) (b : Bool) → StaysInPages more → StaysInPages (sleeps_on more b)
 in_on more true h = h
 in_on more false h = tt
 
-in_sleeps : (js : List Joined) → InPages (sleep_all js)
+in_sleeps : (js : List Joined) → StaysInPages (sleep_all js)
 in_sleeps [] = tt
 in_sleeps (j ∷ js) = let rest = in_sleeps js in in_joined (sleep_plan (ring_page j) j.rsp) (sleeps_on (sleep_all js)) (refl, λ v. (refl, λ w. tt)) (λ b. in_on (sleep_all js) b rest)
 
-in_sleep : (l : Link) → InPages (sleep_left l)
+in_sleep : (l : Link) → StaysInPages (sleep_left l)
 unfolding sleep_left
 in_sleep l = in_sleep_rest (page_of l) (rsp_of l) _
 
-in_sleeping : (rest : List Link) (o : Option Link) → InPages (sleep_from rest o)
+in_sleeping : (rest : List Link) (o : Option Link) → StaysInPages (sleep_from rest o)
 in_sleeping rest None = tt
 in_sleeping rest (Some l) =
     in_joined (sleep_left l) (sleeps_on (sleep_all (map joined_of rest))) (in_sleep l) (λ b. in_on (sleep_all (map joined_of rest)) b (in_sleeps (map joined_of rest)))
@@ -130,22 +130,22 @@ abbrev ClosesNot : End → Type 0
 ClosesNot (Shut why) = ⊥
 ClosesNot other = Unit {0}
 
-abbrev NoneCloses : Plan End → Type 0
-NoneCloses p = plan.Fits (λ want note. Unit {0}) ClosesNot p
+abbrev ClosesNever : Plan End → Type 0
+ClosesNever p = plan.Fits (λ want note. Unit {0}) ClosesNot p
 
-none_joined : {A : Type 0} (p : Plan A) (f : A → Plan End) → ((x : A) → NoneCloses (f x)) → NoneCloses (joined p f)
+none_joined : {A : Type 0} (p : Plan A) (f : A → Plan End) → ((x : A) → ClosesNever (f x)) → ClosesNever (joined p f)
 none_joined (Finished x) f h = h x
 none_joined (Make want note next) f h = (tt, λ v. none_joined (next v) f h)
 
-none_unmaps : (hs : List Hold) (why : GrantRefusal) → NoneCloses (unmaps hs (Finished (Denied why)))
+none_unmaps : (hs : List Hold) (why : GrantRefusal) → ClosesNever (unmaps hs (Finished (Denied why)))
 none_unmaps [] why = tt
 none_unmaps (h ∷ hs) why = (tt, λ v. none_unmaps hs why)
 
-none_after : (met : List Joined) (more : List Joined → Plan End) (c : Connected) → ((js : List Joined) → NoneCloses (more js)) → NoneCloses (after_part met more c)
+none_after : (met : List Joined) (more : List Joined → Plan End) (c : Connected) → ((js : List Joined) → ClosesNever (more js)) → ClosesNever (after_part met more c)
 none_after met more (Joins j) h = h (met ++ j ∷ [])
 none_after met more (Refuses hs why) h = none_unmaps (all_pages met ++ hs) why
 
-none_parts : (site : Site) (rs : List Refs) (met : List Joined) → NoneCloses (connect_parts site rs met)
+none_parts : (site : Site) (rs : List Refs) (met : List Joined) → ClosesNever (connect_parts site rs met)
 none_parts site [] met = tt
 none_parts site (r ∷ rs) met =
     none_joined (connect_plan site.frames site.grants site.dom (Some r.ring) r.event) (after_part met (connect_parts site rs)) (λ c. none_after met (connect_parts site rs) c (λ js. none_parts site rs js))
@@ -178,7 +178,7 @@ module _ (frames grants : ℕ → ℕ) (dom : ℕ) where
   fits_before f Q s (Finished x) h = h
   fits_before f Q s (Make want note next) h = (h.0, λ v. fits_before f Q (holding frames s note (found want v)) (next v) (h.1 v))
 
-  stays : {A : Type 0} (Q : Holds → A → Type 0) (s : Holds) (p : Plan A) → InPages p → Fits Q s p → (t : Holds) × (x : A) × Q t x × (t.held ≡ s.held)
+  stays : {A : Type 0} (Q : Holds → A → Type 0) (s : Holds) (p : Plan A) → StaysInPages p → Fits Q s p → (t : Holds) × (x : A) × Q t x × (t.held ≡ s.held)
   stays Q s (Finished x) i f = (s, x, f, refl)
   stays Q s (Make want note next) i f =
       let r = stays Q (holding frames s note (found want 0)) (next 0) (i.1 0) (f.1 0) in
@@ -200,16 +200,17 @@ module _ (frames grants : ℕ → ℕ) (dom parts : ℕ) (w : Work) where
   abbrev site : Site
   site = the_site frames grants dom parts
 
-  abbrev Done : Holds → End → Type 0
-  Done t o = EndsSo frames grants dom parts w t o
+  -- how the activity under way may end, and what is left of it
+  abbrev EndsAs : Holds → End → Type 0
+  EndsAs t o = EndsSo frames grants dom parts w t o
 
   abbrev Goes : Holds → Plan End → Type 0
-  Goes t p = Fit frames grants dom Done t p
+  Goes t p = Fit frames grants dom EndsAs t p
 
   refused_holds : (met : List Joined) (hs : List Hold) (why : GrantRefusal) (t : Holds) → Goes t (unmaps (all_pages met ++ hs) (Finished (Denied why))) → (k : Hold) → times k t.held ≡ times k (all_pages met ++ hs)
   unfolding settled
   refused_holds met hs why t f =
-      let u = unmaps_come frames grants dom Done (all_pages met ++ hs) (Finished (Denied why)) t f in
+      let u = unmaps_come frames grants dom EndsAs (all_pages met ++ hs) (Finished (Denied why)) t f in
       λ k. omega (arith, u.2 k, u.1.0.1 k, shut_pages w k u.1.1.1)
 
   parts_hold : (rs : List Refs) (met : List Joined) (t : Holds) → Goes t (connect_parts site rs met) → (k : Hold) → times k t.held ≡ times k (all_pages met)
@@ -217,12 +218,12 @@ module _ (frames grants : ℕ → ℕ) (dom parts : ℕ) (w : Work) where
   parts_hold [] met t f = λ k. f.0.1 k
   parts_hold (r ∷ rs) met t f =
       let n = starts frames grants dom (frames dom) (grants dom) dom r.ring r.event (λ x c. Goes x (after_part met (connect_parts site rs) c)) t
-      (fits_first (IsProper frames grants dom) (holding frames) (after_part met (connect_parts site rs)) Done t (connect_plan (frames dom) (grants dom) dom (Some r.ring) r.event) f) in
+      (fits_first (IsProper frames grants dom) (holding frames) (after_part met (connect_parts site rs)) EndsAs t (connect_plan (frames dom) (grants dom) dom (Some r.ring) r.event) f) in
       λ k. omega (arith, refused_holds met [] n.1 n.0 n.2 k, ap (times k) n.3, times_append k (all_pages met) [])
 
   -- what is left once a part came to this
-  abbrev After : List Refs → List Joined → Holds → Connected → Type 0
-  After rs met t c = Goes t (after_part met (connect_parts site rs) c)
+  abbrev Follows : List Refs → List Joined → Holds → Connected → Type 0
+  Follows rs met t c = Goes t (after_part met (connect_parts site rs) c)
 
   part_holds : (rs : List Refs) (met : List Joined) (c : Connected) (t : Holds) → Goes t (after_part met (connect_parts site rs) c) → (k : Hold) → times k t.held ≡ times k (all_pages met ++ kept_by c)
   part_holds rs met (Joins j) t f = λ k. parts_hold rs (met ++ j ∷ []) t f k ∙ ap (times k) (pages_last met j)
@@ -232,28 +233,28 @@ module _ (frames grants : ℕ → ℕ) (dom parts : ℕ) (w : Work) where
   connect_holds : (rs : List Refs) (met : List Joined) (l : Link) (ring event : ℕ) (s : Holds) → link_dom l ≡ dom → (connects l ≡ false → (idle l ≡ true) × (length (link_held l) ≡ 0)) → Goes s (joined (connect_left (frames dom) (grants dom) (Some ring) event l) (after_part met (connect_parts site rs))) → (k : Hold) → times k s.held ≡ times k (all_pages met ++ link_held l)
   connect_holds rs met l ring event s home fresh f = by_stage (connects l) refl
     where
-      first : FitsFrom (IsProper frames grants dom) (holding frames) (After rs met) s (connect_left (frames dom) (grants dom) (Some ring) event l)
-      first = fits_first (IsProper frames grants dom) (holding frames) (after_part met (connect_parts site rs)) Done s (connect_left (frames dom) (grants dom) (Some ring) event l) f
+      first : FitsFrom (IsProper frames grants dom) (holding frames) (Follows rs met) s (connect_left (frames dom) (grants dom) (Some ring) event l)
+      first = fits_first (IsProper frames grants dom) (holding frames) (after_part met (connect_parts site rs)) EndsAs s (connect_left (frames dom) (grants dom) (Some ring) event l) f
 
-      by_end : Comes frames grants (IsProper frames grants dom) (After rs met) s (link_held l) → (k : Hold) → times k s.held ≡ times k (all_pages met ++ link_held l)
+      by_end : Comes frames grants (IsProper frames grants dom) (Follows rs met) s (link_held l) → (k : Hold) → times k s.held ≡ times k (all_pages met ++ link_held l)
       by_end (inl e) = λ k. sym (ap (times k) e.3) ∙ part_holds rs met (Refuses (link_held l) e.1) e.0 e.2 k
       by_end (inr e) = λ k. sym (ap (times k) e.4) ∙ (part_holds rs met (Joins e.1) e.0 e.2 k ∙ ap (λ x. times k (all_pages met ++ x)) e.3)
 
       by_stage : (b : Bool) → connects l ≡ b → (k : Hold) → times k s.held ≡ times k (all_pages met ++ link_held l)
       by_stage true is =
-          by_end (connect_comes frames grants (IsProper frames grants dom) (After rs met) l (Some ring) event s is (subst (λ d. FitsFrom (IsProper frames grants dom) (holding frames) (After rs met) s (connect_left (frames d) (grants d) (Some ring) event l)) (sym home) first))
+          by_end (connect_comes frames grants (IsProper frames grants dom) (Follows rs met) l (Some ring) event s is (subst (λ d. FitsFrom (IsProper frames grants dom) (holding frames) (Follows rs met) s (connect_left (frames d) (grants d) (Some ring) event l)) (sym home) first))
       by_stage false is =
           let rest = fresh is in
-          let n = starts frames grants dom (frames dom) (grants dom) (link_dom l) ring event (After rs met) s (subst (λ (p : Plan Connected). FitsFrom (IsProper frames grants dom) (holding frames) (After rs met) s p) (whole_connect (frames dom) (grants dom) (Some ring) event l rest.0) first) in
+          let n = starts frames grants dom (frames dom) (grants dom) (link_dom l) ring event (Follows rs met) s (subst (λ (p : Plan Connected). FitsFrom (IsProper frames grants dom) (holding frames) (Follows rs met) s p) (whole_connect (frames dom) (grants dom) (Some ring) event l rest.0) first) in
           λ k. sym (ap (times k) n.3) ∙ (refused_holds met [] n.1 n.0 n.2 k ∙ ap (λ x. times k (all_pages met ++ x)) (sym (nil_of (link_held l) rest.1)))
 
-  closed_holds : (end : Ending) (t : Holds) → Done t (end_of end) → (k : Hold) → times k t.held ≡ 0
+  closed_holds : (end : Ending) (t : Holds) → EndsAs t (end_of end) → (k : Hold) → times k t.held ≡ 0
   unfolding settled
   closed_holds (ending.Denied why) t q k = q.0.1 k ∙ shut_pages w k q.1.1
   closed_holds (ending.Shut why) t q k = q.0.1 k ∙ shut_pages w k q.1.1
 
   -- what a walk came to is held beside what the work tells
-  listed_holds : (came : Walked) (t : Holds) → Done t (Listed came) → (k : Hold) → times k t.held ≡ times k (pages_in came) + times k (held_pages w)
+  listed_holds : (came : Walked) (t : Holds) → EndsAs t (Listed came) → (k : Hold) → times k t.held ≡ times k (pages_in came) + times k (held_pages w)
   unfolding settled
   listed_holds (walked.Pages ps) t q k =
       let bs = buffer_pages w.stock.buffers in
@@ -271,7 +272,7 @@ module _ (frames grants : ℕ → ℕ) (dom parts : ℕ) (w : Work) where
     stuck_apart (Shut why) n s = absurd n
     stuck_apart other n s = let far = (s.kept (reason.Overrun 0 0) refl).0.1 in omega (arith, far)
 
-    fits_at : (p : Plan End) → NoneCloses p → IsGood (display site) (learned frames site) (Lies frames grants dom parts) (sound frames grants dom parts) (stand_at w p) k → Goes k.own.holds p
+    fits_at : (p : Plan End) → ClosesNever p → IsGood (display site) (learned frames site) (Lies frames grants dom parts) (sound frames grants dom parts) (stand_at w p) k → Goes k.own.holds p
     fits_at (Finished e) n g = absurd (stuck_apart e n (tells_between frames grants dom parts (stuck w (why_of e)) k g).0)
     fits_at (Make want note more) n g = (fits_during frames grants dom parts w (Make want note more) k g).1
 
@@ -280,7 +281,7 @@ module _ (frames grants : ℕ → ℕ) (dom parts : ℕ) (w : Work) where
     leaving_holds end [] bare g x =
         (tells_between frames grants dom parts (stuck w (why_of (end_of end))) k g).1.1 x ∙ ap (λ ps. times x (ps ++ [])) bare
     leaving_holds end (h ∷ hs) bare g x =
-        let u = unmaps_come frames grants dom Done (h ∷ hs) (Finished (end_of end)) k.own.holds (fits_during frames grants dom parts w (unmaps (h ∷ hs) (Finished (end_of end))) k g).1 in
+        let u = unmaps_come frames grants dom EndsAs (h ∷ hs) (Finished (end_of end)) k.own.holds (fits_during frames grants dom parts w (unmaps (h ∷ hs) (Finished (end_of end))) k g).1 in
         omega (arith, u.2 x, closed_holds end u.0 u.1 x)
 
     module _ (ls : List Link) (s : Stock) (walk : Option Walk) where
@@ -301,21 +302,21 @@ module _ (frames grants : ℕ → ℕ) (dom parts : ℕ) (w : Work) where
       unfolding settled
       taking_holds o g x =
           let f = (fits_during frames grants dom parts w (mapped Took (take_from o)) k g).1 in
-          let r = stays frames grants dom (λ t y. Done t (Took y)) k.own.holds (take_from o) (in_take o) (fits_before frames grants dom Took Done k.own.holds (take_from o) f) in
+          let r = stays frames grants dom (λ t y. EndsAs t (Took y)) k.own.holds (take_from o) (in_take o) (fits_before frames grants dom Took EndsAs k.own.holds (take_from o) f) in
           sym (ap (times x) r.3) ∙ r.2.0.1 x
 
       sleeping_holds : (rest : List Link) (o : Option Link) → IsGood (display site) (learned frames site) (Lies frames grants dom parts) (sound frames grants dom parts) (During w (mapped Slept (sleep_from rest o))) k → (x : Hold) → times x held ≡ times x (held_pages w)
       unfolding settled
       sleeping_holds rest o g x =
           let f = (fits_during frames grants dom parts w (mapped Slept (sleep_from rest o)) k g).1 in
-          let r = stays frames grants dom (λ t y. Done t (Slept y)) k.own.holds (sleep_from rest o) (in_sleeping rest o) (fits_before frames grants dom Slept Done k.own.holds (sleep_from rest o) f) in
+          let r = stays frames grants dom (λ t y. EndsAs t (Slept y)) k.own.holds (sleep_from rest o) (in_sleeping rest o) (fits_before frames grants dom Slept EndsAs k.own.holds (sleep_from rest o) f) in
           sym (ap (times x) r.3) ∙ (r.2.0.1 x ∙ ap (times x) (sleep_pages w r.1))
 
       answering_holds : (reply : List ℕ) (o : Option Link) → IsGood (display site) (learned frames site) (Lies frames grants dom parts) (sound frames grants dom parts) (During w (mapped Answered (answer_from reply o))) k → (x : Hold) → times x held ≡ times x (held_pages w)
       unfolding settled
       answering_holds reply o g x =
           let d = fits_during frames grants dom parts w (mapped Answered (answer_from reply o)) k g in
-          let r = stays frames grants dom (λ t y. Done t (Answered y)) k.own.holds (answer_from reply o) (in_answer reply o) (fits_before frames grants dom Answered Done k.own.holds (answer_from reply o) d.1) in
+          let r = stays frames grants dom (λ t y. EndsAs t (Answered y)) k.own.holds (answer_from reply o) (in_answer reply o) (fits_before frames grants dom Answered EndsAs k.own.holds (answer_from reply o) d.1) in
           let a = r.2.1.1 in
           sym (ap (times x) r.3) ∙ (r.2.0.1 x ∙ sym (answered_same w w.hand d.0.buffers.distinct (answered_done w a.0 a.1 a.2) x))
 
@@ -327,13 +328,13 @@ module _ (frames grants : ℕ → ℕ) (dom parts : ℕ) (w : Work) where
           by_walk (Some q) None i g = absurd i
           by_walk (Some q) (Some v) i g =
               let f = (fits_during frames grants dom parts w (mapped Listed (walk_left (frames dom) (grants dom) v)) k g).1 in
-              let c = walk_comes frames grants dom (λ t came. Done t (Listed came)) v k.own.holds i.0.dom_is i.0.going (fits_before frames grants dom Listed Done k.own.holds (walk_left (frames dom) (grants dom) v) f) in
+              let c = walk_comes frames grants dom (λ t came. EndsAs t (Listed came)) v k.own.holds i.0.dom_is i.0.going (fits_before frames grants dom Listed EndsAs k.own.holds (walk_left (frames dom) (grants dom) v) f) in
               λ x. omega (arith, c.3 x, listed_holds c.1 c.0 c.2 x)
 
       freeing_holds : (cookie : ℕ) → IsGood (display site) (learned frames site) (Lies frames grants dom parts) (sound frames grants dom parts) (During w (freeing_plan cookie s)) k → (x : Hold) → times x held ≡ times x (pages_under cookie s.buffers) + times x (held_pages w)
       unfolding settled
       freeing_holds cookie g x =
-          let u = unmaps_come frames grants dom Done (pages_under cookie s.buffers) (Finished Freed) k.own.holds (fits_during frames grants dom parts w (freeing_plan cookie s) k g).1 in
+          let u = unmaps_come frames grants dom EndsAs (pages_under cookie s.buffers) (Finished Freed) k.own.holds (fits_during frames grants dom parts w (freeing_plan cookie s) k g).1 in
           omega (arith, u.2 x, u.1.0.1 x)
 
       connecting_holds : (nodes : List NodeValue) (part : ℕ) (l : Link) → slice_get ls part ≡ Some l → AllFit dom part (part + 1) part true ls → IsGood (display site) (learned frames site) (Lies frames grants dom parts) (sound frames grants dom parts) (stand_at w (connect_from site nodes part (met_links part ls) (slice_get ls part))) k → (x : Hold) → times x held ≡ times x (all_held ls)

@@ -22,7 +22,7 @@ use Rattle.display_backend.specs.Reply.{reply_to, status_in}
 use Rattle.display_backend.specs.Work.{part_in}
 
 -- the link of part i: those before `met` hold both pages, those from `bare` on none, and all but `busy` rest; while pages are
--- mapped, each that isn't met and not in its Connect rests and holds none
+-- mapped, one that isn't met, and isn't in its Connect, rests and holds none
 pub record Fits (dom met bare busy : ℕ) (mapping : Bool) (i : ℕ) (l : Link) : Type 0 where
   pub dom_is : dom_of l ≡ dom
   pub both : i < met → length (held_of l) ≡ 2

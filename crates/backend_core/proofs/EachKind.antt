@@ -34,10 +34,12 @@ use Rattle.display_backend.specs.Waiting.{is_for}
 use Rattle.display_backend.specs.Work.{Work, End, Naming, choice, display, first_naming, first_view, first_work, reading, told_of}
 use Rattle.display_backend.proofs.Sound.{Lies, first_carried, first_good, first_named, learned, shows_why, sound}
 use Rattle.display_backend.proofs.Telling.{tells_all}
+use Rattle.display_backend.proofs.Throughout.{display_holds}
+use Rattle.page_directory.specs.Same.{AreSame}
 use Rattle.backend_core.specs.declared.device.Device.{Device}
 use Rattle.backend_core.specs.declared.device.Device.TheVariants.{Display}
 use Rattle.backend_core.specs.Device as backend
-use Rattle.backend_core.specs.Device.{GoesOn, IsDisplay, MayMakeNext, StandsFor}
+use Rattle.backend_core.specs.Device.{GoesOn, IsDisplay, MayMakeNext, StandsFor, held_of}
 use Rattle.backend_core.specs.History.{held_after, site_of}
 use Rattle.backend_core.specs.Kinds.{AnswersAll, Continues, IsShownBy, TellsTruly, IsExplained, IsMachineRun, IsSettled, display_station, due_after, first_snapshot, machine, made_after, owed_after, parts_of, takes_event, told_after, wants_memory}
 use Rattle.backend_core.proofs.Answers.{answers_then}
@@ -175,6 +177,13 @@ module _ (frames grants : ℕ → ℕ) (dom : ℕ) where
       let site = site_as (kind.Display n) in
       subst (λ (y : Stand Work End). MayStep may (display site) y) (sym s.stands)
       (may_step (display site) (learned frames site) (Lies frames grants dom n) (sound frames grants dom n) may (carried_as n es) (λ want note lies. all want note (subst (λ hs. IsProper frames grants dom hs want note) (good_holds n es) lies)) (display_station site es).stand (good n es x))
+
+  -- a device tells the pages that it holds
+  pub tells_held : (k : DeviceKind) (d : Device) (es : List Own) → StandsFor k (site_as k) d es → IsExplained k (site_as k) es → AreSame (holds_as k es).held (held_of d)
+  tells_held (kind.Display n) (Display d) es s x =
+      let site = site_as (kind.Display n) in
+      subst (λ (h : Holds). AreSame h.held (screen.held_of d)) (good_holds n es)
+      (display_holds frames grants dom n d (carried_as n es) s.dom_is (subst (λ (y : Stand Work End). IsGood (display site) (learned frames site) (Lies frames grants dom n) (sound frames grants dom n) y (carried_as n es)) (sym s.stands) (good n es x)))
 
   -- what a reading of a display keeps at the beginning
   abbrev view_as : ℕ → View Learned Naming

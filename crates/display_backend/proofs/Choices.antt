@@ -96,7 +96,7 @@ module _ (dom : ℕ) (o : Bool) (at : ℕ) (old_round : Round) (act : Activity) 
       (λ i l g.
       let f = resting.fits i l g in
       let lt = within ls i l g in
-      record { dom_is = f.dom_is; both = λ b. absurd (omega (arith, b)); none = λ b. absurd (omega (arith, b, lt)); rests = f.rests; ring = f.ring })
+      record { dom_is = f.dom_is; both = λ b. absurd (omega (arith, b)); none = λ b. absurd (omega (arith, b, lt)); rests = f.rests; ring = f.ring; fresh = λ m _ _. absurd (false≢true m) })
       (λ h. absurd (false≢true h))
 
   pub all_bare : o ≡ false → (i : ℕ) (l : Link) → slice_get ls i ≡ Some l → length (held_of l) ≡ 0
@@ -125,7 +125,7 @@ module _ (dom : ℕ) (o : Bool) (at : ℕ) (old_round : Round) (act : Activity) 
       let f = resting.fits i l g in
       let lt = within ls i l g in
       let rest : idle l ≡ true = f.rests (omega (arith, lt)) in
-      record { dom_is = f.dom_is; both = λ b. absurd (omega (arith, b)); none = λ b. all_bare s i l g; rests = λ _. rest; ring = λ _. idle_rings l rest })
+      record { dom_is = f.dom_is; both = λ b. absurd (omega (arith, b)); none = λ b. all_bare s i l g; rests = λ _. rest; ring = λ _. idle_rings l rest; fresh = λ _ _ _. (rest, all_bare s i l g) })
       (λ h. absurd (false≢true h))
 
   pub whole_entered : (p : Bool) → o ≡ false → p ≡ false → Whole dom p at old_round act ls

@@ -1,5 +1,5 @@
 -- What stays true, and what is left, while a display connects, or gives up its pages.
-use Rattle.std.proofs.Common.{◌≡◌, inl, inr, ℕ, zero, suc, ◌+◌, ◌-◌, ◌<◌, ◌≤◌, ◌++◌, Bool, true, false, List, [], ◌∷◌, Option, Some, None, length, is_some, map, take, slice_get, slice_set, refl, sym, ap, subst, ◌∙◌, arith}
+use Rattle.std.proofs.Common.{◌≡◌, ℕ, zero, suc, ◌+◌, ◌-◌, ◌<◌, ◌≤◌, ◌++◌, Bool, true, false, List, [], ◌∷◌, Option, Some, None, length, is_some, map, take, slice_get, slice_set, refl, sym, ap, subst, ◌∙◌, arith}
 use Rattle.std.proofs.lemmas.Bool.{false≢true}
 use Rattle.std.proofs.lemmas.List.{length-set, take-set}
 use Rattle.pv_words.specs.declared.access.Access.{Access}
@@ -14,9 +14,9 @@ use Rattle.page_directory.specs.declared.walk.Walk.{Walk}
 use Rattle.xenbus_states.specs.Nodes.{number_at}
 use Rattle.link_core.specs.declared.link.Link.{Link}
 use Rattle.link_core.specs.Activities.{Joined, Connected, Joins, connect_plan, unmaps}
-use Rattle.link_core.specs.Link.{dom_of, held_of, joined_of, idle, rings, connect_left, drop_left, Leads}
+use Rattle.link_core.specs.Link.{dom_of, held_of, joined_of, idle, rings, connects, connect_left, drop_left, Leads}
 use Rattle.device_core.specs.Order.{Stand, Went}
-use Rattle.link_core.proofs.Links.{whole_connect}
+use Rattle.link_core.proofs.Links.{idle_rings, whole_connect}
 use Rattle.display_backend.specs.declared.display.Activity.{Activity}
 use Rattle.display_backend.specs.declared.display.Activity.TheVariants as activity
 use Rattle.display_backend.specs.declared.display.Ending.{Ending}
@@ -30,7 +30,7 @@ use Rattle.device_core.specs.Site.{Site}
 use Rattle.display_backend.specs.Whole.{Whole}
 use Rattle.display_backend.specs.Work.{Work, End, Met, display, all_pages, after_part, connect_parts}
 use Rattle.display_backend.proofs.Held.{cons_of, nil_of, held_so_far}
-use Rattle.display_backend.proofs.Lists.{get_set, take_more_of, within, same_or_not}
+use Rattle.display_backend.proofs.Lists.{get_set, take_more_of, within}
 use Rattle.display_backend.proofs.Out.{goes_joined, unfinished_joined, unfinished_next, refs_more, went_still}
 use Rattle.display_backend.proofs.Wholes.{AllFit, make_whole, fits_set}
 
@@ -44,7 +44,7 @@ module _ (dom : ℕ) (o : Bool) (at : ℕ) (old_round : Round) (ls : List Link) 
       subst (λ (a : Activity). Whole dom o at old_round a (slice_set ls k new)) (sym e)
       (make_whole dom o at old_round (activity.Leaving end) (slice_set ls k new) n (length-set ls k new) w.some w.few w.at_in w.round_in w.some
       (fits_set dom 0 n n 0 n n false false ls k new v.fits
-      (record { dom_is = d ∙ old.dom_is; both = λ b. absurd (omega (arith, b)); none = λ b. let lt = within ls k l g in absurd (omega (arith, b, lt)); rests = λ _. i; ring = λ m. absurd (false≢true m) })
+      (record { dom_is = d ∙ old.dom_is; both = λ b. absurd (omega (arith, b)); none = λ b. let lt = within ls k l g in absurd (omega (arith, b, lt)); rests = λ _. i; ring = λ m. absurd (false≢true m); fresh = λ m _ _. absurd (false≢true m) })
       (λ j x other lt f. f))
       (λ h. absurd (false≢true h)))
 
@@ -62,16 +62,16 @@ module _ (dom : ℕ) (o : Bool) (at : ℕ) (old_round : Round) (ls : List Link) 
     mapping = subst (λ (a : Activity). Whole dom o at old_round a ls) e w
 
     -- a page is mapped
-    pub whole_mapping : rings new ≡ true → Whole dom o at old_round act (slice_set ls part new)
+    pub whole_mapping : rings new ≡ true → connects new ≡ true → Whole dom o at old_round act (slice_set ls part new)
     unfolding mapping
-    whole_mapping r =
+    whole_mapping r still =
         let n = length ls in
         let v = mapping in
         let old = v.fits part l g in
         subst (λ (a : Activity). Whole dom o at old_round a (slice_set ls part new)) (sym e)
         (make_whole dom o at old_round (activity.Connecting part) (slice_set ls part new) n (length-set ls part new) w.some w.few w.at_in w.round_in v.come_to
         (fits_set dom part (part + 1) part part (part + 1) part true true ls part new v.fits
-        (record { dom_is = d ∙ old.dom_is; both = λ b. absurd (omega (arith, b)); none = λ b. absurd (omega (arith, b)); rests = λ x. absurd (x refl); ring = λ m. r })
+        (record { dom_is = d ∙ old.dom_is; both = λ b. absurd (omega (arith, b)); none = λ b. absurd (omega (arith, b)); rests = λ x. absurd (x refl); ring = λ m. r; fresh = λ _ _ n. absurd (false≢true (sym n ∙ still)) })
         (λ j x other lt f. f))
         (λ h. absurd (false≢true h)))
 
@@ -84,8 +84,8 @@ module _ (dom : ℕ) (o : Bool) (at : ℕ) (old_round : Round) (ls : List Link) 
         let old = v.fits part l g in
         make_whole dom false at old_round (activity.Leaving end) (slice_set ls part new) n (length-set ls part new) w.some w.few w.at_in w.round_in w.some
         (fits_set dom part (part + 1) part 0 n n true false ls part new v.fits
-        (record { dom_is = d ∙ old.dom_is; both = λ b. absurd (omega (arith, b)); none = λ b. let lt = within ls part l g in absurd (omega (arith, b, lt)); rests = λ _. i; ring = λ m. absurd (false≢true m) })
-        (λ j x other lt f. record { dom_is = f.dom_is; both = λ b. absurd (omega (arith, b)); none = λ b. absurd (omega (arith, b, lt)); rests = λ _. f.rests other; ring = λ m. absurd (false≢true m) }))
+        (record { dom_is = d ∙ old.dom_is; both = λ b. absurd (omega (arith, b)); none = λ b. let lt = within ls part l g in absurd (omega (arith, b, lt)); rests = λ _. i; ring = λ m. absurd (false≢true m); fresh = λ m _ _. absurd (false≢true m) })
+        (λ j x other lt f. record { dom_is = f.dom_is; both = λ b. absurd (omega (arith, b)); none = λ b. absurd (omega (arith, b, lt)); rests = λ _. f.rests other; ring = λ m. absurd (false≢true m); fresh = λ m _ _. absurd (false≢true m) }))
         (λ h. absurd (false≢true h))
 
     -- the pages that are held then
@@ -94,41 +94,32 @@ module _ (dom : ℕ) (o : Bool) (at : ℕ) (old_round : Round) (ls : List Link) 
     held_refused =
         held_so_far ls part new (within ls part l g) (λ i x f b. (mapping.fits i x f).both b) (λ i x f b. (mapping.fits i x f).none b)
 
-  -- a part is connected, and the next one comes
-  pub whole_next : (part : ℕ) (act : Activity) → act ≡ activity.Connecting part → ((l : Link) → slice_get ls part ≡ Some l → (length (held_of l) ≡ 2) × (idle l ≡ true)) → part + 1 < length ls → Whole dom o at old_round act ls → Whole dom false at old_round (activity.Connecting (part + 1)) ls
-  whole_next part act e met lt w =
-      let n = length ls in
-      let v = subst (λ (a : Activity). Whole dom o at old_round a ls) e w in
-      make_whole dom false at old_round (activity.Connecting (part + 1)) ls n refl w.some w.few w.at_in w.round_in lt
-      (λ i l g.
-      let f = v.fits i l g in
-      elim (same_or_not i part) [
-        | inl same ↦
-            let m = met l (ap (slice_get ls) (sym same) ∙ g) in
-            record { dom_is = f.dom_is; both = λ b. m.0; none = λ b. absurd (omega (arith, b, same)); rests = λ _. m.1; ring = f.ring }
-        | inr other ↦
-            record { dom_is = f.dom_is; both = λ b. f.both (omega (arith, b, other)); none = λ b. f.none (omega (arith, b)); rests = λ _. f.rests other; ring = f.ring }
-      ])
-      (λ h. absurd (false≢true h))
+    -- the part is connected, and the next one comes
+    pub whole_next : length (held_of new) ≡ 2 → idle new ≡ true → part + 1 < length ls → Whole dom false at old_round (activity.Connecting (part + 1)) (slice_set ls part new)
+    unfolding mapping
+    whole_next two i short =
+        let n = length ls in
+        let v = mapping in
+        let old = v.fits part l g in
+        make_whole dom false at old_round (activity.Connecting (part + 1)) (slice_set ls part new) n (length-set ls part new) w.some w.few w.at_in w.round_in short
+        (fits_set dom part (part + 1) part (part + 1) (part + 1 + 1) (part + 1) true true ls part new v.fits
+        (record { dom_is = d ∙ old.dom_is; both = λ b. two; none = λ b. absurd (omega (arith, b)); rests = λ _. i; ring = λ _. idle_rings new i; fresh = λ _ b _. absurd (omega (arith, b)) })
+        (λ j x other lt f. record { dom_is = f.dom_is; both = λ b. f.both (omega (arith, b, other)); none = λ b. f.none (omega (arith, b)); rests = λ _. f.rests other; ring = f.ring; fresh = λ m b n. f.fresh m (omega (arith, b)) n }))
+        (λ h. absurd (false≢true h))
 
-  -- all parts are connected
-  pub whole_met : (part : ℕ) (act : Activity) (back : State) → act ≡ activity.Connecting part → ((l : Link) → slice_get ls part ≡ Some l → (length (held_of l) ≡ 2) × (idle l ≡ true)) → length ls ≤ part + 1 → is_open activity.Between false back ≡ true → Whole dom o at old_round act ls → Whole dom (is_open activity.Between false back) at (round.Looks 0 false) activity.Between ls
-  whole_met part act back e met past p w =
-      let n = length ls in
-      let v = subst (λ (a : Activity). Whole dom o at old_round a ls) e w in
-      subst (λ (x : Bool). Whole dom x at (round.Looks 0 false) activity.Between ls) (sym p)
-      (make_whole dom true at (round.Looks 0 false) activity.Between ls n refl w.some w.few w.at_in w.some w.some
-      (λ i l g.
-      let f = v.fits i l g in
-      let lt = within ls i l g in
-      elim (same_or_not i part) [
-        | inl same ↦
-            let m = met l (ap (slice_get ls) (sym same) ∙ g) in
-            record { dom_is = f.dom_is; both = λ b. m.0; none = λ b. absurd (omega (arith, b, lt)); rests = λ _. m.1; ring = λ h. absurd (false≢true h) }
-        | inr other ↦
-            record { dom_is = f.dom_is; both = λ b. f.both (omega (arith, b, other, past)); none = λ b. absurd (omega (arith, b, lt)); rests = λ _. f.rests other; ring = λ h. absurd (false≢true h) }
-      ])
-      (λ h. absurd (false≢true h)))
+    -- all parts are connected
+    pub whole_met : (back : State) → length (held_of new) ≡ 2 → idle new ≡ true → length ls ≤ part + 1 → is_open activity.Between false back ≡ true → Whole dom (is_open activity.Between false back) at (round.Looks 0 false) activity.Between (slice_set ls part new)
+    unfolding mapping
+    whole_met back two i past p =
+        let n = length ls in
+        let v = mapping in
+        let old = v.fits part l g in
+        subst (λ (x : Bool). Whole dom x at (round.Looks 0 false) activity.Between (slice_set ls part new)) (sym p)
+        (make_whole dom true at (round.Looks 0 false) activity.Between (slice_set ls part new) n (length-set ls part new) w.some w.few w.at_in w.some w.some
+        (fits_set dom part (part + 1) part n n n true false ls part new v.fits
+        (record { dom_is = d ∙ old.dom_is; both = λ b. two; none = λ b. let lt = within ls part l g in absurd (omega (arith, b, lt)); rests = λ _. i; ring = λ m. absurd (false≢true m); fresh = λ m _ _. absurd (false≢true m) })
+        (λ j x other lt f. record { dom_is = f.dom_is; both = λ b. f.both (omega (arith, lt, other, past)); none = λ b. absurd (omega (arith, b, lt)); rests = λ _. f.rests other; ring = λ m. absurd (false≢true m); fresh = λ m _ _. absurd (false≢true m) }))
+        (λ h. absurd (false≢true h)))
 
 -- what is left of a Connect is the Connect of the next part
 pub later_is : (site : Site) (nodes : List NodeValue) (part : ℕ) (ls : List Link) (met : List Joined) (l : Link) → slice_get ls part ≡ Some l → idle l ≡ true → dom_of l ≡ site.dom → part < site.parts → later site nodes part met ≡ connect_from site nodes part met (slice_get ls part)

@@ -15,6 +15,7 @@ pub mod Order
 pub mod Out
 pub mod Places
 pub mod Rounds
+pub mod SameLength
 pub mod Serve
 pub mod Served
 pub mod Serviced
@@ -42,6 +43,7 @@ pub mod StockPages
 pub mod Stocks
 pub mod Stores
 pub mod Telling
+pub mod Throughout
 pub mod Walking
 pub mod Wholes
 pub mod Works

@@ -12,14 +12,16 @@ use Rattle.page_directory.specs.declared.walk.Walked.TheVariants as walked
 use Rattle.display_backend.specs.declared.waiting.Waiting.TheVariants as waiting
 use Rattle.pv_words.specs.Found.{Found}
 use Rattle.pv_words.specs.Held.{IsProper}
-use Rattle.pv_words.specs.Plan.{Plan, Want, Note, FitsFrom, IsUntouched}
+use Rattle.pv_words.specs.Plan.{Plan, Finished, Make, Want, Note, FitsFrom, IsUntouched, found}
 use Rattle.pv_words.proofs.Fits.{fits_so}
 use Rattle.device_core.specs.Learned.{Learned, learning, learned_of}
 use Rattle.device_core.specs.Machine.{Reading, Moves, Passes, Plain, Sound, Stays, extended}
+use Rattle.device_core.specs.Order.{Between, During}
 use Rattle.device_core.specs.Site.{Site}
-use Rattle.device_core.specs.Touched.{Carried}
+use Rattle.device_core.specs.Touched.{Carried, carrying}
 use Rattle.device_core.proofs.ByPlain.{sound_of}
 use Rattle.device_core.proofs.Learning.{fits_learned}
+use Rattle.device_core.proofs.MachineRun.{IsGood}
 use Rattle.display_backend.specs.Machine.{Event, Says, Hears, Hand, Rows, ShowsWhy}
 use Rattle.display_backend.specs.Work.{Work, End, Saw, Took, Listed, Freed, Answered, Slept, Met, Denied, Lacked, Shut, Left, Renewed, Served, Naming, display, made_at, named_after, reading, replied_in, said_at, settled, status_of, taken_at, told, first_work, first_naming}
 use Rattle.display_backend.proofs.SoundBegins.{begins}
@@ -110,6 +112,20 @@ module _ (frames grants : ℕ → ℕ) (dom parts : ℕ) where
   pub first_named : sound.Named first_work first_naming
   unfolding sound plain sound_of
   first_named = refl
+
+  -- of what is held alone
+  holds_fit : (w : Work) (k : Carried Learned) (p : Plan End) → FitsFrom (λ (j : Carried Learned) want note. Lies j.own want note × IsUntouched note) (carrying (learning frames)) (λ (j : Carried Learned) o. (Tells (settled site w o) j.own × (j.touched ≡ [])) × (Ends w j.own o × (j.touched ≡ []))) k p → Fit frames grants dom (EndsSo frames grants dom parts w) k.own.holds p
+  holds_fit w k (Finished o) h = (h.0.0.0, h.1.0.0)
+  holds_fit w k (Make want note more) h = (h.0.0, λ v. holds_fit w (carrying (learning frames) k note (found want v)) (more v) (h.1 v))
+
+  -- what is known of what a display holds where it stands between two activities, and in one
+  pub tells_between : (w : Work) (k : Carried Learned) → IsGood (display site) (learned frames site) Lies sound (Between w) k → IsSane frames grants dom parts w × TellsHeld w k.own.holds
+  unfolding sound plain sound_of
+  tells_between w k g = (g.0, g.1.0.0)
+
+  pub fits_during : (w : Work) (p : Plan End) (k : Carried Learned) → IsGood (display site) (learned frames site) Lies sound (During w p) k → IsSane frames grants dom parts w × Fit frames grants dom (EndsSo frames grants dom parts w) k.own.holds p
+  unfolding sound plain sound_of
+  fits_during w p k g = (g.0, holds_fit w k p g.1)
 
   -- what a display says at an activity's end is as the words show that it found
   pub shows_why : (w : Work) (o : End) (k : Carried Learned) (t : Said) → sound.EndsWell w k o → (display site).said_at w o ≡ Some t → ShowsWhy site k.own.found t

@@ -54,7 +54,7 @@ pub between_fits : (dom met bare busy : ℕ) (ls : List Link) → AllFit dom met
 between_fits dom met bare busy ls fits i l e =
     let lt : i < length ls = within ls i l e in
     let f = fits i l e in
-    record { dom_is = f.dom_is; both = f.both; none = f.none; rests = λ _. f.rests (λ x. absurd (omega (arith, x, lt))); ring = f.ring }
+    record { dom_is = f.dom_is; both = f.both; none = f.none; rests = λ _. f.rests (λ x. absurd (omega (arith, x, lt))); ring = f.ring; fresh = f.fresh }
 
 -- where one link is busy, and changes
 pub busy_set : (dom t k busy : ℕ) (ls : List Link) (old new : Link) → AllFit dom t t k false ls → slice_get ls k ≡ Some old → dom_of new ≡ dom_of old → held_of new ≡ held_of old → (k ≢ busy → idle new ≡ true) → AllFit dom t t busy false (slice_set ls k new)
@@ -67,8 +67,9 @@ busy_set dom t k busy ls old new fits e d h rests =
       none = λ b. ap length h ∙ f.none b;
       rests = rests;
       ring = λ m. absurd (false≢true m);
+      fresh = λ m _ _. absurd (false≢true m);
     })
-    (λ i l other lt g. record { dom_is = g.dom_is; both = g.both; none = g.none; rests = λ _. g.rests other; ring = g.ring })
+    (λ i l other lt g. record { dom_is = g.dom_is; both = g.both; none = g.none; rests = λ _. g.rests other; ring = g.ring; fresh = g.fresh })
 
 -- while it serves, all links but that of the activity rest
 module _ (dom : ℕ) (o : Bool) (at : ℕ) (old_round : Round) (act : Activity) (ls : List Link) (w : Whole dom o at old_round act ls) where
@@ -104,7 +105,7 @@ module _ (dom : ℕ) (o : Bool) (at : ℕ) (old_round : Round) (act : Activity) 
       make_whole dom false at old_round activity.Between ls (length ls) refl w.some w.few w.at_in w.round_in w.some
       (λ i l g.
       let f = (whole_in (activity.Leaving end) e).fits i l g in
-      record { dom_is = f.dom_is; both = λ b. absurd (omega (arith, b)); none = λ _. held_bare ls bare i l g; rests = f.rests; ring = f.ring })
+      record { dom_is = f.dom_is; both = λ b. absurd (omega (arith, b)); none = λ _. held_bare ls bare i l g; rests = f.rests; ring = f.ring; fresh = f.fresh })
       (λ h. absurd (false≢true h))
 
 -- no part is connected yet
@@ -112,5 +113,5 @@ pub whole_new : (dom : ℕ) (o : Bool) (ls : List Link) (n : ℕ) → length ls 
 whole_new dom o ls n e some few shut all =
     subst (λ (x : Bool). Whole dom x 0 (round.Looks 0 false) activity.Between ls) (sym shut)
     (make_whole dom false 0 (round.Looks 0 false) activity.Between ls n e (omega (arith, some)) few (omega (arith, some)) (omega (arith, some)) (omega (arith, some))
-    (λ i l g. let f = all i l g in record { dom_is = f.0; both = λ b. absurd (omega (arith, b)); none = λ _. f.1; rests = λ _. f.2; ring = λ m. absurd (false≢true m) })
+    (λ i l g. let f = all i l g in record { dom_is = f.0; both = λ b. absurd (omega (arith, b)); none = λ _. f.1; rests = λ _. f.2; ring = λ m. absurd (false≢true m); fresh = λ m _ _. absurd (false≢true m) })
     (λ h. absurd (false≢true h)))

@@ -10,7 +10,7 @@ use Rattle.display_backend.specs.Stock.{Stock, Held, pages_of, pages_under}
 use Rattle.page_directory.specs.declared.walk.Walk.{Walk}
 use Rattle.page_directory.specs.WalkLeft as walk
 use Rattle.link_core.specs.declared.link.Link.{Link}
-use Rattle.link_core.specs.Link.{dom_of, held_of, idle, rings}
+use Rattle.link_core.specs.Link.{connects, dom_of, held_of, idle, rings}
 use Rattle.display_backend.specs.declared.display.Activity.{Activity}
 use Rattle.display_backend.specs.declared.display.Activity.TheVariants as activity
 use Rattle.display_backend.specs.declared.display.Progress.{Progress}
@@ -21,13 +21,15 @@ use Rattle.display_backend.specs.Machine.{verdict, is_accepted}
 use Rattle.display_backend.specs.Reply.{reply_to, status_in}
 use Rattle.display_backend.specs.Work.{part_in}
 
--- the link of part i: those before `met` hold both pages, those from `bare` on none, and all but `busy` rest
+-- the link of part i: those before `met` hold both pages, those from `bare` on none, and all but `busy` rest; while pages are
+-- mapped, one that isn't met, and isn't in its Connect, rests and holds none
 pub record Fits (dom met bare busy : ℕ) (mapping : Bool) (i : ℕ) (l : Link) : Type 0 where
   pub dom_is : dom_of l ≡ dom
   pub both : i < met → length (held_of l) ≡ 2
   pub none : bare ≤ i → length (held_of l) ≡ 0
   pub rests : i ≢ busy → idle l ≡ true
   pub ring : mapping ≡ true → rings l ≡ true
+  pub fresh : mapping ≡ true → met ≤ i → connects l ≡ false → (idle l ≡ true) × (length (held_of l) ≡ 0)
 
 -- of the parts
 pub record Whole (dom : ℕ) (opened : Bool) (at : ℕ) (round : Round) (activity : Activity) (links : List Link) : Type 0 where

@@ -114,6 +114,7 @@ impl Display {
     ghost use Rattle.display_backend.specs.declared.display.Activity.TheVariants as activity;
     ghost use Rattle.display_backend.specs.Display.{dev_of, dom_of, parts_of, Same, held_of, all_held, walk_pages, site_of, work_of, stand_of};
     ghost use Rattle.display_backend.specs.Goes.{Begins};
+    ghost use Rattle.display_backend.specs.Laws.{HoldsAsMany, HoldsPage};
     ghost use Rattle.device_core.specs.Site.{Site};
     ghost use Rattle.display_backend.specs.Waiting.{is_for};
     ghost use Rattle.host_events.specs.Queue.{refusal_in};
@@ -222,9 +223,10 @@ impl Display {
         }
     }
 
-    /// How many pages the display holds.
+    /// How many pages the display holds: as many as its accesses hold, by whatever it came to stand there.
     pub fn held(&self) -> u32
-        ensures { result ≡ length (held_of self.now) }
+        ensures count { result ≡ length (held_of self.now) }
+        ensures holds { HoldsAsMany self.now result }
     {
         self.walked() + self.store.held() + self.linked()
     }
@@ -257,10 +259,11 @@ impl Display {
     }
 
     /// The page at this place of those that it holds: those of a walk that is under way, those of buffers, and those of the
-    /// parts, in order, the ring's page before the event page.
+    /// parts, in order, the ring's page before the event page. It is one of those that its accesses hold.
     pub fn hold_at(&self, i: u32) -> Hold
         requires { i < length (held_of self.now) }
-        ensures { slice_get (held_of self.now) i ≡ Some result }
+        ensures place { slice_get (held_of self.now) i ≡ Some result }
+        ensures holds { HoldsPage self.now result }
     {
         let walked = self.walked();
         if i < walked {

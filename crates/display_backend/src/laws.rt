@@ -1,7 +1,7 @@
-//! What giving up pages comes to, and that the display keeps the laws of a service.
+//! What giving up pages comes to, what a display tells that it holds, and that it keeps the laws of a service.
 
 ghost use Rattle.device_service.specs.Claims.{Keeps, RestsAsleep, Runs, Tells};
-ghost use Rattle.display_backend.specs.Laws.{GivesUpInOrder, FreesInOrder, KeepsPages};
+ghost use Rattle.display_backend.specs.Laws.{GivesUpInOrder, FreesInOrder, KeepsPages, TellsWhatIsHeld};
 ghost use Rattle.display_backend.specs.Service.{display, shows, table};
 
 /// All pages are given up in order, the first of all first; the buffers stay.
@@ -28,4 +28,10 @@ pub fn displays_run()
     ensures keeps { Keeps display table shows }
     ensures tells { Tells display table shows }
     ensures rests { RestsAsleep display }
+{}
+
+/// Whatever a display has done and heard, the pages that it tells by `held` and `hold_at` are just those that its accesses hold,
+/// each as often: those that they mapped and didn't unmap, also while an activity is under way.
+pub fn tells_what_is_held()
+    ensures { TellsWhatIsHeld }
 {}

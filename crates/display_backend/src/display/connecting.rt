@@ -165,32 +165,7 @@ impl Display {
         self.leave(words, end)
     }
 
-    // What comes once a part is connected: the next part, or all are.
-    fn meets(&mut self, part: u8) -> Option<Said>
-        requires connecting { self.old.activity ≡ activity.Connecting part }
-        requires met { (l : Link) → slice_get self.old.links.items part ≡ Some l → (length (held l) ≡ 2) × (idle l ≡ true) }
-        ensures went { (site : Site) → site.parts ≡ parts_of self.old → site.dom ≡ dom_of self.old → Went (display site) (work_of self.old) (later site self.old.read (part + 1) (met_links (part + 1) self.old.links.items)) result (stand_of site self.new) }
-        ensures same { Same self.old self.new }
-    {
-        let following = part + 1;
-        if (following as usize) < self.links.len() {
-            self.activity = Activity::Connecting(following);
-            return None;
-        }
-        self.connection.moved(State::Connected);
-        self.closing = false;
-        self.kept = None;
-        self.hand = None;
-        self.progress = Progress::Decided;
-        self.store.clear();
-        self.waiting.clear();
-        self.left = 0;
-        self.round = Round::Looks(0, false);
-        self.activity = Activity::Between;
-        Some(Said::State(State::Connected))
-    }
-
-    // The next access of a Connect that has come to this part.
+    // The next access of a Connect that has come to this part. By the last access of a part the next part comes, or all are connected.
     pub(super) fn connect<W: Words>(&mut self, words: &mut W, part: u8) -> Step
         requires connecting { self.old.activity ≡ activity.Connecting part }
         requires may { MayGo (W.may words.old) (connecting (site_of (W.frames_of words.old) (W.grants_of words.old) self.old) self.old.read part self.old.links.items) }
@@ -201,18 +176,29 @@ impl Display {
     {
         let ring = Display::number_at(&self.read, part, 0);
         let event = Display::number_at(&self.read, part, 2);
-        let turn = self.links[part as usize].connect_step(
-            words,
-            Some(GrantRef(ring)),
-            GrantRef(event),
-        );
+        let link = &mut self.links[part as usize];
+        let turn = link.connect_step(words, Some(GrantRef(ring)), GrantRef(event));
         let access = turn.access;
         let Some(end) = turn.done else {
             return Step { access, said: None };
         };
         match end {
             Ok(()) => {
-                let said = self.meets(part);
+                if (part as usize) + 1 < self.links.len() {
+                    self.activity = Activity::Connecting(part + 1);
+                    return Step { access, said: None };
+                }
+                self.connection.moved(State::Connected);
+                self.closing = false;
+                self.kept = None;
+                self.hand = None;
+                self.progress = Progress::Decided;
+                self.store.clear();
+                self.waiting.clear();
+                self.left = 0;
+                self.round = Round::Looks(0, false);
+                self.activity = Activity::Between;
+                let said = Some(Said::State(State::Connected));
                 Step { access, said }
             }
             Err(refusal) => {

@@ -9,7 +9,7 @@ use Rattle.pv_words.specs.declared.grant.GrantRefusal.TheVariants as refusal
 use Rattle.pv_words.specs.declared.grant.Hold.{Hold}
 use Rattle.pv_words.specs.declared.grant.Mode.TheVariants.{Write}
 use Rattle.pv_words.specs.Plan.{Plan, Finished, Want, Goes, MayGo, IsUnfinished, joined, wanted}
-use Rattle.grant_table.specs.Mapping.{flags_plan, unmap_want}
+use Rattle.pv_words.specs.Mapping.{flags_plan, unmap_want}
 use Rattle.link_core.specs.declared.link.Link.{Link}
 use Rattle.link_core.specs.Activities.{Joined, Connected, Joins, Refuses, connect_plan, hold_list, unmaps, with_event, with_ring}
 use Rattle.link_core.specs.Link as link

@@ -8,8 +8,8 @@ use Rattle.pv_words.specs.declared.grant.Mode.TheVariants.{Write}
 use Rattle.pv_words.specs.Held.{Holds, IsProper, holding, holds_of}
 use Rattle.pv_words.specs.Plan.{Plan, Finished, Ends, FitsFrom, found, joined}
 use Rattle.pv_words.proofs.Fits.{fits_first}
-use Rattle.grant_table.specs.Mapping.{map_plan, unmap_want}
-use Rattle.grant_table.proofs.Refusing.{start_none, unmap_leaves}
+use Rattle.pv_words.specs.Mapping.{map_plan, unmap_want}
+use Rattle.pv_words.proofs.Refusing.{start_none, unmap_leaves}
 use Rattle.page_directory.specs.Same.{AreSame, times}
 use Rattle.page_directory.proofs.Counts.{times_append, times_unheld}
 use Rattle.link_core.specs.declared.link.Link.{Link}

@@ -12,8 +12,8 @@ use Rattle.pv_words.specs.Held.{Holds, IsProper, holding}
 use Rattle.pv_words.specs.Plan.{Plan, Finished, Make, Want, Load, Store, Swap, Clear, Note, Ends, FitsFrom, aim_of, found, joined, mapped}
 use Rattle.pv_words.specs.Plan as plan
 use Rattle.pv_words.proofs.Fits.{fits_first}
-use Rattle.grant_table.proofs.Refusing.{start_none, unmap_leaves}
-use Rattle.grant_table.specs.Mapping.{map_plan, unmap_want}
+use Rattle.pv_words.proofs.Refusing.{start_none, unmap_leaves}
+use Rattle.pv_words.specs.Mapping.{map_plan, unmap_want}
 use Rattle.displ_wire.specs.declared.Request.{Request}
 use Rattle.std.specs.Prelude.{ℤ}
 use Rattle.page_directory.specs.declared.walk.Walk.{Walk}

@@ -1,7 +1,7 @@
 use Rattle.std.proofs.Common.{◌≡◌, inl, inr, ◌<◌, Some, length, slice_set, refl, sym, ap, subst, ◌∙◌, arith}
 use Rattle.std.proofs.lemmas.List.{length-set}
 use Rattle.pv_words.specs.Plan.{wanted}
-use Rattle.grant_table.specs.Mapping.{unmap_want}
+use Rattle.pv_words.specs.Mapping.{unmap_want}
 use Rattle.link_core.specs.Link.{drop_left, held_of as link_held, rest_of}
 use Rattle.device_service.specs.Doing.{all_held}
 use Rattle.device_service.specs.Parts.{count_of, doing_of, dom_of, held_of, kind_of}

@@ -76,6 +76,7 @@ pub struct Backend<S: Serve + Drop> {
     ghost hand_in: { (h : Hand) → hand ≡ Some h → h.part < of_parts.count_of parts },
     ghost rung: { is_some hand ≡ true → S.service.kind ≡ Ringed },
     ghost waits: { WaitAt S.service.at (of_parts.count_of parts) waiting } by { Prim.hlevel (props, wait_prop) },
+    ghost of_domain: { is_working activity ≡ true → S.is_of dom.0 service ≡ true },
     ghost works: { S.going service ≡ is_working activity },
     ghost bare: { may_hold activity (is_open activity closing connection.back) ≡ false → S.service.pages (S.knows service) ≡ [] },
     ghost ready: { is_answering activity ≡ true → S.service.ready (S.knows service) ≡ true },

@@ -50,8 +50,7 @@ impl<S: Serve + Drop> Backend<S> {
     ghost use Rattle.device_service.specs.declared.backend.Activity.TheVariants as activity;
     ghost use Rattle.device_service.specs.declared.round.Round.TheVariants as round;
     ghost use Rattle.device_service.specs.Goes.{Begins};
-    ghost use Rattle.device_service.specs.Activity.{hand_part};
-    ghost use Rattle.device_service.specs.Stand.{Same, held_of, parts_of, site_at, stand_of, work_of};
+    ghost use Rattle.device_service.specs.Stand.{Same, hand_part, held_of, parts_of, site_at, stand_of, work_of};
     ghost use Rattle.device_service.specs.Work.{Answered, Done, Own, Saw, Slept, Took, decides_by, device, looks_at, serves_by, with_hand};
 
     // The first step of what comes next while all parts are connected.

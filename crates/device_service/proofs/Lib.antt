@@ -25,3 +25,4 @@ pub mod Works
 pub mod Serving
 pub mod Deeds
 pub mod Choices
+pub mod Out

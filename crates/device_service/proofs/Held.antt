@@ -1,20 +1,23 @@
 -- What links hold, and where their accesses lie.
-use Rattle.std.proofs.Common.{◌≡◌, ◌⊎◌, inl, inr, ℕ, zero, suc, ◌+◌, ◌*◌, ◌<◌, ◌≤◌, ◌++◌, List, [], ◌∷◌, Option, Some, None, length, get_or, map, slice_get, slice_set, refl, sym, ap, subst, ◌∙◌, append_assoc, length-append, arith}
+use Rattle.std.proofs.Common.{◌≡◌, ◌⊎◌, inl, inr, ℕ, zero, suc, ◌+◌, ◌*◌, ◌<◌, ◌≤◌, ◌++◌, List, [], ◌∷◌, Option, Some, None, Err, length, get_or, map, slice_get, slice_set, refl, sym, ap, subst, ◌∙◌, append_assoc, length-append, arith}
 use Rattle.std.proofs.lemmas.Bool.{cases_lt}
 use Rattle.std.proofs.lemmas.Option.{slice_get-get_or}
 use Rattle.pv_words.specs.declared.access.Access.{Access}
+use Rattle.pv_words.specs.declared.grant.GrantRefusal.{GrantRefusal}
 use Rattle.pv_words.specs.declared.grant.Hold.{Hold}
 use Rattle.pv_words.specs.declared.place.Place.TheVariants.{Cell, Grant}
 use Rattle.pv_words.specs.Held.{Has, Covers, CoversToWrite}
 use Rattle.pv_words.specs.Plan.{Plan, Finished, Want, Load, Store, Swap, Clear, MayGo, wanted}
 use Rattle.grant_table.specs.Mapping.{unmap_want}
 use Rattle.link_core.specs.declared.link.Link.{Link}
-use Rattle.link_core.specs.Activities.{Joined, hold_list, pages_of, page_at, unmaps}
+use Rattle.link_core.specs.Activities.{pages_of, page_at, unmaps}
 use Rattle.link_core.specs.Link.{held_of, joined_of, page_of, drop_left, Leads}
 use Rattle.link_core.specs.Stays.{LiesIn, AccessIn}
 use Rattle.link_core.proofs.Links.{holds_at_most, page_held}
+use Rattle.device_service.specs.declared.parts.Doing.{Doing}
+use Rattle.device_service.specs.declared.parts.Doing.TheVariants as doing
 use Rattle.device_service.specs.Doing.{all_held}
-use Rattle.device_service.specs.Parts.{Drops, MayDrop, met_links}
+use Rattle.device_service.specs.Parts.{Drops, LeftBy, MayDrop, UndoneAs, met_links}
 use Rattle.device_service.specs.Work.{all_pages, ring_hold, ring_page}
 use Rattle.device_service.proofs.Lists.{within}
 
@@ -194,3 +197,12 @@ drops_as held h left a e w = subst (λ hs. Drops hs a left) (sym e) (w, refl)
 
 pub bare_from : (ls : List Link) (k : ℕ) → length ls ≤ k → NoneBefore ls k → all_held ls ≡ []
 bare_from ls k past none = bare_held ls (λ i l e. none i l (omega (arith, past, within ls i l e)) e)
+
+-- whether a page is left of a refused Connect
+pub still_held : (why : GrantRefusal) (hs : List Hold) (d : Doing) → 0 < length hs → d ≡ doing.Undoing why → UndoneAs why hs None × LeftBy why hs d
+still_held why [] d some e = absurd (omega (arith, some))
+still_held why (h ∷ hs) d some e = (refl, e)
+
+pub none_held : (why : GrantRefusal) (hs : List Hold) → length hs ≡ 0 → UndoneAs why hs (Some (Err why)) × LeftBy why hs doing.Bare
+none_held why [] none = (refl, refl)
+none_held why (h ∷ hs) none = absurd (omega (arith, none))

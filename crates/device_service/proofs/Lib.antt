@@ -26,3 +26,4 @@ pub mod Serving
 pub mod Deeds
 pub mod Choices
 pub mod Out
+pub mod Sleeps

@@ -13,6 +13,7 @@ use Rattle.device_core.proofs.Steps.{steps_between, steps_during, steps_first, s
 use Rattle.device_service.specs.declared.backend.Activity.{Activity}
 use Rattle.device_service.specs.declared.backend.Backend.{Backend}
 use Rattle.device_service.specs.declared.serve.Serve.{Ghosts}
+use Rattle.device_service.specs.Dropping.{MayDrop}
 use Rattle.device_service.specs.Goes.{Begins, Closed, Closes, GoesOut}
 use Rattle.device_service.specs.Service.{Service}
 use Rattle.device_service.specs.Stand.{known_in, leaving_plan, stand_at, stand_in, stand_of, stuck, why_of, work_of}
@@ -76,9 +77,10 @@ module _ {X A V : Type 0} (s : Service X A V) (site : Site) where
   may_out may w (Make want note more) h = h
   may_out may w (Finished end) h = tt
 
-pub may_ends : {A B : Type 0} (may : Want → Type 0) (hs : List Hold) (x : A) (y : B) → MayGo may (unmaps hs (Finished x)) → MayGo may (unmaps hs (Finished y))
-may_ends may [] x y h = tt
-may_ends may (k ∷ ks) x y h = h
+-- the first page of a Close may be unmapped
+pub may_first : {B : Type 0} (may : Want → Type 0) (hs : List Hold) (x : B) → MayGo may (unmaps hs (Finished x)) → MayDrop may hs
+may_first may [] x h = tt
+may_first may (k ∷ ks) x h = h
 
 -- a Close of which nothing is left has no page to give up
 over_bare : {B : Type 0} (hs : List Hold) (x y : B) → unmaps hs (Finished x) ≡ Finished y → hs ≡ []

@@ -1,5 +1,5 @@
 -- A Connect maps the pages of each part, or unmaps all that it mapped.
-use Rattle.std.proofs.Common.{◌≡◌, ◌⊎◌, inl, inr, ℕ, suc, ◌+◌, true, false, List, [], ◌∷◌, ◌++◌, Option, Some, None, Result, Ok, Err, refl, sym, ◌∙◌, ap, subst, arith, length, length-append}
+use Rattle.std.proofs.Common.{◌≡◌, ◌⊎◌, inl, inr, ℕ, suc, ◌+◌, true, false, List, [], ◌∷◌, ◌++◌, Option, Some, None, Result, Err, refl, sym, ◌∙◌, ap, subst, arith, length, length-append}
 use Rattle.pv_words.specs.declared.grant.GrantRefusal.{GrantRefusal}
 use Rattle.pv_words.specs.declared.grant.Hold.{Hold}
 use Rattle.pv_words.specs.declared.grant.Mode.TheVariants.{Write}
@@ -17,7 +17,7 @@ use Rattle.link_core.proofs.PlanFits.{fits_connect}
 use Rattle.link_core.proofs.Shown.{FitFound, connects_show, unmaps_found}
 use Rattle.xenbus_states.specs.Needs.{Problem, first_fault}
 use Rattle.device_service.specs.Nodes.{Refs, IsAskedFor, needs_of, refs_from}
-use Rattle.device_service.specs.Work.{Work, End, all_pages, after_part, connect_parts, connected, connect_all, shut, settled}
+use Rattle.device_service.specs.Work.{Work, all_pages, after_part, connect_parts, connected, connect_all, shut, settled}
 use Rattle.device_service.proofs.SoundParts.{pages_last}
 use Rattle.device_service.proofs.SoundPlans.{Fit, AllOwn, own_append, own_joined, own_are, refused_own, fits_drop}
 use Rattle.device_service.proofs.SoundRefs.{AllAsked, IsRingAsked, all_asked}

@@ -1,5 +1,5 @@
 -- What is always true of the parts stays true where one link changes.
-use Rattle.std.proofs.Common.{◌≡◌, ◌≢◌, ◌⊎◌, inl, inr, ℕ, ◌+◌, ◌<◌, ◌≤◌, Bool, true, false, List, [], Option, Some, None, OnSome, is_some, length, slice_get, slice_set, refl, sym, ap, subst, ◌∙◌, arith}
+use Rattle.std.proofs.Common.{◌≡◌, ◌≢◌, ◌⊎◌, inl, inr, ℕ, ◌+◌, ◌<◌, ◌≤◌, ◌++◌, Bool, true, false, List, [], Option, Some, None, OnSome, is_some, length, slice_get, slice_set, refl, sym, ap, subst, ◌∙◌, arith}
 use Rattle.std.proofs.lemmas.Bool.{false≢true}
 use Rattle.std.proofs.lemmas.List.{length-set}
 use Rattle.pv_words.specs.declared.grant.GrantRefusal.{GrantRefusal}
@@ -10,8 +10,9 @@ use Rattle.link_core.proofs.Links.{idle_rings}
 use Rattle.device_service.specs.declared.parts.Doing.{Doing}
 use Rattle.device_service.specs.declared.parts.Doing.TheVariants as doing
 use Rattle.device_service.specs.Doing.{Fits, IsMet, Whole, all_held, bare_in, busy_in, is_mapping, is_open, met_in, part_in, uses_ring}
-use Rattle.device_service.specs.Parts.{MayServe, MaySleep, Rests, open_or, slept_to}
-use Rattle.device_service.proofs.Held.{held_bare}
+use Rattle.device_service.specs.Parts.{MayServe, MaySleep, Rests, met_links, open_or, slept_to}
+use Rattle.device_service.specs.Work.{all_pages}
+use Rattle.device_service.proofs.Held.{held_bare, held_so_far}
 use Rattle.device_service.proofs.Lists.{same_or_not, get_set, get_set_other, within}
 
 abbrev pub AllFit : (dom : ℕ) (ringed : Bool) (met bare busy : ℕ) → Bool → List Link → Type 0
@@ -257,3 +258,59 @@ module _ {A : Type 0} where
   whole_served dom ringed d t ls k old new o w opened busy come_to rung serving g same held pages rests =
       served dom ringed d ls w (serving_open d t opened serving) (open_or o t) k old new (open_after o t opened) g (serving_busy d t (length ls) k busy serving) same held pages
       (rests_after o t (length ls) k new busy rests) (in_after o t (length ls) w.some come_to) (λ _. rung)
+
+-- while a Connect has come to a part
+module _ (dom : ℕ) (ringed : Bool) (d : Doing) (ls : List Link) (part : ℕ) (e : d ≡ doing.Connecting part) (w : Whole dom ringed d ls) where
+  pub connecting_fits : AllFit dom ringed part (part + 1) part true ls
+  connecting_fits = (whole_as dom ringed d (doing.Connecting part) ls e w).fits
+
+  pub connecting_in : part < length ls
+  connecting_in = (whole_as dom ringed d (doing.Connecting part) ls e w).come_to
+
+  module _ (l new : Link) (g : slice_get ls part ≡ Some l) (same : dom_of new ≡ dom_of l) where
+    dom_here : dom_of new ≡ dom
+    dom_here = same ∙ (connecting_fits part l g).dom_is
+
+    -- a page is mapped
+    pub whole_mapping : (ringed ≡ true → rings new ≡ true) → connects new ≡ true → Whole dom ringed d (slice_set ls part new)
+    whole_mapping r c =
+        whole_as dom ringed (doing.Connecting part) d (slice_set ls part new) (sym e)
+        (make_whole dom ringed (doing.Connecting part) (slice_set ls part new) (length ls) (length-set ls part new) w.some w.few connecting_in
+        (fits_set dom ringed part (part + 1) part part (part + 1) part true true ls part new connecting_fits
+        (record { dom_is = dom_here; meets = λ b. absurd (omega (arith, b)); none = λ b. absurd (omega (arith, b)); rests = λ x. absurd (x refl); ring = λ m. r; fresh = λ m b x. absurd (false≢true (sym x ∙ c)) })
+        (λ i x other lt f. f))
+        (λ h. absurd (false≢true h)))
+
+    -- a page was refused
+    pub whole_refused : (why : GrantRefusal) → idle new ≡ true → Whole dom ringed (doing.Undoing why) (slice_set ls part new)
+    whole_refused why i =
+        let n = length ls in
+        make_whole dom ringed (doing.Undoing why) (slice_set ls part new) n (length-set ls part new) w.some w.few w.some
+        (fits_set dom ringed part (part + 1) part 0 n n true false ls part new connecting_fits
+        (record { dom_is = dom_here; meets = λ b. absurd (omega (arith, b)); none = λ b. absurd (omega (arith, b, connecting_in)); rests = λ _. i; ring = λ m. absurd (false≢true m); fresh = λ m. absurd (false≢true m) })
+        (λ j x other lt f. record { dom_is = f.dom_is; meets = λ b. absurd (omega (arith, b)); none = λ b. absurd (omega (arith, b, lt)); rests = λ _. f.rests other; ring = λ m. absurd (false≢true m); fresh = λ m. absurd (false≢true m) }))
+        (λ h. absurd (false≢true h))
+
+    -- a part is joined, and the next one comes
+    pub whole_next : IsMet ringed new → idle new ≡ true → part + 1 < length ls → Whole dom ringed (doing.Connecting (part + 1)) (slice_set ls part new)
+    whole_next met i lt =
+        make_whole dom ringed (doing.Connecting (part + 1)) (slice_set ls part new) (length ls) (length-set ls part new) w.some w.few lt
+        (fits_set dom ringed part (part + 1) part (part + 1) (part + 1 + 1) (part + 1) true true ls part new connecting_fits
+        (record { dom_is = dom_here; meets = λ _. met; none = λ b. absurd (omega (arith, b)); rests = λ _. i; ring = λ m r. idle_rings new i; fresh = λ m b. absurd (omega (arith, b)) })
+        (λ j x other short f. record { dom_is = f.dom_is; meets = λ b. f.meets (omega (arith, b, other)); none = λ b. f.none (omega (arith, b)); rests = λ _. f.rests other; ring = f.ring; fresh = λ m b. f.fresh m (omega (arith, b)) }))
+        (λ h. absurd (false≢true h))
+
+    -- all parts are joined
+    pub whole_met : IsMet ringed new → idle new ≡ true → length ls ≤ part + 1 → Whole dom ringed doing.Open (slice_set ls part new)
+    whole_met met i past =
+        let n = length ls in
+        make_whole dom ringed doing.Open (slice_set ls part new) n (length-set ls part new) w.some w.few w.some
+        (fits_set dom ringed part (part + 1) part n n n true false ls part new connecting_fits
+        (record { dom_is = dom_here; meets = λ _. met; none = λ b. absurd (omega (arith, b, connecting_in)); rests = λ _. i; ring = λ m. absurd (false≢true m); fresh = λ m. absurd (false≢true m) })
+        (λ j x other lt f. record { dom_is = f.dom_is; meets = λ b. f.meets (omega (arith, b, other, past)); none = λ b. absurd (omega (arith, b, lt)); rests = λ _. f.rests other; ring = λ m. absurd (false≢true m); fresh = λ m. absurd (false≢true m) }))
+        (λ h. absurd (false≢true h))
+
+    -- the pages that are held then
+    pub held_refused : all_held (slice_set ls part new) ≡ all_pages (met_links part ls) ++ held_of new
+    held_refused =
+        held_so_far ls part new connecting_in (λ i x f b. ((connecting_fits i x f).meets b).holds) (λ i x f b. (connecting_fits i x f).none b)

@@ -1,5 +1,5 @@
 -- What the parts of a device hold, and what is left of their activities.
-use Rattle.std.specs.Prelude.{◌≡◌, ◌≢◌, ◌⊎◌, ℕ, ◌+◌, ◌-◌, ◌<◌, ◌≤◌, Bool, true, false, List, [], ◌∷◌, ◌++◌, Option, Some, None, Result, Ok, Err, drop, length, map, slice_get, take}
+use Rattle.std.specs.Prelude.{◌≡◌, ◌⊎◌, ℕ, ◌+◌, ◌-◌, ◌<◌, Bool, true, false, List, [], ◌∷◌, Option, Some, None, Result, Ok, Err, drop, length, map, slice_get, take}
 use Rattle.pv_words.specs.declared.access.Access.{Access}
 use Rattle.pv_words.specs.declared.device.NodeValue.{NodeValue}
 use Rattle.pv_words.specs.declared.grant.GrantRefusal.{GrantRefusal}
@@ -10,17 +10,17 @@ use Rattle.ring_words.specs.declared.Looked.TheVariants as looked
 use Rattle.grant_table.specs.Mapping.{unmap_want}
 use Rattle.link_core.specs.declared.link.Link.{Link}
 use Rattle.link_core.specs.Activities.{Joined, answer_plan, look_plan, take_plan, unmaps}
-use Rattle.link_core.specs.Activities as activities
 use Rattle.link_core.specs.Link as link
+use Rattle.link_core.specs.Link.{Leads}
 use Rattle.device_core.specs.Site.{Site}
 use Rattle.device_service.specs.declared.parts.Doing.{Doing}
 use Rattle.device_service.specs.declared.parts.Doing.TheVariants as doing
 use Rattle.device_service.specs.declared.parts.Parts.{Parts}
 pub use Rattle.device_service.specs.Nodes.{kind_in}
-use Rattle.device_service.specs.Nodes.{Kind, Refs, refs_at, refs_from}
+use Rattle.device_service.specs.Nodes.{Kind, Ringed, Ringless, refs_at, refs_from}
 pub use Rattle.device_service.specs.Dropping.{Drops, MayDrop}
 use Rattle.device_service.specs.Claims.{site_of}
-use Rattle.device_service.specs.Work.{after_part, connect_parts, counted, ring_page, sleep_all, sleeps_on}
+use Rattle.device_service.specs.Work.{after_part, all_pages, connect_parts, counted, ring_page, sleep_all, sleeps_on}
 pub use Rattle.device_service.specs.Doing.{all_held, is_open}
 pub use Rattle.device_service.specs.Moves.{connects, is_asleep}
 
@@ -126,6 +126,11 @@ abbrev pub ending_of : Parts → Option (Result (Unit {0}) GrantRefusal) → Opt
 ending_of p None = None
 ending_of p (Some r) = Some (end_of p r)
 
+-- the pages that are held once a Connect is over
+abbrev pub kept_by : Result (List Joined) GrantRefusal → List Hold
+kept_by (Ok js) = all_pages js
+kept_by (Err why) = []
+
 -- the activity is this one, or the parts rest and it begins
 abbrev pub MayServe : Doing → Doing → Type 0
 MayServe old new = (old ≡ doing.Open) ⊎ (old ≡ new)
@@ -192,3 +197,20 @@ pub record Keeps (old new : Parts) : Type 0 where
   pub same : Same old new
   pub held : held_of new ≡ held_of old
   pub stays : joined_of new ≡ joined_of old
+
+-- what is left of a Connect over the frames and grant entries of their domain
+abbrev pub connect_of : (frames grants : ℕ → ℕ) → List NodeValue → Parts → Plan (Result (List Joined) GrantRefusal)
+connect_of frames grants nodes p = connect_left (site_in frames grants p) nodes p
+
+-- one step leads from what was left of it to what is left then, or ends it
+abbrev pub ConnectLeads : Site → List NodeValue → Parts → Parts → Option Access → Option (Result (Unit {0}) GrantRefusal) → Type 0
+ConnectLeads site nodes old new access ends = Leads (connect_left site nodes old) access (ending_of new ends) (connect_left site nodes new)
+
+abbrev pub ConnectSteps : (frames grants : ℕ → ℕ) → List NodeValue → Parts → Parts → Option Access → Option (Result (Unit {0}) GrantRefusal) → Type 0
+ConnectSteps frames grants nodes old new access ends = ConnectLeads (site_in frames grants old) nodes old new access ends
+
+-- what is left of one that begins is the whole of it
+abbrev pub Begins : Parts → Type 0
+Begins p =
+    (site : Site) (nodes : List NodeValue)
+    → site.dom ≡ dom_of p → site.parts ≡ count_of p → connect_left site nodes p ≡ connect_parts site (refs_from (kind_of p) nodes 0 site.parts) []

@@ -3,9 +3,9 @@
 ghost use Rattle.std.specs.Prelude.{◌≡◌, ◌<◌, ◌≤◌, ◌==◌, [], IfOk, IsSome, Some, false, length, slice_get, true};
 ghost use Rattle.device_service.specs.Doing.{Whole};
 
-use crate::reading::number_at;
+use crate::reading::{event_ref, ring_ref};
 use link_core::Link;
-use pv_words::{Access, DomId, GrantRef, GrantRefusal, Hold, Turn, Words};
+use pv_words::{Access, DomId, GrantRefusal, Hold, Turn, Words};
 use ring_words::Looked;
 use std::alloc::{AllocError, Global};
 use xenbus_states::Nodes;
@@ -50,15 +50,16 @@ impl Parts {
     ghost use Rattle.pv_words.specs.Plan.{Plan, MayGo, Makes, Turns};
     ghost use Rattle.link_core.specs.declared.link.Link.{Link};
     ghost use Rattle.link_core.specs.Activities.{Joined};
-    ghost use Rattle.link_core.specs.Link.{Leads};
     ghost use Rattle.link_core.specs.Link as link;
     ghost use Rattle.link_core.specs.Stays.{AccessIn};
     ghost use Rattle.device_core.specs.Site.{Site};
     ghost use Rattle.ring_words.specs.declared.Looked.{Looked};
     ghost use Rattle.device_service.specs.declared.parts.Doing.TheVariants as doing;
-    ghost use Rattle.device_service.specs.Nodes.{Ringed, refs_from};
-    ghost use Rattle.device_service.specs.Parts.{Connected, Drops, IsOpen, JoinsByAccess, Keeps, LeftBy, MayDrop, MayServe, MaySleep, Rests, Same, Slept, answer_left, answered_if, connect_left, connects, count_of, doing_of, dom_of, ending_of, held_of, joined_of, kind_in, kind_of, look_of, open_or, site_in, sleep_left, take_left, UndoneAs};
-    ghost use Rattle.device_service.specs.Work.{connect_parts};
+    ghost use Rattle.device_service.specs.Nodes.{Ringed};
+    ghost use Rattle.device_service.specs.Parts.{answer_left, answered_if, connect_of, connects, count_of, doing_of, dom_of, held_of};
+    ghost use Rattle.device_service.specs.Parts.{joined_of, kind_in, kind_of, look_of, open_or, sleep_left, slept_to, take_left};
+    ghost use Rattle.device_service.specs.Parts.{Begins, ConnectLeads, ConnectSteps, Connected, Drops, IsOpen, JoinsByAccess, Keeps};
+    ghost use Rattle.device_service.specs.Parts.{LeftBy, MayDrop, MayServe, MaySleep, Rests, Same, Slept, UndoneAs};
 
     /// So many parts of this domain's device, each with a ring or without, none of which is joined.
     pub fn new(alloc: Global, dom: DomId, parts: u8, ringed: bool) -> Result<Parts, AllocError>
@@ -147,7 +148,7 @@ impl Parts {
     pub fn begin(&mut self)
         requires { doing_of self.old ≡ doing.Bare }
         ensures connects { connects (doing_of self.new) ≡ true }
-        ensures begins { (site : Site) (nodes : List NodeValue) → site.dom ≡ dom_of self.new → site.parts ≡ count_of self.new → connect_left site nodes self.new ≡ connect_parts site (refs_from (kind_of self.new) nodes 0 site.parts) [] }
+        ensures begins { Begins self.new }
         ensures keeps { Keeps self.old self.new }
     {
         self.doing = Doing::Connecting(0);
@@ -187,7 +188,7 @@ impl Parts {
     fn undo<W: Words>(&mut self, words: &mut W, why: GrantRefusal) -> Turn<Result<(), GrantRefusal>>
         requires undoing { doing_of self.old ≡ doing.Undoing why }
         requires may { MayDrop (W.may words.old) (held_of self.old) }
-        ensures leads { (site : Site) (nodes : List NodeValue) → Leads (connect_left site nodes self.old) result.access (ending_of self.new result.done) (connect_left site nodes self.new) }
+        ensures leads { (site : Site) (nodes : List NodeValue) → ConnectLeads site nodes self.old self.new result.access result.done }
         ensures made { Makes W.makes words.old result.access words.new }
         ensures stays { (pages : List Hold) → AccessIn pages result.access }
         ensures connected { Connected result.done (doing_of self.new) }
@@ -216,8 +217,8 @@ impl Parts {
         nodes: &Nodes,
     ) -> Turn<Result<(), GrantRefusal>>
         requires connecting { connects (doing_of self.old) ≡ true }
-        requires may { MayGo (W.may words.old) (connect_left (site_in (W.frames_of words.old) (W.grants_of words.old) self.old) nodes.now self.old) }
-        ensures leads { Leads (connect_left (site_in (W.frames_of words.old) (W.grants_of words.old) self.old) nodes.now self.old) result.access (ending_of self.new result.done) (connect_left (site_in (W.frames_of words.old) (W.grants_of words.old) self.old) nodes.now self.new) }
+        requires may { MayGo (W.may words.old) (connect_of (W.frames_of words.old) (W.grants_of words.old) nodes.now self.old) }
+        ensures leads { ConnectSteps (W.frames_of words.old) (W.grants_of words.old) nodes.now self.old self.new result.access result.done }
         ensures made { Makes W.makes words.old result.access words.new }
         ensures stays { AccessIn (held_of self.old) result.access }
         ensures connected { Connected result.done (doing_of self.new) }
@@ -229,12 +230,8 @@ impl Parts {
             Doing::Undoing(why) => return self.undo(words, why),
             _ => unreachable!(),
         };
-        let ring = if self.ringed {
-            Some(GrantRef(number_at(nodes, part, 0)))
-        } else {
-            None
-        };
-        let event = GrantRef(number_at(nodes, part, if self.ringed { 2 } else { 0 }));
+        let ring = ring_ref(nodes, part, self.ringed);
+        let event = event_ref(nodes, part, self.ringed);
         let turn = self.links[part as usize].connect_step(words, ring, event);
         let access = turn.access;
         let Some(end) = turn.done else {
@@ -326,6 +323,16 @@ impl Parts {
         turn
     }
 
+    // The part that a Sleep has come to; it begins at the first.
+    fn slept_to(&self) -> u8
+        ensures { result ≡ slept_to (doing_of self.now) }
+    {
+        match self.doing {
+            Doing::Sleeping(part) => part,
+            _ => 0,
+        }
+    }
+
     /// The next access of a Sleep over all parts, in order. It ends with false at the first that has a request.
     pub fn sleep_step<W: Words>(&mut self, words: &mut W) -> Turn<bool>
         requires serving { MaySleep (doing_of self.old) }
@@ -337,10 +344,7 @@ impl Parts {
         ensures doing { Slept result.done (doing_of self.new) }
         ensures keeps { Keeps self.old self.new }
     {
-        let part = match self.doing {
-            Doing::Sleeping(part) => part,
-            _ => 0,
-        };
+        let part = self.slept_to();
         let turn = self.links[part as usize].sleep_step(words);
         let access = turn.access;
         let Some(quiet) = turn.done else {

@@ -3,10 +3,11 @@
 ghost use Rattle.std.specs.Prelude.{◌≡◌, ◌<◌, ◌≤◌};
 ghost use Rattle.xenbus_states.specs.Needs.{first_fault, needs_at, needs_from};
 ghost use Rattle.xenbus_states.specs.Nodes.{number_at};
-ghost use Rattle.device_service.specs.Nodes.{fault_in, keys_of};
+ghost use Rattle.link_core.specs.Link.{refs_of};
+ghost use Rattle.device_service.specs.Nodes.{fault_in, keys_of, refs_at};
 ghost use Rattle.device_service.specs.Parts.{kind_in};
 
-use pv_words::Reason;
+use pv_words::{GrantRef, Reason};
 use xenbus_states::Nodes;
 
 // The number in a node of this part, once it is known to be there.
@@ -18,6 +19,29 @@ pub(crate) fn number_at(nodes: &Nodes, part: u8, key: u8) -> u32
     match nodes.need(part, key) {
         Ok(n) => n,
         Err(_) => 0,
+    }
+}
+
+// The reference of a part's ring page, if it has a ring, and that of its event page.
+pub(crate) fn ring_ref(nodes: &Nodes, part: u8, ringed: bool) -> Option<GrantRef>
+    requires { part < 4 }
+    ensures { refs_of result ≡ (refs_at (kind_in ringed) nodes.now part).ring }
+{
+    if ringed {
+        Some(GrantRef(number_at(nodes, part, 0)))
+    } else {
+        None
+    }
+}
+
+pub(crate) fn event_ref(nodes: &Nodes, part: u8, ringed: bool) -> GrantRef
+    requires { part < 4 }
+    ensures { result.0 ≡ (refs_at (kind_in ringed) nodes.now part).event }
+{
+    if ringed {
+        GrantRef(number_at(nodes, part, 2))
+    } else {
+        GrantRef(number_at(nodes, part, 0))
     }
 }
 

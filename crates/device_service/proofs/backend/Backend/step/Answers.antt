@@ -11,7 +11,7 @@ use Rattle.device_service.specs.Parts as of_parts
 use Rattle.device_service.specs.Stand.{dom_of, given_up, held_of, known_in, leaving_plan, parts_of, stand_of, work_of}
 use Rattle.device_service.specs.Work.{Answered, Done, Own, Slept, Took, choice, connected}
 use Rattle.device_service.proofs.Deeds.{may_mapped}
-use Rattle.device_service.proofs.Out.{known_left, known_out, leaves_bare, may_ends, may_in, may_out, steps_begin, steps_in, steps_on, steps_out}
+use Rattle.device_service.proofs.Out.{known_left, known_out, leaves_bare, may_first, may_in, may_out, steps_begin, steps_in, steps_on, steps_out}
 use Rattle.device_service.proofs.Serving.{in_parts, rings_asleep, rings_in_use}
 use Rattle.device_service.proofs.backend.Backend.step.Goals as goal
 
@@ -56,7 +56,7 @@ leave-requires-clause-may g c =
     let d = c.args.self.now in
     let s = g.S.Serve.service in
     let site : Site = site_of (g.W.Words.frames_of c.args.words.now) (g.W.Words.grants_of c.args.words.now) (dom_of d) (parts_of d) in
-    may_ends (g.W.Words.may c.args.words.now) (given_up d) _ _ (may_out s site (g.W.Words.may c.args.words.now) (work_of d) (leaving_plan c.in-Leaving.why (given_up d)) (may_in site d (g.W.Words.may c.args.words.now) (activity.Leaving c.in-Leaving.why) c.in-Leaving.is c.requires))
+    may_first (g.W.Words.may c.args.words.now) (given_up d) _ (may_out s site (g.W.Words.may c.args.words.now) (work_of d) (leaving_plan c.in-Leaving.why (given_up d)) (may_in site d (g.W.Words.may c.args.words.now) (activity.Leaving c.in-Leaving.why) c.in-Leaving.is c.requires))
 
 pub returns-in-Leaving-clause-steps : goal.returns-in-Leaving-clause-steps
 unfolding work_of given_up

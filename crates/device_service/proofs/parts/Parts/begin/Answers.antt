@@ -1,4 +1,4 @@
-use Rattle.std.proofs.Common.{◌≡◌, ◌<◌, length, refl, sym, ap, ◌∙◌, subst, arith}
+use Rattle.std.proofs.Common.{◌<◌, refl, sym, ap, ◌∙◌, arith}
 use Rattle.device_service.specs.Parts.{connect_left, count_of, doing_of, dom_of, held_of, joined_in, joined_of, kind_of}
 use Rattle.device_service.specs.Doing.{is_open}
 use Rattle.device_service.proofs.Connects.{begins_at}

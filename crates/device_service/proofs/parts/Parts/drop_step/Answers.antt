@@ -1,13 +1,10 @@
-use Rattle.std.proofs.Common.{◌≡◌, inl, inr, ℕ, ◌<◌, [], ◌∷◌, Some, None, length, slice_get, slice_set, refl, sym, ap, subst, ◌∙◌, arith}
+use Rattle.std.proofs.Common.{◌≡◌, inl, inr, ◌<◌, Some, length, slice_set, refl, sym, ap, subst, ◌∙◌, arith}
 use Rattle.std.proofs.lemmas.List.{length-set}
-use Rattle.pv_words.specs.declared.access.Access.{Access}
-use Rattle.pv_words.specs.declared.grant.Hold.{Hold}
 use Rattle.pv_words.specs.Plan.{wanted}
 use Rattle.grant_table.specs.Mapping.{unmap_want}
 use Rattle.link_core.specs.Link.{drop_left, held_of as link_held, rest_of}
-use Rattle.link_core.specs.Stays.{AccessIn}
 use Rattle.device_service.specs.Doing.{all_held}
-use Rattle.device_service.specs.Parts.{count_of, doing_of, dom_of, held_of, kind_of, Drops}
+use Rattle.device_service.specs.Parts.{count_of, doing_of, dom_of, held_of, kind_of}
 use Rattle.device_service.proofs.Held.{cons_of, drop_clears, drops_as, first_drop, held_here, in_unmap, may_drop, same_access, within_held}
 use Rattle.device_service.proofs.Wholes.{given_idle, whole_dropped}
 use Rattle.device_service.proofs.parts.Parts.drop_step.Goals as goal

@@ -1,6 +1,5 @@
-use Rattle.std.proofs.Common.{◌≡◌, ◌<◌, ◌-◌, true, length, ap, sym, ◌∙◌, arith, Some, slice_get, List}
-use Rattle.pv_words.specs.declared.grant.Hold.{Hold}
-use Rattle.link_core.specs.Activities.{Joined, pages_of}
+use Rattle.std.proofs.Common.{◌<◌, length, ap, ◌∙◌, arith}
+use Rattle.link_core.specs.Activities.{Joined}
 use Rattle.link_core.specs.Link.{joined_of as link_joined, held_of as link_held}
 use Rattle.device_service.specs.Parts.{count_of, doing_of, joined_of}
 use Rattle.device_service.proofs.Held.{here}

@@ -1,6 +1,5 @@
-use Rattle.std.proofs.Common.{◌≡◌, ◌<◌, true, length, ap, sym, ◌∙◌, arith}
+use Rattle.std.proofs.Common.{◌<◌, length, ap, ◌∙◌, arith}
 use Rattle.link_core.specs.Activities.{Joined}
-use Rattle.link_core.specs.Link.{joined_of as link_joined}
 use Rattle.device_service.specs.Parts.{count_of, doing_of, joined_of}
 use Rattle.device_service.proofs.Held.{here}
 use Rattle.device_service.proofs.Opened.{joined_here}

@@ -1,7 +1,6 @@
-use Rattle.std.proofs.Common.{◌≡◌, inl, inr, ℕ, ◌<◌, true, List, Option, Some, None, length, slice_get, slice_set, refl, sym, ap, subst, ◌∙◌, arith}
+use Rattle.std.proofs.Common.{◌<◌, length, refl, sym, subst, arith}
 use Rattle.pv_words.specs.Plan.{MayGo, Turns}
-use Rattle.device_service.specs.Doing.{is_open}
-use Rattle.device_service.specs.Parts.{count_of, doing_of, held_of, joined_in, joined_of, kind_of, look_of}
+use Rattle.device_service.specs.Parts.{count_of, doing_of, held_of, joined_of, kind_of}
 use Rattle.device_service.proofs.Held.{here, in_all}
 use Rattle.device_service.proofs.Opened.{looks_is, rung_by}
 use Rattle.device_service.proofs.Wholes.{all_met}

@@ -1,4 +1,4 @@
-use Rattle.std.proofs.Common.{◌≡◌, inl, inr, length-append, ◌+◌, true, List, ◌∷◌, [], length, slice_get, refl, sym, ap, subst, ◌∙◌, arith}
+use Rattle.std.proofs.Common.{◌≡◌, inl, inr, length-append, ◌+◌, true, ◌∷◌, [], length, slice_get, refl, sym, ap, subst, ◌∙◌, arith}
 use Rattle.link_core.specs.declared.link.Link.{Link}
 use Rattle.link_core.specs.Link.{dom_of as link_dom, held_of as link_held, idle}
 use Rattle.device_service.specs.Parts.{count_of, doing_of, dom_of, held_of, kind_of}

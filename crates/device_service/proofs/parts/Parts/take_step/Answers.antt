@@ -1,6 +1,5 @@
-use Rattle.std.proofs.Common.{◌≡◌, ◌<◌, true, Some, length, slice_set, refl, sym, ap, subst, ◌∙◌, arith}
+use Rattle.std.proofs.Common.{◌≡◌, ◌<◌, length, slice_set, refl, sym, ap, subst, ◌∙◌, arith}
 use Rattle.std.proofs.lemmas.List.{length-set}
-use Rattle.pv_words.specs.Plan.{Turns}
 use Rattle.link_core.specs.Activities.{pages_of}
 use Rattle.device_service.specs.declared.parts.Doing.{Doing}
 use Rattle.device_service.specs.declared.parts.Doing.TheVariants as doing

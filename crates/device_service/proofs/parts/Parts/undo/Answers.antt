@@ -1,8 +1,8 @@
-use Rattle.std.proofs.Common.{◌≡◌, inl, inr, ℕ, ◌<◌, ◌≤◌, [], ◌∷◌, Some, None, Err, length, slice_get, slice_set, refl, sym, ap, subst, ◌∙◌, arith}
+use Rattle.std.proofs.Common.{inr, ◌<◌, ◌≤◌, length, slice_set, refl, ap, ◌∙◌, arith}
 use Rattle.std.proofs.lemmas.List.{length-set}
 use Rattle.link_core.specs.Link.{drop_left, held_of as link_held, rest_of}
 use Rattle.device_service.specs.Doing.{all_held, busy_in}
-use Rattle.device_service.specs.Parts.{count_of, doing_of, dom_of, held_of, kind_of, LeftBy, UndoneAs}
+use Rattle.device_service.specs.Parts.{count_of, doing_of, dom_of, held_of, kind_of}
 use Rattle.device_service.proofs.Connects.{undo_goes, undone_at_once}
 use Rattle.device_service.proofs.Held.{bare_from, cons_of, drop_clears, first_drop, here, in_unmap, may_drop}
 use Rattle.device_service.proofs.Wholes.{given_idle, whole_dropped, whole_left}

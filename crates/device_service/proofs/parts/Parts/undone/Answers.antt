@@ -1,11 +1,9 @@
-use Rattle.std.proofs.Common.{◌≡◌, ◌<◌, ◌==◌, true, false, List, [], ◌∷◌, Some, None, Ok, Err, length, refl, sym, ap, subst, ◌∙◌, arith}
+use Rattle.std.proofs.Common.{◌≡◌, ◌<◌, ◌==◌, true, false, length, refl, sym, ap, ◌∙◌, arith}
 use Rattle.std.proofs.lemmas.Bool.Decides.{nat_tests}
-use Rattle.pv_words.specs.declared.grant.Hold.{Hold}
 use Rattle.device_service.specs.declared.parts.Doing.{Doing}
-use Rattle.device_service.specs.declared.parts.Doing.TheVariants as doing
 use Rattle.device_service.specs.Doing.{busy_in}
-use Rattle.device_service.specs.Parts.{connects, count_of, doing_of, dom_of, held_of, kind_of, LeftBy, UndoneAs}
-use Rattle.device_service.proofs.Held.{cons_of, nil_of}
+use Rattle.device_service.specs.Parts.{connects, count_of, doing_of, dom_of, held_of, kind_of}
+use Rattle.device_service.proofs.Held.{nil_of, none_held, still_held}
 use Rattle.device_service.proofs.Wholes.{whole_left}
 use Rattle.device_service.proofs.parts.Parts.undone.Goals as goal
 
@@ -15,11 +13,11 @@ returns-then-not-is_bare c =
     let p = c.args.self.now in
     let test : (length (held_of p) == 0) ≡ false = sym c.is_bare.ensures ∙ c.if-not-is_bare.true in
     let some : 0 < length (held_of p) = grind (arith, nat_tests, test) in
-    let pages = cons_of (held_of p) some in
+    let still = still_held c.args.why (held_of p) (doing_of p) some c.requires in
     record {
-      ends = subst (λ hs. UndoneAs c.args.why hs None) (sym pages.2) refl;
+      ends = still.0;
       connected = ap connects c.requires;
-      left = subst (λ hs. LeftBy c.args.why hs (doing_of p)) (sym pages.2) c.requires;
+      left = still.1;
       held = refl;
       same = record { dom = refl; count = refl; kind = refl };
     }
@@ -38,11 +36,11 @@ returns c =
     let p = c.args.self.now in
     let test : (length (held_of p) == 0) ≡ true = sym c.is_bare.ensures ∙ c.if-not-is_bare.false in
     let none : length (held_of p) ≡ 0 = grind (arith, nat_tests, test) in
-    let bare = nil_of (held_of p) none in
+    let over = none_held c.args.why (held_of p) none in
     record {
-      ends = subst (λ hs. UndoneAs c.args.why hs (Some (Err c.args.why))) (sym bare) refl;
+      ends = over.0;
       connected = refl;
-      left = subst (λ (hs : List Hold). LeftBy c.args.why hs doing.Bare) (sym bare) refl;
+      left = over.1;
       held = refl;
       same = record { dom = refl; count = refl; kind = refl };
     }

@@ -150,7 +150,7 @@ has_left P [] ys h = absurd h
 has_left P (x ∷ xs) ys (inl p) = inl p
 has_left P (x ∷ xs) ys (inr h) = inr (has_left P xs ys h)
 
-has_right : {A : Type 0} (P : A → Type 0) (xs ys : List A) → Has P ys → Has P (xs ++ ys)
+pub has_right : {A : Type 0} (P : A → Type 0) (xs ys : List A) → Has P ys → Has P (xs ++ ys)
 has_right P [] ys h = h
 has_right P (x ∷ xs) ys h = inr (has_right P xs ys h)
 

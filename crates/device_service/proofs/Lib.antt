@@ -1,5 +1,10 @@
 pub mod Claims
 pub mod Fitting
+pub mod Connecting
+pub mod Hearing
+pub mod HeldAll
+pub mod Leaving
+pub mod PartsLaws
 pub mod Sound
 pub mod Resting
 pub mod SoundBegins
@@ -20,7 +25,6 @@ pub mod Wholes
 pub mod Opened
 pub mod Connects
 pub mod Faults
-pub mod PartsLaws
 pub mod Works
 pub mod Serving
 pub mod Deeds

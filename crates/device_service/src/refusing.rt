@@ -61,6 +61,8 @@ impl Serve for Refusing {
 
     ghost stays_bare = { λ x e. refl };
 
+    ghost drops_bare = { λ x e. refl };
+
     ghost whole_replies = { whole_replies };
 
     ghost refuses = { λ b es e. refl };

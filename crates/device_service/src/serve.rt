@@ -70,6 +70,9 @@ pub trait Serve {
     /// A service that holds no page has none to give up.
     ghost stays_bare: { (x : Known) → service.pages x ≡ [] → service.stripped x ≡ x };
 
+    /// Nor does it hold one once its request is dropped.
+    ghost drops_bare: { (x : Known) → service.pages x ≡ [] → service.pages (service.dropped x) ≡ [] };
+
     /// A reply has sixteen words.
     ghost whole_replies: { (x : Known) → length (service.reply x) ≡ 16 };
 

@@ -23,6 +23,7 @@ impl<S: Serve + Drop> Backend<S> {
     ghost use Rattle.xenbus_states.specs.declared.back.Action.TheVariants as action;
     ghost use Rattle.device_service.specs.declared.backend.Activity.TheVariants as activity;
     ghost use Rattle.device_service.specs.Goes.{Begins, GoesOut};
+    ghost use Rattle.device_service.specs.Dropping.{MayDrop};
     ghost use Rattle.device_service.specs.Parts.{connect_left};
     ghost use Rattle.device_service.specs.Stand.{Same, dom_of, given_up, held_of, leaving_plan, parts_of, site_at, stand_of, work_of};
     ghost use Rattle.device_service.specs.Work.{close, connected, device, entered, shut, with_action};
@@ -62,7 +63,7 @@ impl<S: Serve + Drop> Backend<S> {
     // The next access of a Close.
     pub(super) fn leave<W: Words>(&mut self, words: &mut W, why: Reason) -> Step
         requires leaving { self.old.activity ≡ activity.Leaving why }
-        requires may { MayGo (W.may words.old) (leaving_plan why (given_up self.old)) }
+        requires may { MayDrop (W.may words.old) (given_up self.old) }
         ensures goes { (site : Site) → GoesOut S.service site (work_of self.old) (leaving_plan why (given_up self.old)) result.access result.said (stand_of site self.new) }
         ensures made { Makes W.makes words.old result.access words.new }
         ensures stays { (pages : List Hold) → AccessIn pages result.access }
@@ -108,14 +109,15 @@ impl<S: Serve + Drop> Backend<S> {
         self.closing = true;
         self.kept = None;
         self.hand = None;
+        self.activity = Activity::Between;
         Said::Closed(why)
     }
 
     // The next access of a Connect.
     pub(super) fn connect<W: Words>(&mut self, words: &mut W) -> Step
         requires connecting { self.old.activity ≡ activity.Connecting }
-        requires may { MayGo (W.may words.old) (connect_left (site_at (W.frames_of words.old) (W.grants_of words.old) self.old) self.old.read.now self.old.parts) }
-        ensures goes { GoesOut S.service (site_at (W.frames_of words.old) (W.grants_of words.old) self.old) (work_of self.old) (mapped connected (connect_left (site_at (W.frames_of words.old) (W.grants_of words.old) self.old) self.old.read.now self.old.parts)) result.access result.said (stand_of (site_at (W.frames_of words.old) (W.grants_of words.old) self.old) self.new) }
+        requires may { MayGo (W.may words.old) (connect_left (site_at (W.frames_of words.old) (W.grants_of words.old) self.old) self.old.read self.old.parts) }
+        ensures goes { GoesOut S.service (site_at (W.frames_of words.old) (W.grants_of words.old) self.old) (work_of self.old) (mapped connected (connect_left (site_at (W.frames_of words.old) (W.grants_of words.old) self.old) self.old.read self.old.parts)) result.access result.said (stand_of (site_at (W.frames_of words.old) (W.grants_of words.old) self.old) self.new) }
         ensures made { Makes W.makes words.old result.access words.new }
         ensures stays { AccessIn (held_of self.old) result.access }
         ensures same { Same self.old self.new }
@@ -123,6 +125,7 @@ impl<S: Serve + Drop> Backend<S> {
         let turn = self.parts.connect_step(words, &self.read);
         let access = turn.access;
         let Some(end) = turn.done else {
+            self.activity = Activity::Connecting;
             return Step { access, said: None };
         };
         self.activity = Activity::Between;
@@ -183,6 +186,7 @@ impl<S: Serve + Drop> Backend<S> {
         self.hand = None;
         self.service.start(&self.read);
         self.waiting.clear();
+        self.activity = Activity::Between;
         Step {
             access: None,
             said: Some(Said::State(s)),

@@ -7,7 +7,7 @@ use Rattle.pv_words.specs.Found.{Found, finding}
 use Rattle.pv_words.specs.Held.{Holds, IsProper, holding, holds_of}
 use Rattle.pv_words.specs.Plan.{Plan, Finished, Note, IsUntouched}
 use Rattle.pv_words.proofs.Fits.{fits_joined, fits_mapped, fits_then}
-use Rattle.grant_table.specs.Laws.{IsHold}
+use Rattle.pv_words.specs.MapLaws.{IsHold}
 use Rattle.page_directory.specs.Same.{times}
 use Rattle.page_directory.proofs.Counts.{times_append}
 use Rattle.link_core.specs.Activities as link

@@ -3,7 +3,7 @@ use Rattle.std.specs.Prelude.{◌≡◌, List, [], ◌∷◌}
 use Rattle.pv_words.specs.declared.access.Access.{Access}
 use Rattle.pv_words.specs.declared.grant.Hold.{Hold}
 use Rattle.pv_words.specs.Plan.{Want, wanted}
-use Rattle.grant_table.specs.Mapping.{unmap_want}
+use Rattle.pv_words.specs.Mapping.{unmap_want}
 
 -- the first of these pages may be unmapped, and it is
 abbrev pub MayDrop : (Want → Type 0) → List Hold → Type 0

@@ -12,7 +12,7 @@ use Rattle.pv_words.specs.declared.device.State.{State}
 use Rattle.pv_words.specs.declared.device.State.TheVariants as state
 use Rattle.pv_words.specs.declared.grant.Mode.TheVariants.{Write}
 use Rattle.pv_words.specs.Found.{Found}
-use Rattle.grant_table.specs.Laws.{IsShown}
+use Rattle.pv_words.specs.MapLaws.{IsShown}
 use Rattle.ring_words.specs.Ring.{since}
 use Rattle.xenbus_states.specs.Bus.{Bus, IsCause, MayClose, MayConnect, MayEnter, bus_begun, bus_closed, bus_entered, bus_heard}
 use Rattle.host_events.specs.Queue.{unless}

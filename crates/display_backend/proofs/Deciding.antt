@@ -7,7 +7,7 @@ use Rattle.pv_words.specs.declared.grant.Hold.{Hold}
 use Rattle.pv_words.specs.declared.grant.Mode.TheVariants.{Read}
 use Rattle.pv_words.specs.Memory.{place_of}
 use Rattle.pv_words.specs.Plan.{Plan, Finished, Want, Goes, MayGo, mapped, joined}
-use Rattle.grant_table.specs.Mapping.{flags_plan}
+use Rattle.pv_words.specs.Mapping.{flags_plan}
 use Rattle.displ_wire.specs.declared.Asked.{Asked}
 use Rattle.displ_wire.specs.declared.Asked.TheVariants as asked
 use Rattle.displ_wire.specs.declared.Attach.{Attach}

@@ -3,7 +3,7 @@ use Rattle.std.proofs.Common.{◌≡◌, ℕ, zero, suc, ◌+◌, ◌<◌, ◌�
 use Rattle.pv_words.specs.declared.access.Access.{Access}
 use Rattle.pv_words.specs.declared.grant.Hold.{Hold}
 use Rattle.pv_words.specs.Plan.{Plan, Finished, wanted}
-use Rattle.grant_table.specs.Mapping.{unmap_want}
+use Rattle.pv_words.specs.Mapping.{unmap_want}
 use Rattle.link_core.specs.declared.link.Link.{Link}
 use Rattle.link_core.specs.Activities.{pages_of, page_at, unmaps}
 use Rattle.link_core.specs.Link.{held_of, joined_of, page_of, drop_left, Leads}

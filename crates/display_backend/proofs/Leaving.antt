@@ -8,7 +8,7 @@ use Rattle.pv_words.specs.declared.device.State.{State}
 use Rattle.pv_words.specs.declared.device.NodeValue.{NodeValue}
 use Rattle.pv_words.specs.declared.grant.Hold.{Hold}
 use Rattle.pv_words.specs.Plan.{Plan, Finished, Want, MayGo, IsUnfinished, joined, wanted}
-use Rattle.grant_table.specs.Mapping.{unmap_want}
+use Rattle.pv_words.specs.Mapping.{unmap_want}
 use Rattle.display_backend.specs.Stock.{Stock}
 use Rattle.page_directory.specs.declared.walk.Walk.{Walk}
 use Rattle.xenbus_states.specs.Nodes.{number_at}

@@ -9,7 +9,7 @@ use Rattle.pv_words.specs.declared.grant.GrantRefusal.TheVariants as refusal
 use Rattle.pv_words.specs.declared.grant.Hold.{Hold}
 use Rattle.pv_words.specs.declared.grant.Mode.TheVariants.{Write}
 use Rattle.pv_words.specs.Plan.{Plan, Finished, Make, Want, Goes, MayGo, IsUnfinished, joined, mapped}
-use Rattle.grant_table.specs.Mapping.{flags_plan}
+use Rattle.pv_words.specs.Mapping.{flags_plan}
 use Rattle.link_core.specs.Activities.{Joined, hold_list, connect_plan, with_ring, unmaps}
 use Rattle.display_backend.specs.Stock.{Stock, pages_of}
 use Rattle.device_core.specs.Order.{Act, Stand, Between, Steps, Went, MayStep}

@@ -5,7 +5,7 @@ use Rattle.pv_words.specs.declared.grant.Hold.{Hold}
 use Rattle.pv_words.specs.declared.grant.Mode.TheVariants.{Write}
 use Rattle.pv_words.specs.Held.{Holds, IsProper, holding, holds_of}
 use Rattle.pv_words.specs.Plan.{Plan, Finished}
-use Rattle.grant_table.specs.Laws.{IsHold}
+use Rattle.pv_words.specs.MapLaws.{IsHold}
 use Rattle.display_backend.specs.Stock.{pages_of}
 use Rattle.page_directory.specs.Same.{times}
 use Rattle.page_directory.proofs.Counts.{times_append}

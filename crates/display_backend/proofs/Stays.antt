@@ -5,7 +5,7 @@ use Rattle.pv_words.specs.declared.access.Access.{Access}
 use Rattle.pv_words.specs.declared.grant.Hold.{Hold}
 use Rattle.pv_words.specs.Held.{Has, Covers, CoversToWrite}
 use Rattle.pv_words.specs.Plan.{Want, Load, Store, Swap, Clear, wanted}
-use Rattle.grant_table.specs.Mapping.{unmap_want}
+use Rattle.pv_words.specs.Mapping.{unmap_want}
 use Rattle.display_backend.specs.Stock.{Stock, pages_of}
 use Rattle.page_directory.specs.declared.walk.Walk.{Walk}
 use Rattle.page_directory.specs.WalkLeft.{held_by}

@@ -26,7 +26,7 @@ use Rattle.display_backend.specs.Waiting.{waiting_of}
 use Rattle.host_events.specs.Queue.{refusal_of, unless}
 use Rattle.display_buffers.specs.declared.live.Live.{Live}
 use Rattle.display_buffers.specs.Buffers.{buffer_of, check_of, with_buffer, without_buffer}
-use Rattle.grant_table.specs.Laws.{IsShown}
+use Rattle.pv_words.specs.MapLaws.{IsShown}
 use Rattle.device_core.specs.Order.{News, Sets, Hosts}
 use Rattle.device_core.specs.Site.{Site}
 use Rattle.page_directory.specs.Laws as walk

@@ -6,9 +6,8 @@ ghost use Rattle.display_buffers.specs.Pixels.{page_count};
 
 use crate::left::LeftBuffers;
 use displ_wire::{Create, Refused};
-use grant_table::unmap;
 use page_directory::Pages;
-use pv_words::{Access, Hold, Words};
+use pv_words::{Access, Hold, Words, unmap};
 use std::alloc::{AllocError, Global};
 
 /// The live buffers of a display, in order of creation, and the pages that are held for buffers. The room for all buffers
@@ -26,7 +25,7 @@ impl Store {
     ghost use Rattle.std.specs.Prelude.{List};
     ghost use Rattle.pv_words.specs.declared.grant.Hold.{Hold};
     ghost use Rattle.pv_words.specs.Plan.{wanted};
-    ghost use Rattle.grant_table.specs.Mapping.{unmap_want};
+    ghost use Rattle.pv_words.specs.Mapping.{unmap_want};
     ghost use Rattle.display_backend.specs.Stock.{Stock, no_stock, pages_of, pages_under, less_one, without_first, created, destroyed};
     ghost use Rattle.display_backend.specs.Store.{stock_of, is_whole};
 

@@ -11,13 +11,13 @@ use Rattle.pv_words.specs.declared.grant.Mode.TheVariants.{Read, Write}
 use Rattle.pv_words.specs.Held.{Begun, Holds, begins, exchanged, framed, holding, in_use, kept, passed, unmissed}
 use Rattle.pv_words.specs.Plan.{Plan, Finished, Make, Note, FitsFrom, Want, found, joined}
 use Rattle.pv_words.proofs.Fits.{fits_first}
-use Rattle.grant_table.proofs.Refusing.{map_none, start_none}
-use Rattle.grant_table.specs.declared.map.MapStage.{MapStage}
-use Rattle.grant_table.specs.declared.map.MapStage.TheVariants as map_stage
-use Rattle.grant_table.specs.declared.map.MapStep.{MapStep}
-use Rattle.grant_table.specs.Mapping.{flags_plan, map_plan, frame_plan, hold_of, undo_plan}
-use Rattle.grant_table.specs.MapLeft.{is_last, is_over, map_left, map_rest}
-use Rattle.grant_table.specs.MapLeft as mapping
+use Rattle.pv_words.proofs.Refusing.{map_none, start_none}
+use Rattle.pv_words.specs.declared.map.MapStage.{MapStage}
+use Rattle.pv_words.specs.declared.map.MapStage.TheVariants as map_stage
+use Rattle.pv_words.specs.declared.map.MapStep.{MapStep}
+use Rattle.pv_words.specs.Mapping.{flags_plan, map_plan, frame_plan, hold_of, undo_plan}
+use Rattle.pv_words.specs.MapLeft.{is_last, is_over, map_left, map_rest}
+use Rattle.pv_words.specs.MapLeft as mapping
 use Rattle.link_core.specs.declared.link.Link.{Link}
 use Rattle.link_core.specs.declared.link.Stage.{Stage}
 use Rattle.link_core.specs.declared.link.Stage.TheVariants as stage

@@ -8,9 +8,9 @@ use Rattle.pv_words.specs.declared.place.Place.{Place}
 use Rattle.pv_words.specs.Found.{Found, finding}
 use Rattle.pv_words.specs.Plan.{Plan, Finished, Make, Note, Fits, FitsFrom, IsUntouched, found, joined}
 use Rattle.pv_words.proofs.Fits.{fits_then}
-use Rattle.grant_table.specs.Laws.{IsShown, Shows}
-use Rattle.grant_table.specs.Mapping.{map_plan}
-use Rattle.grant_table.proofs.Shown.{maps_show}
+use Rattle.pv_words.specs.MapLaws.{IsShown, Shows}
+use Rattle.pv_words.specs.Mapping.{map_plan}
+use Rattle.pv_words.proofs.Shown.{maps_show}
 use Rattle.link_core.specs.Activities.{Connected, Joins, Refuses, Page, loads, stores, take_plan, answer_plan, sleep_plan, with_event, event_map_plan, with_ring, connect_plan, slot_place, publish_plan, unmaps}
 use Rattle.link_core.specs.Laws.{ConnectsShow, LooksShow, HasShown}
 

@@ -5,7 +5,7 @@ use Rattle.pv_words.specs.declared.grant.GrantRefusal.{GrantRefusal}
 use Rattle.pv_words.specs.declared.grant.Hold.{Hold}
 use Rattle.pv_words.specs.declared.place.GrantRef.{GrantRef}
 use Rattle.pv_words.specs.Plan.{Plan, Finished, Goes, IsUnfinished, joined}
-use Rattle.grant_table.specs.MapLeft.{map_left}
+use Rattle.pv_words.specs.MapLeft.{map_left}
 use Rattle.ring_words.specs.Ring.{next_index}
 use Rattle.link_core.specs.declared.link.Link.{Link}
 use Rattle.link_core.specs.declared.link.Stage.{Stage}

@@ -1,12 +1,11 @@
 //! A device's end of one request ring and of one event page.
 
 ghost use Rattle.std.specs.Prelude.{◌≡◌, ℕ, [], Option, ◌+◌, ◌<◌, IsTrue, true, false, OnSome, IsSome, is_some, length, List, Some, None, Ok, Err, slice_get, ◌≤◌, if◌then◌else◌};
-ghost use Rattle.grant_table.specs.MapLeft as mapping;
+ghost use Rattle.pv_words.specs.MapLeft as mapping;
 ghost use Rattle.pv_words.specs.declared.grant.Mode.TheVariants.{Write};
 ghost use Rattle.link_core.specs.Stage.{length_of, taken_in, answered_in, slept_in, agrees, and_event};
 
-use grant_table::{MapStep, unmap};
-use pv_words::{Access, DomId, Frame, GrantRef, GrantRefusal, Hold, Mode, Place, Turn, Words};
+use pv_words::{Access, DomId, Frame, GrantRef, GrantRefusal, Hold, MapStep, Mode, Place, Turn, Words, unmap};
 use ring_words::{BackRing, Looked, REQ_EVENT, REQ_PROD, RSP_EVENT, RSP_PROD, must_notify};
 
 /// The word of an event page with the index up to which the backend wrote events.
@@ -81,7 +80,7 @@ impl Link {
     ghost use Rattle.pv_words.specs.Plan.{Plan, MayGo, Turns, Makes};
     ghost use Rattle.ring_words.specs.declared.Looked.{Looked};
     ghost use Rattle.ring_words.specs.Ring.{next_index};
-    ghost use Rattle.grant_table.specs.Mapping.{map_plan};
+    ghost use Rattle.pv_words.specs.Mapping.{map_plan};
     ghost use Rattle.link_core.specs.Stays.{AccessIn};
     ghost use Rattle.link_core.specs.declared.link.Kept.TheVariants as kept;
     ghost use Rattle.link_core.specs.declared.link.Stage.TheVariants as stage;

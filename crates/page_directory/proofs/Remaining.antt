@@ -11,10 +11,10 @@ use Rattle.pv_words.specs.declared.grant.Mode.TheVariants.{Read}
 use Rattle.pv_words.specs.Held.{Holds, IsProper, holding, kept}
 use Rattle.pv_words.specs.Plan.{Plan, Finished, Make, Ends, FitsFrom, found, joined}
 use Rattle.pv_words.proofs.Fits.{fits_first}
-use Rattle.grant_table.specs.declared.map.MapStep.{MapStep}
-use Rattle.grant_table.specs.Mapping.{map_plan, unmap_want}
-use Rattle.grant_table.specs.MapLeft as mapping
-use Rattle.grant_table.proofs.Refusing.{map_none, start_none, unmap_leaves}
+use Rattle.pv_words.specs.declared.map.MapStep.{MapStep}
+use Rattle.pv_words.specs.Mapping.{map_plan, unmap_want}
+use Rattle.pv_words.specs.MapLeft as mapping
+use Rattle.pv_words.proofs.Refusing.{map_none, start_none, unmap_leaves}
 use Rattle.page_directory.specs.declared.walk.Stage.{Stage}
 use Rattle.page_directory.specs.declared.walk.Stage.TheVariants as stage
 use Rattle.page_directory.specs.declared.walk.Walk.{Walk}

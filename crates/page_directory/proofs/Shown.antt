@@ -12,9 +12,9 @@ use Rattle.pv_words.specs.declared.grant.Mode.TheVariants.{Read}
 use Rattle.pv_words.specs.Found.{Found, finding}
 use Rattle.pv_words.specs.Plan.{Plan, Finished, Note, FitsFrom, IsUntouched, joined}
 use Rattle.pv_words.proofs.Fits.{fits_then}
-use Rattle.grant_table.specs.Laws.{Shows}
-use Rattle.grant_table.specs.Mapping.{map_plan}
-use Rattle.grant_table.proofs.Shown.{maps_show}
+use Rattle.pv_words.specs.MapLaws.{Shows}
+use Rattle.pv_words.specs.Mapping.{map_plan}
+use Rattle.pv_words.proofs.Shown.{maps_show}
 use Rattle.page_directory.specs.declared.walk.Walked.{Walked}
 use Rattle.page_directory.specs.declared.walk.Walked.TheVariants.{Pages}
 use Rattle.page_directory.specs.Laws.{IsLastFound, IsReason, HasShown, WalksShow}

@@ -1,12 +1,11 @@
 //! A device maps the pages that a page directory lists.
 
 ghost use Rattle.std.specs.Prelude.{◌≡◌, ℕ, ◌+◌, ◌-◌, ◌<◌, ◌≤◌, true, false, Some, None, IfOk, is_some, vec_len, vec_capacity};
-ghost use Rattle.grant_table.specs.MapLeft.{dom_of, is_over};
+ghost use Rattle.pv_words.specs.MapLeft.{dom_of, is_over};
 ghost use Rattle.page_directory.specs.Stages.{is_mapping, is_going, is_leaving, is_reading, is_turning, is_undoing, undone, directory_in};
 
 use crate::pages::Pages;
-use grant_table::{MapStep, unmap};
-use pv_words::{Access, DomId, GrantRef, GrantRefusal, Hold, Mode, Place, Turn, Words};
+use pv_words::{Access, DomId, GrantRef, GrantRefusal, Hold, MapStep, Mode, Place, Turn, Words, unmap};
 use std::alloc::{AllocError, Global};
 use std::mem;
 

@@ -1,10 +1,14 @@
 pub mod Along
+pub mod Flags
 pub mod Found
 pub mod Held
 pub mod Keeping
 pub mod Layout
 pub mod ListPort
 pub mod ListWords
+pub mod MapLaws
+pub mod MapLeft
+pub mod Mapping
 pub mod Mark
 pub mod Memory
 pub mod Place

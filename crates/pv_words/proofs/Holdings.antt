@@ -8,11 +8,11 @@ use Rattle.pv_words.specs.declared.grant.GrantRefusal.{GrantRefusal}
 use Rattle.pv_words.specs.declared.grant.GrantRefusal.TheVariants.{NoEntry, NotPermitted, OtherDomain, ReadOnly, InUse, Moved}
 use Rattle.pv_words.specs.Held.{Has, Holds, IsProper, MarksPage, holding, holds_of, in_use, permits, begins, exchanged, framed, unheld, unmissed}
 use Rattle.pv_words.specs.Plan.{Plan, Finished, FitsFrom}
-use Rattle.grant_table.specs.Flags.{refusal_of, denies, forbids, has, is_foreign, used}
-use Rattle.grant_table.specs.Mapping.{hold_of, undo_plan, frame_plan, with_flags, with_seen, flags_plan, map_plan, unmap_want}
-use Rattle.grant_table.specs.Mapping as map
-use Rattle.grant_table.specs.Laws.{HoldsExactly, UnmapsExactly, IsCause, IsResult, with_result}
-use Rattle.grant_table.proofs.Outcomes.{refuses_exactly}
+use Rattle.pv_words.specs.Flags.{refusal_of, denies, forbids, has, is_foreign, used}
+use Rattle.pv_words.specs.Mapping.{hold_of, undo_plan, frame_plan, with_flags, with_seen, flags_plan, map_plan, unmap_want}
+use Rattle.pv_words.specs.Mapping as map
+use Rattle.pv_words.specs.MapLaws.{HoldsExactly, UnmapsExactly, IsCause, IsResult, with_result}
+use Rattle.pv_words.proofs.Outcomes.{refuses_exactly}
 
 -- the exchange of a map begins a mapping where it saw the word, and else none
 begins_none : (gref old new seen : ℕ) → (seen == old) ≡ false → begins gref old new seen ≡ None

@@ -5,7 +5,7 @@ use Rattle.pv_words.specs.Plan.{Plan, Finished, Make, Want, Note, Goes, Turns, M
 use Rattle.pv_words.specs.declared.grant.Hold.{Hold}
 use Rattle.pv_words.specs.declared.grant.GrantRefusal.{GrantRefusal}
 use Rattle.pv_words.specs.declared.grant.Mode.{Mode}
-use Rattle.grant_table.specs.Mapping.{Advances, HoldsByAccess, IsAtEntry, Wins}
+use Rattle.pv_words.specs.Mapping.{Advances, HoldsByAccess, IsAtEntry, Wins}
 
 pub goes_from : {A : Type 0} (p : Plan A) (want : Want) (note : Note) (k : ℕ → Plan A) (a : Access) (new : Plan A) → p ≡ Make want note k → Goes (Make want note k) a new → Goes p a new
 goes_from {A} p want note k a new e h = subst (λ (x : Plan A). Goes x a new) (sym e) h

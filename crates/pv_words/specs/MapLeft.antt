@@ -4,10 +4,10 @@ use Rattle.pv_words.specs.declared.grant.Hold.{Hold}
 use Rattle.pv_words.specs.declared.grant.Mode.{Mode}
 use Rattle.pv_words.specs.declared.grant.GrantRefusal.{GrantRefusal}
 use Rattle.pv_words.specs.Plan.{Plan, Finished}
-use Rattle.grant_table.specs.declared.map.MapStep.{MapStep}
-use Rattle.grant_table.specs.declared.map.MapStage.{MapStage}
-use Rattle.grant_table.specs.declared.map.MapStage.TheVariants as stage
-use Rattle.grant_table.specs.Mapping.{map_plan, begin_plan, frame_plan, undo_plan}
+use Rattle.pv_words.specs.declared.map.MapStep.{MapStep}
+use Rattle.pv_words.specs.declared.map.MapStage.{MapStage}
+use Rattle.pv_words.specs.declared.map.MapStage.TheVariants as stage
+use Rattle.pv_words.specs.Mapping.{map_plan, begin_plan, frame_plan, undo_plan}
 
 abbrev pub map_rest : (frames grants dom gref : ℕ) → Mode → MapStage → Plan (Result Hold GrantRefusal)
 map_rest frames grants dom gref mode stage.Start = map_plan frames grants dom gref mode

@@ -8,12 +8,12 @@ use Rattle.pv_words.specs.declared.grant.GrantRefusal.{GrantRefusal}
 use Rattle.pv_words.specs.declared.grant.GrantRefusal.TheVariants.{NoEntry, Moved, BadFrame}
 use Rattle.pv_words.specs.Held.{in_use}
 use Rattle.pv_words.specs.Plan.{Finished, Make, Load, Swap, Clear, Plain, Begins, Frames, Undoes}
-use Rattle.grant_table.specs.declared.map.MapStage.{MapStage}
-use Rattle.grant_table.specs.declared.map.MapStage.TheVariants as stage
-use Rattle.grant_table.specs.Flags.{flags_place, frame_place, refusal_of}
-use Rattle.grant_table.specs.Mapping.{flags_plan, with_flags, begin_plan, with_seen, frame_plan, with_frame, undo_plan, hold_of, Advances}
-use Rattle.grant_table.specs.MapLeft.{map_rest}
-use Rattle.grant_table.proofs.Plans.{goes_from}
+use Rattle.pv_words.specs.declared.map.MapStage.{MapStage}
+use Rattle.pv_words.specs.declared.map.MapStage.TheVariants as stage
+use Rattle.pv_words.specs.Flags.{flags_place, frame_place, refusal_of}
+use Rattle.pv_words.specs.Mapping.{flags_plan, with_flags, begin_plan, with_seen, frame_plan, with_frame, undo_plan, hold_of, Advances}
+use Rattle.pv_words.specs.MapLeft.{map_rest}
+use Rattle.pv_words.proofs.Plans.{goes_from}
 
 module _ (frames grants dom gref : ℕ) (mode : Mode) (s : MapStage) where
   pub start_head : s ≡ stage.Start → gref < grants → map_rest frames grants dom gref mode s ≡ flags_plan frames dom gref mode

@@ -9,12 +9,12 @@ use Rattle.pv_words.specs.declared.grant.Mode.{Mode}
 use Rattle.pv_words.specs.declared.grant.Mode.TheVariants.{Read, Write}
 use Rattle.pv_words.specs.Held.{Begun, Has, Holds, IsProper, begins, exchanged, framed, holding, in_use, kept, passed, unheld, unmissed}
 use Rattle.pv_words.specs.Plan.{Finished, Ends, Note, FitsFrom, Want, found}
-use Rattle.grant_table.specs.declared.map.MapStage.{MapStage}
-use Rattle.grant_table.specs.declared.map.MapStage.TheVariants as map_stage
-use Rattle.grant_table.specs.declared.map.MapStep.{MapStep}
-use Rattle.grant_table.specs.Mapping.{flags_plan, frame_plan, hold_of, undo_plan, unmap_want}
-use Rattle.grant_table.specs.MapLeft.{is_last, is_over, map_left, map_rest}
-use Rattle.grant_table.specs.MapLeft as mapping
+use Rattle.pv_words.specs.declared.map.MapStage.{MapStage}
+use Rattle.pv_words.specs.declared.map.MapStage.TheVariants as map_stage
+use Rattle.pv_words.specs.declared.map.MapStep.{MapStep}
+use Rattle.pv_words.specs.Mapping.{flags_plan, frame_plan, hold_of, undo_plan, unmap_want}
+use Rattle.pv_words.specs.MapLeft.{is_last, is_over, map_left, map_rest}
+use Rattle.pv_words.specs.MapLeft as mapping
 
 -- a load of a frame that the domain hasn't gets no page
 gets_none : (s r : Holds) (t u : Bool) → u ≡ false → (cond (t && u) r (kept s)).held ≡ s.held

@@ -3,12 +3,12 @@ use Rattle.pv_words.specs.declared.access.Access.TheVariants as access
 use Rattle.pv_words.specs.declared.place.Half.TheVariants.{Flags}
 use Rattle.pv_words.specs.declared.grant.GrantRefusal.TheVariants.{NoEntry}
 use Rattle.pv_words.specs.Plan.{Finished}
-use Rattle.grant_table.specs.Flags.{flags_place}
-use Rattle.grant_table.specs.Mapping.{begin_plan}
-use Rattle.grant_table.specs.MapLeft.{map_left, dom_of, gref_of, mode_of, is_over}
-use Rattle.grant_table.proofs.Plans.{may_from, advances_as, by_access, at_entry, wins_as}
-use Rattle.grant_table.proofs.Maps.{start_head, start_ends, flags_refuse, flags_permit}
-use Rattle.grant_table.proofs.map.MapStep.start.Goals as goal
+use Rattle.pv_words.specs.Flags.{flags_place}
+use Rattle.pv_words.specs.Mapping.{begin_plan}
+use Rattle.pv_words.specs.MapLeft.{map_left, dom_of, gref_of, mode_of, is_over}
+use Rattle.pv_words.proofs.Plans.{may_from, advances_as, by_access, at_entry, wins_as}
+use Rattle.pv_words.proofs.Maps.{start_head, start_ends, flags_refuse, flags_permit}
+use Rattle.pv_words.proofs.map.MapStep.start.Goals as goal
 
 pub returns-then-self-grants-clause-advances : goal.returns-then-self-grants-clause-advances
 unfolding map_left dom_of

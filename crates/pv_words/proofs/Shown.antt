@@ -8,11 +8,11 @@ use Rattle.pv_words.specs.declared.grant.GrantRefusal.TheVariants as refusal
 use Rattle.pv_words.specs.Found.{Found, finding}
 use Rattle.pv_words.specs.Held.{permits}
 use Rattle.pv_words.specs.Plan.{Plan, Finished, Note, FitsFrom, IsUntouched}
-use Rattle.grant_table.specs.Flags.{refusal_of, denies, forbids, has, is_foreign, used}
-use Rattle.grant_table.specs.Mapping.{hold_of, undo_plan, frame_plan, with_flags, flags_plan}
-use Rattle.grant_table.specs.Laws.{MapsShow, AreFound, HasLoaded, Shows}
-use Rattle.grant_table.proofs.Holdings.{caused, permitted, some_same}
-use Rattle.grant_table.proofs.Outcomes.{refuses_exactly}
+use Rattle.pv_words.specs.Flags.{refusal_of, denies, forbids, has, is_foreign, used}
+use Rattle.pv_words.specs.Mapping.{hold_of, undo_plan, frame_plan, with_flags, flags_plan}
+use Rattle.pv_words.specs.MapLaws.{MapsShow, AreFound, HasLoaded, Shows}
+use Rattle.pv_words.proofs.Holdings.{caused, permitted, some_same}
+use Rattle.pv_words.proofs.Outcomes.{refuses_exactly}
 
 module _ (frames grants dom gref : ℕ) (mode : Mode) (first : Found) where
   abbrev Fit : Found → Plan (Result Hold GrantRefusal) → Type 0

@@ -10,7 +10,7 @@ use Rattle.pv_words.specs.declared.place.Half.{Half}
 use Rattle.pv_words.specs.declared.place.Place.TheVariants.{Grant}
 use Rattle.pv_words.specs.Held.{in_use}
 use Rattle.pv_words.specs.Plan.{Plan, Finished, Make, Want, Load, Swap, Clear, Plain, Begins, Frames, Undoes, Turns, aim_of, wanted}
-use Rattle.grant_table.specs.Flags.{flags_place, frame_place, refusal_of}
+use Rattle.pv_words.specs.Flags.{flags_place, frame_place, refusal_of}
 
 -- a hold of this frame
 abbrev pub hold_of : (dom gref : ℕ) → Mode → ℕ → Hold

@@ -1,6 +1,6 @@
 use Rattle.std.proofs.Common.{refl}
-use Rattle.grant_table.specs.MapLeft.{map_left, dom_of, gref_of, mode_of, is_over}
-use Rattle.grant_table.proofs.map.MapStep.new.Goals as goal
+use Rattle.pv_words.specs.MapLeft.{map_left, dom_of, gref_of, mode_of, is_over}
+use Rattle.pv_words.proofs.map.MapStep.new.Goals as goal
 
 pub returns-clause-whole : goal.returns-clause-whole
 unfolding map_left

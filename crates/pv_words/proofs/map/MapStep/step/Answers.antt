@@ -4,12 +4,12 @@ use Rattle.pv_words.specs.declared.access.Access.TheVariants as access
 use Rattle.pv_words.specs.declared.place.Half.TheVariants.{Flags, FrameNo}
 use Rattle.pv_words.specs.declared.grant.GrantRefusal.TheVariants.{Moved, BadFrame}
 use Rattle.pv_words.specs.Plan.{Finished}
-use Rattle.grant_table.specs.Flags.{flags_place, frame_place}
-use Rattle.grant_table.specs.Mapping.{frame_plan, undo_plan, hold_of}
-use Rattle.grant_table.specs.MapLeft.{map_left, dom_of, gref_of, mode_of, is_over, is_last}
-use Rattle.grant_table.proofs.Plans.{may_from, advances_as, by_access, at_entry, wins_as}
-use Rattle.grant_table.proofs.Maps.{begin_head, begin_moved, begin_holds, name_head, name_ends, name_undoes, undo_head, undo_ends, over_ends}
-use Rattle.grant_table.proofs.map.MapStep.step.Goals as goal
+use Rattle.pv_words.specs.Flags.{flags_place, frame_place}
+use Rattle.pv_words.specs.Mapping.{frame_plan, undo_plan, hold_of}
+use Rattle.pv_words.specs.MapLeft.{map_left, dom_of, gref_of, mode_of, is_over, is_last}
+use Rattle.pv_words.proofs.Plans.{may_from, advances_as, by_access, at_entry, wins_as}
+use Rattle.pv_words.proofs.Maps.{begin_head, begin_moved, begin_holds, name_head, name_ends, name_undoes, undo_head, undo_ends, over_ends}
+use Rattle.pv_words.proofs.map.MapStep.step.Goals as goal
 
 pub swap_if-seen-requires : goal.swap_if-seen-requires
 unfolding map_left dom_of

@@ -3,12 +3,13 @@
 ghost use Rattle.std.specs.Prelude.{◌≡◌, ◌<◌, ℕ, false, Some, None, is_some};
 ghost use Rattle.pv_words.specs.Held.{in_use};
 ghost use Rattle.pv_words.specs.Plan.{wanted};
-ghost use Rattle.grant_table.specs.Flags.{refusal_of};
-ghost use Rattle.grant_table.specs.Mapping.{unmap_want};
+ghost use Rattle.pv_words.specs.Flags.{refusal_of};
+ghost use Rattle.pv_words.specs.Mapping.{unmap_want};
 
-use pv_words::{
-    Access, DomId, Frame, GrantRef, GrantRefusal, Half, Hold, Mode, Place, Turn, Words,
-};
+use crate::access::{Access, Turn};
+use crate::grant::{GrantRefusal, Hold, Mode};
+use crate::place::{DomId, Frame, GrantRef, Half, Place};
+use crate::words::Words;
 
 /// A bit of the flags: the grant is read-only.
 const READ_ONLY: u32 = 4;
@@ -81,9 +82,9 @@ fn refusal_of(word: u32, mode: Mode) -> Option<GrantRefusal>
 
 impl MapStep {
     ghost use Rattle.pv_words.specs.Plan.{MayGo, Makes};
-    ghost use Rattle.grant_table.specs.declared.map.MapStage.TheVariants as stage;
-    ghost use Rattle.grant_table.specs.Mapping.{map_plan, hold_of, Advances, HoldsByAccess, IsAtEntry, Wins};
-    ghost use Rattle.grant_table.specs.MapLeft.{map_left, dom_of, gref_of, mode_of, is_over};
+    ghost use Rattle.pv_words.specs.declared.map.MapStage.TheVariants as stage;
+    ghost use Rattle.pv_words.specs.Mapping.{map_plan, hold_of, Advances, HoldsByAccess, IsAtEntry, Wins};
+    ghost use Rattle.pv_words.specs.MapLeft.{map_left, dom_of, gref_of, mode_of, is_over};
 
     /// A map of this entry of the domain's grant table, before its first access.
     pub fn new(dom: DomId, gref: GrantRef, mode: Mode) -> MapStep

@@ -1,5 +1,5 @@
-use Rattle.grant_table.proofs.Holdings.{holds_exactly, unmaps_exactly}
-use Rattle.grant_table.proofs.laws.holds_exactly.Goals as goal
+use Rattle.pv_words.proofs.Holdings.{holds_exactly, unmaps_exactly}
+use Rattle.pv_words.proofs.laws.holds_exactly.Goals as goal
 
 pub returns-clause-maps : goal.returns-clause-maps
 returns-clause-maps c = holds_exactly

@@ -1,6 +1,6 @@
-use Rattle.grant_table.proofs.Outcomes.{refuses_exactly, maps_exactly, succeeds_exactly}
-use Rattle.grant_table.proofs.Shown.{maps_show}
-use Rattle.grant_table.proofs.laws.maps_exactly.Goals as goal
+use Rattle.pv_words.proofs.Outcomes.{refuses_exactly, maps_exactly, succeeds_exactly}
+use Rattle.pv_words.proofs.Shown.{maps_show}
+use Rattle.pv_words.proofs.laws.maps_exactly.Goals as goal
 
 pub returns-clause-refused : goal.returns-clause-refused
 returns-clause-refused c = refuses_exactly

@@ -6,11 +6,9 @@ use Rattle.pv_words.specs.declared.grant.Hold.{Hold}
 use Rattle.display_buffers.specs.Buffers.{AreDistinct, IsFresh, cookies, has_cookie, without_buffer}
 use Rattle.display_buffers.proofs.Rows.{without_fresh}
 use Rattle.display_backend.specs.Stock.{Held, buffer_pages, pages_under, with_pages, bared, all_bared}
-use Rattle.device_core.specs.Machine.{Table, Snapshot, HappensTo, IsRun}
-use Rattle.device_core.specs.Names.{Name, Sight, all_drawn, cells_of, drawn, is_worded}
-use Rattle.display_backend.specs.Machine.{Event}
-use Rattle.display_backend.specs.Work.{live_names, named_if, names_under, numbers, all_gone, ids_without}
-use Rattle.display_backend.proofs.SoundRows.{AreAll, ids_fresh}
+use Rattle.device_core.specs.Names.{Name, cells_of}
+use Rattle.display_backend.specs.Names.{ids_without, live_names, named_if, names_under}
+use Rattle.display_backend.proofs.Numbered.{AreAll, ids_fresh}
 
 -- buffers without pages have no names
 pub names_none : (bs : List Held) (ns : List ℕ) → buffer_pages bs ≡ [] → live_names bs ns ≡ []
@@ -89,35 +87,3 @@ name_goes cookie (b ∷ bs) (n ∷ ns) = by_test (has_cookie cookie b) (name_goe
     by_test : (t : Bool) → GoesFrom (names_under cookie bs ns) (live_names bs ns) (live_names (bared cookie bs) ns) → GoesFrom (cond t (named_if b.pages n []) (names_under cookie bs ns)) (named_if b.pages n (live_names bs ns)) (live_names (cond t (with_pages b [] ∷ bs) (b ∷ bared cookie bs)) (n ∷ ns))
     by_test true later = goes_first b.pages n (live_names bs ns)
     by_test false later = goes_behind b.pages n (names_under cookie bs ns) (live_names bs ns) (live_names (bared cookie bs) ns) later
-
-module _ {R : Type 0} (t : Table R Event) (rows : R) (sight : Sight) where
-  -- rows and names as a machine shows them
-  abbrev pub shows : List Name → Snapshot R
-  shows names = record { rows = rows; names = all_drawn sight names; touched = []; owes = None }
-
-  -- a name goes
-  pub goes_run : (gone old new : List Name) → GoesFrom gone old new → IsRun (HappensTo (is_worded sight) t) (shows old) (all_gone (numbers gone)) (shows new)
-  goes_run [] old new g = ap shows (sym g)
-  goes_run (n ∷ []) old new g =
-      let before : old ≡ g.0 ++ n ∷ g.1 = g.2 in
-      let behind : new ≡ g.0 ++ g.1 = g.3 in (
-        shows new,
-        (
-          record { free = refl; rows = refl; touched = refl; owes = refl },
-          record {
-            before = all_drawn sight g.0;
-            words = (drawn sight n).words;
-            behind = all_drawn sight g.1;
-            old_is = ap (all_drawn sight) before ∙ map-append (drawn sight) g.0 (n ∷ g.1);
-            new_is = ap (all_drawn sight) behind ∙ map-append (drawn sight) g.0 g.1;
-          },
-        ),
-        refl,
-      )
-  goes_run (n ∷ m ∷ ms) old new g = absurd g
-
-  -- all names go
-  pub all_run : (names : List Name) → IsRun (HappensTo (is_worded sight) t) (shows names) (all_gone (numbers names)) (shows [])
-  all_run [] = refl
-  all_run (n ∷ names) =
-      (shows names, (record { free = refl; rows = refl; touched = refl; owes = refl }, record { before = []; words = (drawn sight n).words; behind = all_drawn sight names; old_is = refl; new_is = refl }), all_run names)

@@ -2,6 +2,7 @@
 use Rattle.std.proofs.Common.{◌≡◌, inl, inr, ℕ, zero, suc, ◌≤◌, ◌==◌, ℤ, pos, negsuc, Bool, true, false, not, cond, nat_le, List, [], ◌∷◌, ◌++◌, Some, is_some, Result, Ok, Err, refl, sym, ◌∙◌, ap, subst, arith, length, length-append}
 use Rattle.std.proofs.lemmas.Bool.{eqb-true}
 use Rattle.std.specs.List.{AllByRecursion}
+use Rattle.pv_words.specs.declared.grant.Hold.{Hold}
 use Rattle.displ_wire.specs.declared.Asked.{Asked}
 use Rattle.displ_wire.specs.declared.Asked.TheVariants as asked
 use Rattle.displ_wire.specs.declared.Create.{Create}
@@ -11,8 +12,8 @@ use Rattle.displ_wire.specs.Refused.{status_of}
 use Rattle.display_buffers.specs.declared.live.Live.{Live}
 use Rattle.display_buffers.specs.Buffers.{AreDistinct, AreSound, IsFresh, buffer_of, check_of, cookies, has_cookie, is_in_range, made_of, without_buffer}
 use Rattle.display_backend.specs.Stock.{Held, with_pages, bared, all_bared}
-use Rattle.display_backend.specs.Machine.{IsStatus, checked, verdict, is_accepted}
-use Rattle.display_backend.specs.Work.{numbered, ids_without}
+use Rattle.display_backend.specs.Names.{ids_without, numbered}
+use Rattle.display_backend.specs.Verdict.{IsStatus, checked, is_accepted, verdict}
 
 -- a number for each buffer
 abbrev pub AreAll : List Held → List ℕ → Type 0
@@ -161,3 +162,7 @@ pub accepted_is : (z : ℤ) → is_accepted z ≡ true → z ≡ pos 0
 accepted_is (pos zero) h = refl
 accepted_is (pos (suc n)) h = let wrong : ⊥ = cc in absurd wrong
 accepted_is (negsuc n) h = let wrong : ⊥ = cc in absurd wrong
+
+-- none are sound
+pub no_buffers : AreSound {P = List Hold} []
+no_buffers = record { at_most = omega arith; distinct = tt; in_range = tt }

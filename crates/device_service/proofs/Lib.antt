@@ -11,6 +11,7 @@ pub mod HeldAll
 pub mod Leaving
 pub mod Lists
 pub mod Opened
+pub mod Out
 pub mod PartsLaws
 pub mod Resting
 pub mod Serving

@@ -114,9 +114,11 @@ module _ {X A V : Type 0} (s : Service X A V) (site : Site) where
   -- a step of a Connect that goes on
   still_connects : (w v : Work X V) (p q : Plan Outcome) (access : Option Access) → v ≡ w → Leads p access None q → GoesOut s site w (mapped connected p) access None (stand_at v (mapped connected q))
   still_connects w v p q None e l = absurd l
-  still_connects w v p q (Some a) e l =
-      (mapped connected q, goes_mapped connected p a q l.0,
-      subst (λ (u : Work X V). Went (device s site) w (mapped connected q) None (stand_at u (mapped connected q))) (sym e) (went_still w (mapped connected q) (unfinished_mapped connected q l.1)))
+  still_connects w v p q (Some a) e l = (
+    mapped connected q,
+    goes_mapped connected p a q l.0,
+    subst (λ (u : Work X V). Went (device s site) w (mapped connected q) None (stand_at u (mapped connected q))) (sym e) (went_still w (mapped connected q) (unfinished_mapped connected q l.1)),
+  )
 
   -- one by which it is refused
   is_refused : (w v : Work X V) (p q : Plan Outcome) (access : Option Access) (why : GrantRefusal) → v ≡ shut s w → Leads p access (Some (Err why)) q → GoesOut s site w (mapped connected p) access (Some (said.Closed (reason.Refused why))) (Between v)

@@ -101,6 +101,7 @@ same_backend {S} {E} {g} b d k = λ i.
       hand_in = is_prop→PathP (λ i. (h : Hand) → k.hand i ≡ Some h → h.part < of_parts.count_of (k.parts i)) (λ i. hlevel props) b.hand_in d.hand_in i;
       rung = is_prop→PathP (λ i. is_some (k.hand i) ≡ true → g.service.kind ≡ Ringed) (λ i. hlevel props) b.rung d.rung i;
       waits = is_prop→PathP (λ i. WaitAt g.service.at (of_parts.count_of (k.parts i)) (k.waiting i)) (λ i. hlevel (props, wait_prop)) b.waits d.waits i;
+      of_domain = is_prop→PathP (λ i. is_working (k.activity i) ≡ true → g.is_of (k.dom i).0 (k.service i) ≡ true) (λ i. hlevel props) b.of_domain d.of_domain i;
       works = is_prop→PathP (λ i. g.going (k.service i) ≡ is_working (k.activity i)) (λ i. hlevel props) b.works d.works i;
       bare = is_prop→PathP (λ i. may_hold (k.activity i) (is_open (k.activity i) (k.closing i) (k.connection i).back) ≡ false → g.service.pages (g.knows (k.service i)) ≡ []) (λ i. hlevel props) b.bare d.bare i;
       ready = is_prop→PathP (λ i. is_answering (k.activity i) ≡ true → g.service.ready (g.knows (k.service i)) ≡ true) (λ i. hlevel props) b.ready d.ready i;

@@ -97,7 +97,13 @@ impl<S: Serve + Drop> Backend<S> {
     ghost use Rattle.xenbus_states.specs.Nodes.{no_nodes};
 
     /// The backend of the device of this number, of so many parts and of this domain, which waits for its frontend.
-    pub fn new(alloc: Global, dev: DevId, dom: DomId, parts: u8, service: S) -> Result<Backend<S>, AllocError>
+    pub fn new(
+        alloc: Global,
+        dev: DevId,
+        dom: DomId,
+        parts: u8,
+        service: S,
+    ) -> Result<Backend<S>, AllocError>
         requires some { 1 ≤ parts }
         requires few { parts ≤ 4 }
         requires idle { S.going service ≡ false }

@@ -2,6 +2,7 @@
 
 ghost use Rattle.std.specs.Prelude.{◌≡◌, ◌<◌, ◌==◌, ℕ, Bool, List, [], Option, Some, None, false, length, slice_get, true};
 ghost use Rattle.pv_words.specs.declared.device.HostEvent.{HostEvent};
+ghost use Rattle.pv_words.specs.declared.device.NodeValue.{NodeValue};
 ghost use Rattle.pv_words.specs.declared.device.State.{State};
 ghost use Rattle.pv_words.specs.declared.grant.Hold.{Hold};
 ghost use Rattle.pv_words.specs.Plan.{Plan, MayGo, Makes};
@@ -66,6 +67,9 @@ pub trait Serve {
 
     /// Between two activities they are those of what it knows.
     ghost holds_pages: { (s : Self) → going s ≡ false → holds s ≡ service.pages (knows s) };
+
+    /// A service that begins holds no page.
+    ghost begins_bare: { (nodes : List NodeValue) → service.pages (service.begun nodes) ≡ [] };
 
     /// A service that holds no page has none to give up.
     ghost stays_bare: { (x : Known) → service.pages x ≡ [] → service.stripped x ≡ x };

@@ -31,5 +31,6 @@ mod SoundTells
 pub mod SoundWork
 pub mod Telling
 pub mod Throughout
+pub mod Unmapping
 pub mod Wholes
 pub mod Works

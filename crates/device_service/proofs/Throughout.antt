@@ -45,6 +45,7 @@ use Rattle.device_service.proofs.SoundConnect.{shut_pages}
 use Rattle.device_service.proofs.SoundParts.{counted_pages}
 use Rattle.device_service.proofs.SoundPlans.{Fit}
 use Rattle.device_service.proofs.SoundSame.{same_append}
+use Rattle.device_service.proofs.Unmapping.{unmaps_come}
 use Rattle.device_service.proofs.SoundWork.{Lawful, EndsSo, IsSane, held_pages, learned, site, sleep_pages}
 
 -- parts that rest hold the pages of what they are joined to
@@ -62,14 +63,6 @@ open_asleep doing.Open e = let wrong : ⊥ = cc in absurd wrong
 open_asleep (doing.Taking part) e = let wrong : ⊥ = cc in absurd wrong
 open_asleep (doing.Answering part) e = let wrong : ⊥ = cc in absurd wrong
 open_asleep doing.Dropping e = let wrong : ⊥ = cc in absurd wrong
-
--- pages that are unmapped in order are held no longer then
-unmaps_come : {A : Type 0} (frames grants : ℕ → ℕ) (dom : ℕ) (Q : Holds → A → Type 0) (hs : List Hold) (more : Plan A) (s : Holds) → Fit frames grants dom Q s (unmaps hs more) → (t : Holds) × Fit frames grants dom Q t more × ((k : Hold) → times k s.held ≡ times k hs + times k t.held)
-unmaps_come frames grants dom Q [] more s f = (s, f, λ k. omega arith)
-unmaps_come frames grants dom Q (h ∷ hs) more s f =
-    let u = unmap_leaves frames grants dom h s 0 f.0 in
-    let rest = unmaps_come frames grants dom Q hs more (holding frames s (Ends h) (found (unmap_want h) 0)) (f.1 0) in
-    (rest.0, rest.1, λ k. omega (arith, times_unheld k h s.held u.0, ap (times k) u.1, rest.2 k, times_append k (h ∷ []) hs))
 
 module _ {X A V Y M : Type 0} (D : Lawful X A V Y M) (w : Work X V) (k : Carried Learned) where
   open D use {s, t, r, known, frames, grants, dom, parts, l}

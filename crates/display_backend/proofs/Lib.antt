@@ -6,6 +6,7 @@ pub mod Gets
 pub mod HasWork
 pub mod Held
 pub mod HeldAll
+mod HeldThroughout
 pub mod Keeps
 pub mod Leaving
 pub mod Lefts

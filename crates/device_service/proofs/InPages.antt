@@ -2,7 +2,7 @@
 use Rattle.std.proofs.Common.{◌≡◌, ℕ, zero, suc, ◌+◌, ◌-◌, ◌==◌, ◌++◌, Bool, true, false, if◌then◌else◌, List, [], ◌∷◌, Option, Some, None, map, drop, refl, ◌∙◌}
 use Rattle.std.proofs.lemmas.Bool.{false≢true}
 use Rattle.pv_words.specs.declared.place.Place.TheVariants.{Cell, Grant}
-use Rattle.pv_words.specs.Held.{Holds, IsProper, holding}
+use Rattle.pv_words.specs.Held.{Holds, holding}
 use Rattle.pv_words.specs.Plan as plan
 use Rattle.pv_words.specs.Plan.{Plan, Finished, Make, Want, Load, Store, Swap, Clear, Note, FitsFrom, aim_of, found, joined, mapped}
 use Rattle.link_core.specs.declared.link.Link.{Link}

@@ -3,19 +3,15 @@ use Rattle.std.proofs.Common.{◌≡◌, inl, inr, ℕ, ◌+◌, ◌<◌, ◌++�
 use Rattle.pv_words.specs.declared.device.NodeValue.{NodeValue}
 use Rattle.pv_words.specs.declared.device.Reason.{Reason}
 use Rattle.pv_words.specs.declared.device.Reason.TheVariants as reason
-use Rattle.pv_words.specs.declared.device.State.{State}
 use Rattle.pv_words.specs.declared.grant.GrantRefusal.{GrantRefusal}
 use Rattle.pv_words.specs.declared.grant.Hold.{Hold}
-use Rattle.pv_words.specs.Held.{Holds, IsProper, holding, holds_of}
-use Rattle.pv_words.specs.Plan.{Plan, Finished, Make, Ends, FitsFrom, found, mapped}
-use Rattle.pv_words.specs.Mapping.{unmap_want}
+use Rattle.pv_words.specs.Held.{Holds, IsProper, holding}
+use Rattle.pv_words.specs.Plan.{Plan, Finished, Make, mapped}
 use Rattle.pv_words.proofs.Fits.{fits_so}
-use Rattle.pv_words.proofs.Refusing.{unmap_leaves}
 use Rattle.page_directory.specs.Same.{AreSame, times}
-use Rattle.page_directory.proofs.Counts.{times_append, times_unheld}
-use Rattle.link_core.specs.Activities.{Joined, unmaps}
+use Rattle.link_core.specs.Activities.{Joined}
 use Rattle.device_core.specs.Learned.{Learned, learned_of}
-use Rattle.device_core.specs.Order.{Own as Event, Stand, Between, During, made_by}
+use Rattle.device_core.specs.Order.{Stand, Between, During, made_by}
 use Rattle.device_core.specs.Touched.{Carried}
 use Rattle.device_core.proofs.Learning.{holds_learned}
 use Rattle.device_core.proofs.MachineRun.{carried_after, good_after, own_after}
@@ -27,13 +23,12 @@ use Rattle.device_service.specs.declared.parts.Doing.TheVariants as doing
 use Rattle.device_service.specs.declared.parts.Parts.{Parts}
 use Rattle.device_service.specs.declared.round.Hand.{Hand}
 use Rattle.device_service.specs.declared.serve.Serve.{Ghosts}
-use Rattle.device_service.specs.Activity.{StandsAs, hand_part, is_answering, is_connecting, is_leaving, is_open, is_working, may_hold, resting}
+use Rattle.device_service.specs.Activity.{StandsAs, hand_part, is_leaving, is_open, is_working, may_hold, resting}
 use Rattle.device_service.specs.Claims.{KeepsLaws, site_of}
 use Rattle.device_service.specs.Held.{HoldsAsMany, HoldsPage, TellsWhatIsHeld, declared, holds_by}
 use Rattle.device_service.specs.Laws.{AreHeld}
 use Rattle.device_service.specs.Parts as of_parts
 use Rattle.device_service.specs.Parts.{answer_from, connect_left, connects, count_of, doing_of, is_asleep, joined_of, kept_by, sleeping, slept_to, take_from}
-use Rattle.device_service.specs.Service.{Service}
 use Rattle.device_service.specs.Stand.{dom_of, given_up, held_of, known_in, leaving_plan, parts_of, site_at, stand_at, stand_in, stand_of, stuck, why_of, work_of}
 use Rattle.device_service.specs.Throughout.{HoldsThroughout}
 use Rattle.device_service.specs.Work.{Work, End, Took, Own, Done, Answered, Slept, Shut, after_answer, all_pages, connected, device, part_of, settled}

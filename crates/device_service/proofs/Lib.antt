@@ -12,6 +12,7 @@ pub mod InPages
 pub mod Leaving
 pub mod Lists
 pub mod Opened
+pub mod Out
 pub mod PartsLaws
 pub mod Resting
 pub mod SameLength

@@ -229,6 +229,8 @@ impl Serve for Service {
 
     ghost stays_bare = { stays_bare };
 
+    ghost drops_bare = { λ x e. e };
+
     ghost whole_replies = { whole_replies };
 
     ghost refuses = { λ b es e. refl };

@@ -4,6 +4,7 @@ pub mod Doing
 pub mod Dropping
 pub mod Facts
 pub mod Goes
+pub mod Held
 pub mod Laws
 pub mod Moves
 pub mod Nodes
@@ -16,5 +17,6 @@ pub mod RefusingKept
 pub mod Rows
 pub mod Service
 pub mod Stand
+pub mod Throughout
 pub mod Waits
 pub mod Work

@@ -75,6 +75,8 @@ impl Serve for Refusing {
 
     fn keeps_laws() {}
 
+    fn tells_held() {}
+
     fn is_ringed() -> bool {
         true
     }

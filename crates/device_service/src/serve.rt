@@ -16,6 +16,7 @@ ghost use Rattle.device_service.specs.Operating.{Begins, Continues, Drops, MayDe
 ghost use Rattle.device_service.specs.Reading.{Shows};
 ghost use Rattle.device_service.specs.Rows.{Table};
 ghost use Rattle.device_service.specs.Service.{Service};
+ghost use Rattle.device_service.specs.Throughout.{HoldsThroughout};
 
 use crate::deed::Deed;
 use pv_words::{Access, DomId, Hold, HostEvent, Words};
@@ -91,6 +92,10 @@ pub trait Serve {
     /// It keeps its laws.
     fn keeps_laws()
         ensures { KeepsLaws service table shows known };
+
+    /// The pages that it tells are held while an activity of its own is under way.
+    fn tells_held()
+        ensures { HoldsThroughout service known knows going left is_of holds };
 
     /// Whether each part of its device has a ring.
     fn is_ringed() -> bool

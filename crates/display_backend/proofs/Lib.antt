@@ -2,6 +2,7 @@ pub mod Answering
 pub mod Freeing
 pub mod Gets
 pub mod HasWork
+pub mod HeldThroughout
 pub mod Keeps
 pub mod Lefts
 pub mod Names

@@ -242,6 +242,8 @@ impl Serve for Service {
 
     fn keeps_laws() {}
 
+    fn tells_held() {}
+
     fn is_ringed() -> bool {
         true
     }

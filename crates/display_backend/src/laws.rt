@@ -4,6 +4,8 @@ ghost use Rattle.device_service.specs.Claims.{Keeps, RestsAsleep, Runs, Tells};
 ghost use Rattle.display_backend.specs.Laws.{GivesUpInOrder, FreesInOrder, KeepsPages, TellsWhatIsHeld};
 ghost use Rattle.display_backend.specs.Service.{display, shows, table};
 
+use crate::service::Service;
+
 /// All pages are given up in order, the first of all first; the buffers stay.
 pub fn gives_up_in_order()
     ensures { GivesUpInOrder }
@@ -34,4 +36,6 @@ pub fn displays_run()
 /// each as often: those that they mapped and didn't unmap, also while an activity is under way.
 pub fn tells_what_is_held()
     ensures { TellsWhatIsHeld }
-{}
+{
+    device_service::tells_what_is_held::<Service>();
+}

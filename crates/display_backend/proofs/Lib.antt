@@ -3,6 +3,7 @@ pub mod Freeing
 pub mod Gets
 pub mod HasWork
 pub mod HeldThroughout
+pub mod Hosts
 pub mod Keeps
 pub mod Lefts
 pub mod Names

@@ -1,13 +1,13 @@
 -- What the steps of a service's activities come to.
-use Rattle.std.proofs.Common.{◌≡◌, inl, inr, ℕ, [], Bool, true, false, List, ◌∷◌, Option, Some, None, slice_get, refl, sym, ap, subst, ◌∙◌}
-use Rattle.std.proofs.lemmas.Bool.{false≢true, true≢false}
+use Rattle.std.proofs.Common.{◌≡◌, inl, inr, ℕ, [], Bool, true, false, List, ◌∷◌, Option, Some, None, refl, sym, ap, subst, ◌∙◌}
+use Rattle.std.proofs.lemmas.Bool.{true≢false}
 use Rattle.pv_words.specs.declared.access.Access.{Access}
 use Rattle.pv_words.specs.declared.device.Said.{Said}
 use Rattle.pv_words.specs.Memory.{place_of}
 use Rattle.pv_words.specs.Plan.{Plan, Finished, Make, Want, Goes, MayGo, Makes, mapped}
 use Rattle.host_events.specs.Queue.{behind}
 use Rattle.link_core.specs.Activities.{Joined, Page, answer_plan, stores}
-use Rattle.device_core.specs.Order.{Order, Act, Either, Stand, Between, During, GoesOn, MayChoose, Went, is_in_page}
+use Rattle.device_core.specs.Order.{Order, Act, Stand, Between, During, GoesOn, MayChoose, Went, is_in_page}
 use Rattle.device_core.specs.Site.{Site}
 use Rattle.device_core.proofs.Steps.{place_wanted}
 use Rattle.device_service.specs.declared.backend.Activity.{Activity}

@@ -1,5 +1,5 @@
 -- What a backend hears, wherever it stands.
-use Rattle.std.proofs.Common.{◌≡◌, ◌<◌, true, false, not, [], is_some, List, Option, Some, Result, Ok, Err, OnErr, refl}
+use Rattle.std.proofs.Common.{◌≡◌, ◌<◌, true, false, not, [], is_some, List, Some, Result, Ok, Err, OnErr, refl}
 use mathlib.Core.HLevel.{is_prop→PathP}
 use Rattle.std.proofs.Props.{props}
 use Rattle.device_service.specs.declared.round.Hand.{Hand}

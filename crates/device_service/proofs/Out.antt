@@ -1,5 +1,5 @@
 -- The steps of a device, as those of the activity that is under way.
-use Rattle.std.proofs.Common.{◌≡◌, inl, inr, ◌++◌, Bool, false, true, not, List, [], ◌∷◌, Option, Some, None, refl, sym, ap, subst, ◌∙◌}
+use Rattle.std.proofs.Common.{◌≡◌, inl, inr, ◌++◌, Bool, false, true, List, [], ◌∷◌, Option, Some, None, refl, sym, ap, subst, ◌∙◌}
 use Rattle.pv_words.specs.declared.access.Access.{Access}
 use Rattle.pv_words.specs.declared.device.Reason.{Reason}
 use Rattle.pv_words.specs.declared.device.Said.{Said}
@@ -7,14 +7,14 @@ use Rattle.pv_words.specs.declared.device.Said.TheVariants as said
 use Rattle.pv_words.specs.declared.grant.Hold.{Hold}
 use Rattle.pv_words.specs.Plan.{Plan, Finished, Make, Want, MayGo, mapped}
 use Rattle.link_core.specs.Activities.{unmaps}
-use Rattle.device_core.specs.Order.{Order, Act, Either, Rest, Stand, Between, During, MayStep, GoesOn, Steps, at_rest}
+use Rattle.device_core.specs.Order.{Order, Act, Either, Rest, Stand, Between, During, MayStep, GoesOn, Steps}
 use Rattle.device_core.specs.Site.{Site}
 use Rattle.device_core.proofs.Steps.{steps_between, steps_during, steps_first, steps_second, steps_second_said, steps_said, steps_rest}
 use Rattle.device_service.specs.declared.backend.Activity.{Activity}
 use Rattle.device_service.specs.declared.backend.Backend.{Backend}
 use Rattle.device_service.specs.declared.serve.Serve.{Ghosts}
 use Rattle.device_service.specs.Dropping.{MayDrop}
-use Rattle.device_service.specs.Goes.{Begins, Closed, Closes, GoesOut}
+use Rattle.device_service.specs.Goes.{Begins, Closes, GoesOut}
 use Rattle.device_service.specs.Service.{Service}
 use Rattle.device_service.specs.Stand.{known_in, leaving_plan, stand_at, stand_in, stand_of, stuck, why_of, work_of}
 use Rattle.device_service.specs.Work.{Answered, Denied, Done, End, Lacked, Left, Met, Own, Raised, Renewed, Saw, Shut, Slept, Took, Work, choice, device, leaving, said_at, settled, shut}

@@ -4,10 +4,9 @@ use Rattle.pv_words.specs.declared.access.Access.{Access}
 use Rattle.pv_words.specs.declared.device.NodeValue.{NodeValue}
 use Rattle.pv_words.specs.declared.grant.GrantRefusal.{GrantRefusal}
 use Rattle.pv_words.specs.declared.grant.Hold.{Hold}
-use Rattle.pv_words.specs.Plan.{Plan, Finished, Want, joined, wanted}
+use Rattle.pv_words.specs.Plan.{Plan, Finished, joined}
 use Rattle.ring_words.specs.declared.Looked.{Looked}
 use Rattle.ring_words.specs.declared.Looked.TheVariants as looked
-use Rattle.pv_words.specs.Mapping.{unmap_want}
 use Rattle.link_core.specs.declared.link.Link.{Link}
 use Rattle.link_core.specs.Activities.{Joined, answer_plan, look_plan, take_plan, unmaps}
 use Rattle.link_core.specs.Link as link

@@ -1,5 +1,5 @@
 -- Where the backend of a device stands.
-use Rattle.std.specs.Prelude.{◌≡◌, ℕ, ◌++◌, Bool, true, false, List, [], Option, Some, None, slice_get}
+use Rattle.std.specs.Prelude.{◌≡◌, ℕ, ◌++◌, Bool, true, false, List, [], Option, Some}
 use Rattle.pv_words.specs.declared.access.Access.{Access}
 use Rattle.pv_words.specs.declared.device.Reason.{Reason}
 use Rattle.pv_words.specs.declared.device.Reason.TheVariants as reason
@@ -7,12 +7,11 @@ use Rattle.pv_words.specs.declared.device.Said.{Said}
 use Rattle.pv_words.specs.declared.grant.Hold.{Hold}
 use Rattle.pv_words.specs.Plan.{Plan, Finished, Make, Want, mapped}
 use Rattle.link_core.specs.Activities.{unmaps}
-use Rattle.device_core.specs.Order.{Stand, Between, During, MayStep, Order, MayChoose, Steps}
+use Rattle.device_core.specs.Order.{Stand, Between, During, MayStep, Steps}
 use Rattle.device_core.specs.Site.{Site}
 use Rattle.device_service.specs.declared.backend.Activity.{Activity}
 use Rattle.device_service.specs.declared.backend.Activity.TheVariants as activity
 use Rattle.device_service.specs.declared.backend.Backend.{Backend}
-use Rattle.device_service.specs.declared.parts.Parts.{Parts}
 use Rattle.device_service.specs.declared.serve.Serve.{Ghosts}
 use Rattle.device_service.specs.Activity.{hand_part, is_connecting, is_leaving}
 use Rattle.device_service.specs.Claims.{site_of}

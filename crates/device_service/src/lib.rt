@@ -1,5 +1,5 @@
-//! The order of work of every device, whatever its service: what a device does next, how its work is read as a machine of rows
-//! and names, and what its service owes for that. It is theory alone, which no program uses yet.
+//! The order of work of every device, whatever its service: what a device does next, the backend that does it, how its work is read
+//! as a machine of rows and names, and what its service owes for that.
 #![tactic(auto)]
 
 mod backend;

@@ -20,10 +20,10 @@ use Rattle.device_service.proofs.InPages.{fits_before}
 use Rattle.device_service.proofs.Unmapping.{unmaps_come}
 use Rattle.display_backend.specs.declared.course.Course.{Course}
 use Rattle.display_backend.specs.declared.course.Course.TheVariants.{Rests, Walks, Frees}
-use Rattle.display_backend.specs.declared.display.Progress.{Progress}
-use Rattle.display_backend.specs.declared.display.Progress.TheVariants as progress
+use Rattle.display_backend.specs.declared.course.Progress.{Progress}
+use Rattle.display_backend.specs.declared.course.Progress.TheVariants as progress
 use Rattle.display_backend.specs.Course.{Stands, is_under_way, is_walk_of, left_at, pages_walked, stock_at}
-use Rattle.display_backend.specs.Kept.{Come, HasCome, HasComeTo, facts, hand_of}
+use Rattle.display_backend.specs.Kept.{Come, HasCome, HasComeTo, facts}
 use Rattle.display_backend.specs.Known.{going_of, held_of, is_of, known_of, left_of}
 use Rattle.display_backend.specs.Service.{Ending, Freed, Known, Listed, after_end, display}
 use Rattle.display_backend.specs.Stock.{Stock, bared, buffer_pages, pages_of, pages_under}
@@ -34,7 +34,7 @@ use Rattle.display_backend.proofs.Serviced.{knowing}
 -- no page is mapped yet for a request that is only decided
 none_yet : (st : Stock) (hand : Option Request) (p : Progress) → p ≡ progress.Decided → Come st p hand → st.mapped ≡ []
 none_yet st None p decided come = come.1
-none_yet st (Some q) p decided come = subst (λ (x : Progress). HasComeTo st (hand_of q) x) decided come
+none_yet st (Some q) p decided come = subst (λ (x : Progress). HasComeTo st q x) decided come
 
 module _ (frames grants : ℕ → ℕ) (dom parts : ℕ) (hand : Option Request) (p : Progress) (rest : List Hold) (now : Holds) where
   -- what is left leaves the pages of the buffers then, and the others

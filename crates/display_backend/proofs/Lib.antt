@@ -2,7 +2,8 @@ pub mod Answering
 pub mod Freeing
 pub mod Gets
 pub mod HasWork
-mod HeldThroughout
+pub mod HeldThroughout
+pub mod Hosts
 pub mod Keeps
 pub mod Lefts
 pub mod Names

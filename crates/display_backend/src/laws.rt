@@ -39,4 +39,6 @@ pub fn displays_run()
 /// each as often: those that they mapped and didn't unmap, also while an activity is under way.
 pub fn tells_what_is_held()
     ensures { TellsWhatIsHeld }
-{}
+{
+    device_service::tells_what_is_held::<Service>();
+}

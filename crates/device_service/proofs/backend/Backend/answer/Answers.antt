@@ -1,4 +1,4 @@
-use Rattle.std.proofs.Common.{rules, ◌≡◌, ℕ, List, None, Some, ap, refl, subst, sym, ◌∙◌}
+use Rattle.std.proofs.Common.{rules, ◌≡◌, List, None, Some, ap, refl, subst, sym, ◌∙◌}
 use mir.Syntax.{w32}
 use mir.Val.{SFits}
 use Rattle.std.proofs.lemmas.Int.{to_z-of_z}

@@ -1,15 +1,14 @@
-use Rattle.std.proofs.Common.{◌≡◌, ◌++◌, true, List, Some, None, refl, sym, ap, subst, ◌∙◌}
+use Rattle.std.proofs.Common.{◌++◌, true, List, sym, ap, subst, ◌∙◌}
 use Rattle.pv_words.specs.declared.grant.Hold.{Hold}
 use Rattle.pv_words.specs.Plan.{MayGo, mapped}
 use Rattle.xenbus_states.specs.Connection.{Connection}
 use Rattle.xenbus_states.specs.Needs.{first_fault}
 use Rattle.link_core.specs.Stays.{AccessIn}
 use Rattle.device_core.specs.Order.{Between}
-use Rattle.device_core.specs.Site.{Site}
 use Rattle.device_service.specs.Claims.{site_of}
 use Rattle.device_service.specs.Goes.{GoesOut}
 use Rattle.device_service.specs.Nodes.{kind_in, needs_of, refs_from}
-use Rattle.device_service.specs.Parts.{connect_left, count_of, held_of as parts_held, joined_of, kind_of}
+use Rattle.device_service.specs.Parts.{connect_left, count_of, joined_of, kind_of}
 use Rattle.device_service.specs.Stand.{dom_of, held_of, parts_of, stand_of, work_of}
 use Rattle.device_service.specs.Work.{beginning, connected, shut}
 use Rattle.device_service.proofs.Connecting.{beginning_as, begins_faulty, begun_plan, fault_as, may_mapped}

@@ -1,4 +1,4 @@
-use Rattle.std.proofs.Common.{◌≡◌, ℕ, List, ap, refl, subst, sym}
+use Rattle.std.proofs.Common.{ℕ, List, ap, refl, subst}
 use Rattle.device_core.specs.Site.{Site}
 use Rattle.device_service.specs.Activity.{is_open}
 use Rattle.device_service.specs.Claims.{site_of}

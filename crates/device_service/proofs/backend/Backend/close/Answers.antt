@@ -1,14 +1,9 @@
-use Rattle.std.proofs.Common.{◌≡◌, ◌++◌, false, true, refl, sym, ap, subst, ◌∙◌}
-use Rattle.std.proofs.lemmas.Bool.{false≢true, true≢false}
-use Rattle.pv_words.specs.Plan.{Finished, MayGo}
-use Rattle.link_core.specs.Activities.{unmaps}
-use Rattle.device_service.specs.declared.backend.Activity.{Activity}
-use Rattle.device_service.specs.Activity.{is_connecting, is_open}
+use Rattle.std.proofs.Common.{sym, ap, subst, ◌∙◌}
+use Rattle.device_service.specs.Activity.{is_connecting}
 use Rattle.device_service.specs.Dropping.{MayDrop}
-use Rattle.device_service.specs.Parts.{held_of as parts_held, joined_of}
+use Rattle.device_service.specs.Parts.{joined_of}
 use Rattle.device_service.specs.Stand.{dom_of, given_up, leaving_plan, parts_of, stand_of, work_of}
-use Rattle.device_service.specs.Work.{all_pages}
-use Rattle.device_service.proofs.Leaving.{closing_pages, comes_as, dropping_joins, idle_between, known_between, leaving_as, may_leave, pages_rest, rests_between, rests_of, waits_same, within_same}
+use Rattle.device_service.proofs.Leaving.{closing_pages, comes_as, dropping_joins, known_between, leaving_as, may_leave, rests_between, rests_of}
 use Rattle.device_service.proofs.backend.Backend.close.Goals as goal
 
 pub give_up-requires : goal.give_up-requires

@@ -1,8 +1,7 @@
-use Rattle.std.proofs.Common.{◌≡◌, ◌++◌, Option, Some, None, refl, sym, ap, subst, ◌∙◌}
+use Rattle.std.proofs.Common.{Some, refl, sym, ap, subst, ◌∙◌}
 use Rattle.pv_words.specs.Plan.{MayGo}
 use Rattle.link_core.specs.Link.{Leads}
 use Rattle.device_core.specs.Site.{Site}
-use Rattle.device_service.specs.declared.backend.Activity.{Activity}
 use Rattle.device_service.specs.Activity.{is_connecting}
 use Rattle.device_service.specs.Claims.{site_of}
 use Rattle.device_service.specs.Parts.{connect_left, count_of, ending_of, held_of as parts_held, joined_of}

@@ -1,5 +1,5 @@
 use Rattle.std.proofs.Common.{◌≡◌, ◌∙◌, ℕ, Option, Some, ap, refl, slice_get, subst, sym}
-use Rattle.link_core.specs.Activities.{Joined, answer_plan}
+use Rattle.link_core.specs.Activities.{Joined}
 use Rattle.pv_words.specs.Plan.{MayGo}
 use Rattle.device_core.specs.Site.{Site}
 use Rattle.device_service.specs.Activity.{hand_part, is_open, is_serving}
@@ -7,7 +7,6 @@ use Rattle.device_service.specs.Claims.{site_of}
 use Rattle.device_service.specs.Operating as op
 use Rattle.device_service.specs.Parts as of_parts
 use Rattle.device_service.specs.Stand.{dom_of, held_of, parts_of, work_of}
-use Rattle.device_service.specs.Work.{ring_page}
 use Rattle.device_service.proofs.Deeds.{decides_on, decides_over, decides_starved, may_decide, may_job, may_starved, still, wanting}
 use Rattle.device_service.proofs.Serving.{in_parts, in_service, joined_at, open_between, open_in}
 use Rattle.device_service.proofs.Works.{serving_with, serving_work}

@@ -1,9 +1,9 @@
-use Rattle.std.proofs.Common.{◌≡◌, ℕ, List, ap, refl, subst, sym}
+use Rattle.std.proofs.Common.{ℕ, List, ap, refl, subst, sym}
 use Rattle.pv_words.specs.Plan.{MayGo}
 use Rattle.device_core.specs.Site.{Site}
 use Rattle.device_service.specs.Claims.{site_of}
 use Rattle.device_service.specs.Operating.{Continues}
-use Rattle.device_service.specs.Stand.{dom_of, held_of, parts_of, site_at, work_of}
+use Rattle.device_service.specs.Stand.{dom_of, held_of, parts_of, work_of}
 use Rattle.device_service.proofs.Deeds.{serves_on, serves_over}
 use Rattle.device_service.proofs.Serving.{in_service}
 use Rattle.device_service.proofs.Works.{serving_work}

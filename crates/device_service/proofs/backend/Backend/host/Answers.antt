@@ -4,7 +4,6 @@ use Rattle.pv_words.specs.declared.device.HostRefusal.{HostRefusal}
 use Rattle.host_events.specs.Queue.{refusal_in, refusal_of, unless}
 use Rattle.device_core.specs.Order.{Hosts}
 use Rattle.device_service.specs.Stand.{dom_of, given_up, held_of, parts_of, stand_in, stand_of, work_of}
-use Rattle.device_service.specs.Work.{refused_at}
 use Rattle.device_service.proofs.Hearing.{apart_refuses, err_only, heard_in, same_backend}
 use Rattle.device_service.proofs.Leaving.{event_within, waits_pushed}
 use Rattle.device_service.proofs.backend.Backend.host.Goals as goal

@@ -1,4 +1,4 @@
-use Rattle.std.proofs.Common.{◌++◌, refl, sym, ap, ◌∙◌}
+use Rattle.std.proofs.Common.{◌++◌, sym, ap, ◌∙◌}
 use Rattle.device_service.specs.Activity.{is_leaving}
 use Rattle.device_service.specs.Parts.{held_of as parts_held, joined_of}
 use Rattle.device_service.specs.Stand.{dom_of, given_up, known_in, parts_of, stand_of, work_of}

@@ -1,4 +1,4 @@
-use Rattle.std.proofs.Common.{◌≡◌, None, Option, Some, ap, refl, slice_get, subst, sym, true, ◌∙◌}
+use Rattle.std.proofs.Common.{None, Option, Some, ap, refl, slice_get, subst, sym, true, ◌∙◌}
 use Rattle.pv_words.specs.Plan.{Turns}
 use Rattle.ring_words.specs.declared.Looked.{Looked}
 use Rattle.ring_words.specs.declared.Looked.TheVariants as looked

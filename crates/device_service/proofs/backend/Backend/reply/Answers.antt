@@ -1,4 +1,4 @@
-use Rattle.std.proofs.Common.{◌≡◌, ℕ, Bool, List, ap, refl, slice_get, subst, sym, ◌∙◌}
+use Rattle.std.proofs.Common.{ℕ, Bool, List, ap, slice_get, subst, sym, ◌∙◌}
 use Rattle.pv_words.specs.Plan.{MayGo, Plan, mapped}
 use Rattle.device_core.specs.Order.{GoesOn}
 use Rattle.device_service.specs.Activity.{hand_part, is_open}

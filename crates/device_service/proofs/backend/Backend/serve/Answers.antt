@@ -1,12 +1,11 @@
 use Rattle.std.proofs.Common.{◌≡◌, ◌<◌, ap, refl, slice_get, subst, sym, ◌∙◌}
-use Rattle.device_core.specs.Order.{Between}
 use Rattle.device_core.specs.Site.{Site}
 use Rattle.device_service.specs.declared.round.Round.{Round}
 use Rattle.device_service.specs.Activity.{hand_part, is_open, is_serving}
 use Rattle.device_service.specs.Claims.{site_of}
 use Rattle.device_service.specs.Nodes.{Ringed, kind_in}
 use Rattle.device_service.specs.Parts as of_parts
-use Rattle.device_service.specs.Stand.{dom_of, held_of, parts_of, stand_in, stand_of, work_of}
+use Rattle.device_service.specs.Stand.{dom_of, held_of, parts_of, work_of}
 use Rattle.device_service.specs.Work.{Answered, Saw, Slept, Took, decides_by, part_in, serves_by, with_hand}
 use Rattle.device_service.proofs.Choices.{begins_act, begins_rest, hand_is, looks_is, may_act, replies_is, ringless_is, round_is, sleeps_is, takes_is, waiting_is}
 use Rattle.device_service.proofs.Deeds.{begins_as, may_as}

@@ -1,14 +1,13 @@
 use Rattle.std.proofs.Common.{◌≡◌, [], true, inr, ap, refl, subst, sym, ◌∙◌}
-use Rattle.pv_words.specs.declared.grant.Hold.{Hold}
-use Rattle.pv_words.specs.Plan.{MayGo, mapped}
+use Rattle.pv_words.specs.Plan.{mapped}
 use Rattle.device_core.specs.Site.{Site}
 use Rattle.device_service.specs.declared.backend.Activity.{Activity}
 use Rattle.device_service.specs.declared.backend.Activity.TheVariants as activity
-use Rattle.device_service.specs.Activity.{StandsAs, hand_part, is_answering, is_leaving, is_open, is_working, may_hold}
+use Rattle.device_service.specs.Activity.{StandsAs, hand_part, is_answering, is_leaving, is_open, may_hold}
 use Rattle.device_service.specs.Claims.{site_of}
 use Rattle.device_service.specs.Doing.{uses_ring}
 use Rattle.device_service.specs.Parts as of_parts
-use Rattle.device_service.specs.Stand.{dom_of, given_up, held_of, known_in, leaving_plan, parts_of, stand_of, work_of}
+use Rattle.device_service.specs.Stand.{dom_of, given_up, held_of, leaving_plan, parts_of, work_of}
 use Rattle.device_service.specs.Work.{Answered, Done, Own, Slept, Took, choice, connected}
 use Rattle.device_service.proofs.Deeds.{may_mapped}
 use Rattle.device_service.proofs.Out.{known_left, known_out, leaves_bare, may_first, may_in, may_out, steps_begin, steps_in, steps_on, steps_out}

@@ -1,4 +1,4 @@
-use Rattle.std.proofs.Common.{◌≡◌, List, ap, refl, subst, sym, ◌∙◌}
+use Rattle.std.proofs.Common.{List, ap, refl, subst, sym, ◌∙◌}
 use Rattle.link_core.specs.Activities.{Joined}
 use Rattle.device_service.specs.declared.backend.Activity.TheVariants as activity
 use Rattle.device_service.specs.Parts as of_parts

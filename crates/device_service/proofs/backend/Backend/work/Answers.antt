@@ -1,9 +1,9 @@
-use Rattle.std.proofs.Common.{◌≡◌, ℕ, refl, subst, sym}
+use Rattle.std.proofs.Common.{ℕ, refl, subst, sym}
 use Rattle.pv_words.specs.Plan.{MayGo}
 use Rattle.device_core.specs.Site.{Site}
 use Rattle.device_service.specs.Claims.{site_of}
 use Rattle.device_service.specs.Operating.{Continues}
-use Rattle.device_service.specs.Stand.{dom_of, held_of, parts_of, site_at, work_of}
+use Rattle.device_service.specs.Stand.{dom_of, held_of, parts_of, work_of}
 use Rattle.device_service.proofs.Deeds.{works_on, works_over}
 use Rattle.device_service.proofs.Serving.{in_service}
 use Rattle.device_service.proofs.backend.Backend.work.Goals as goal

@@ -28,5 +28,6 @@ mod SoundSettles
 mod SoundTells
 pub mod SoundWork
 pub mod Telling
+pub mod Truth
 pub mod Wholes
 pub mod Works

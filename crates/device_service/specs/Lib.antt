@@ -16,5 +16,6 @@ pub mod RefusingKept
 pub mod Rows
 pub mod Service
 pub mod Stand
+pub mod Truth
 pub mod Waits
 pub mod Work

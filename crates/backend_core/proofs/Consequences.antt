@@ -7,7 +7,8 @@ use Rattle.backend_core.specs.History.{AnswersIn, IsExplainedIn, IsMachineRunIn,
 use Rattle.backend_core.specs.Laws.{FrontsAreHistories, HistoriesAreRuns, ListingSuffices, ReadingsTellAll, RefusalsAreShown, TellsWhatIsHeld}
 use Rattle.backend_core.specs.Marked.{own}
 use Rattle.backend_core.proofs.Histories.{all_weaker, history_front, prompt_front}
-use Rattle.backend_core.proofs.EachKind.{answers, keeps, next_may, runs, tells, tells_held, truly}
+use Rattle.backend_core.proofs.EachKind.{answers, keeps, next_may, runs, tells, truly}
+use Rattle.backend_core.proofs.Holding.{tells_held}
 use Rattle.backend_core.proofs.Truth.{own_true}
 
 pub histories_are_runs : HistoriesAreRuns

@@ -27,6 +27,7 @@ mod SoundServes
 mod SoundSettles
 mod SoundTells
 pub mod SoundWork
+pub mod Standing
 pub mod Telling
 pub mod Truth
 pub mod Wholes

@@ -18,7 +18,7 @@ use Rattle.device_service.specs.Truth.{IsSaidBy}
 use Rattle.device_service.proofs.Truth.{closes_shown}
 use Rattle.display_backend.specs.declared.waiting.Waiting.{Waiting}
 use Rattle.display_backend.specs.declared.waiting.Waiting.TheVariants as waiting
-use Rattle.display_backend.specs.Machine.{IsStatus, is_creation, verdict}
+use Rattle.display_backend.specs.Verdict.{IsStatus, is_creation, verdict}
 use Rattle.display_backend.specs.Service.{Lines, Serves, Tells, replied_for, table}
 use Rattle.backend_core.specs.Answered.{IsAnswer, IsAnsweredIn}
 use Rattle.backend_core.specs.Kinds.{IsShownBy, accepted_of, first_snapshot, machine}

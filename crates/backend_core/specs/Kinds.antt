@@ -29,7 +29,7 @@ use Rattle.device_service.specs.Rows.{Event, Rows}
 use Rattle.device_service.specs.Truth.{ShowsReason}
 use Rattle.device_service.specs.Work.{Work, End, device}
 use Rattle.display_backend.specs.declared.waiting.Waiting.{Waiting}
-use Rattle.display_backend.specs.Machine.{is_creation, verdict}
+use Rattle.display_backend.specs.Verdict.{is_creation, verdict}
 use Rattle.display_backend.specs.Service.{Ending, Known, Lines, display, shows, table}
 use Rattle.display_backend.specs.Waiting.{is_for}
 use Rattle.backend_core.specs.Answered.{Accepted, IsAnsweredIn}

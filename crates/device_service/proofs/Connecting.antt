@@ -2,19 +2,23 @@
 use Rattle.std.proofs.Common.{◌≡◌, inr, ℕ, ◌++◌, Bool, true, false, List, [], Option, Some, None, Result, Ok, Err, refl, sym, ap, subst, ◌∙◌}
 use Rattle.std.proofs.lemmas.Bool.{false≢true}
 use Rattle.pv_words.specs.declared.access.Access.{Access}
+use Rattle.pv_words.specs.declared.device.NodeValue.{NodeValue}
+use Rattle.pv_words.specs.declared.device.Reason.{Reason}
 use Rattle.pv_words.specs.declared.device.Reason.TheVariants as reason
+use Rattle.pv_words.specs.declared.device.Said.{Said}
 use Rattle.pv_words.specs.declared.device.Said.TheVariants as said
 use Rattle.pv_words.specs.declared.device.State.TheVariants as state
 use Rattle.pv_words.specs.declared.grant.GrantRefusal.{GrantRefusal}
 use Rattle.pv_words.specs.declared.grant.Hold.{Hold}
 use Rattle.pv_words.specs.declared.place.Place.TheVariants.{Cell, Grant}
 use Rattle.pv_words.specs.Held.{Covers, CoversToWrite}
-use Rattle.pv_words.specs.Plan.{Plan, Finished, Make, Goes, IsUnfinished, Want, Load, Store, Swap, Clear, mapped, wanted}
-use Rattle.xenbus_states.specs.Connection.{Connection, moved_to}
+use Rattle.pv_words.specs.Plan.{Plan, Finished, Make, Goes, IsUnfinished, MayGo, Want, Load, Store, Swap, Clear, mapped, wanted}
+use Rattle.xenbus_states.specs.Connection.{Connection, begun, moved_to}
+use Rattle.xenbus_states.specs.Needs.{Problem, first_fault, needs_from}
 use Rattle.link_core.specs.Activities.{Joined}
 use Rattle.link_core.specs.Link.{Leads}
 use Rattle.link_core.specs.Stays.{AccessIn, LiesIn}
-use Rattle.device_core.specs.Order.{Between, Went}
+use Rattle.device_core.specs.Order.{Between, Stand, Went}
 use Rattle.device_core.specs.Site.{Site}
 use Rattle.device_service.specs.declared.backend.Activity.{Activity}
 use Rattle.device_service.specs.declared.backend.Activity.TheVariants as activity
@@ -23,11 +27,12 @@ use Rattle.device_service.specs.declared.parts.Doing.TheVariants as doing
 use Rattle.device_service.specs.declared.parts.Parts.{Parts}
 use Rattle.device_service.specs.declared.round.Hand.{Hand}
 use Rattle.device_service.specs.Activity.{StandsAs, is_leaving}
-use Rattle.device_service.specs.Goes.{GoesOut}
+use Rattle.device_service.specs.Goes.{GoesOut, Told}
+use Rattle.device_service.specs.Nodes.{Kind, Refs, fault_in, keys_of, refs_from}
 use Rattle.device_service.specs.Parts.{Connected as Ends, JoinsByAccess, connects, doing_of, ending_of, is_open, joined_of}
 use Rattle.device_service.specs.Service.{Service}
 use Rattle.device_service.specs.Stand.{known_in, stand_at}
-use Rattle.device_service.specs.Work.{Work, End, Denied, Looks, Met, connected, device, said_at, settled, shut}
+use Rattle.device_service.specs.Work.{Work, End, Denied, Lacked, Looks, Met, beginning, connect_all, connect_parts, connected, device, said_at, settled, shut}
 use Rattle.device_service.proofs.Held.{has_right}
 use Rattle.device_service.proofs.PartsLaws.{joined_none}
 
@@ -109,9 +114,11 @@ module _ {X A V : Type 0} (s : Service X A V) (site : Site) where
   -- a step of a Connect that goes on
   still_connects : (w v : Work X V) (p q : Plan Outcome) (access : Option Access) → v ≡ w → Leads p access None q → GoesOut s site w (mapped connected p) access None (stand_at v (mapped connected q))
   still_connects w v p q None e l = absurd l
-  still_connects w v p q (Some a) e l =
-      (mapped connected q, goes_mapped connected p a q l.0,
-      subst (λ (u : Work X V). Went (device s site) w (mapped connected q) None (stand_at u (mapped connected q))) (sym e) (went_still w (mapped connected q) (unfinished_mapped connected q l.1)))
+  still_connects w v p q (Some a) e l = (
+    mapped connected q,
+    goes_mapped connected p a q l.0,
+    subst (λ (u : Work X V). Went (device s site) w (mapped connected q) None (stand_at u (mapped connected q))) (sym e) (went_still w (mapped connected q) (unfinished_mapped connected q l.1)),
+  )
 
   -- one by which it is refused
   is_refused : (w v : Work X V) (p q : Plan Outcome) (access : Option Access) (why : GrantRefusal) → v ≡ shut s w → Leads p access (Some (Err why)) q → GoesOut s site w (mapped connected p) access (Some (said.Closed (reason.Refused why))) (Between v)
@@ -135,3 +142,41 @@ module _ {X A V : Type 0} (s : Service X A V) (site : Site) where
     pub connect_met : (u : Unit {0}) → done ≡ Some (Ok u) → JoinsByAccess access done → v ≡ settled s site w (Met (joined_of new)) → GoesOut s site w (mapped connected p) access (Some (said.State state.Connected)) (Between v)
     connect_met u e j same =
         are_met w v p q access (joined_of new) u same (subst (JoinsByAccess access) e j) (subst (λ (x : Outcomes). Leads p access (ending_of new x) q) e leads)
+
+abbrev closed_for : Option Reason → Option Said
+closed_for None = None
+closed_for (Some why) = Some (said.Closed why)
+
+-- the fault of the nodes that a device of this kind needs
+pub fault_as : (nodes : List NodeValue) (k k' : Kind) (n n' : ℕ) (o : Option Reason) → k ≡ k' → n ≡ n' → o ≡ fault_in (first_fault nodes (needs_from (keys_of k) 0 n)) → fault_in (first_fault nodes (needs_from (keys_of k') 0 n')) ≡ o
+fault_as nodes k k' n n' o e f h =
+    sym (h ∙ (ap (λ (x : Kind). fault_in (first_fault nodes (needs_from (keys_of x) 0 n))) e ∙ ap (λ m. fault_in (first_fault nodes (needs_from (keys_of k') 0 m))) f))
+
+no_fault : (o : Option Problem) → fault_in o ≡ None → o ≡ None
+no_fault None e = refl
+no_fault (Some problem) e = let wrong : ⊥ = cc in absurd wrong
+
+pub may_mapped : {A B : Type 0} (may : Want → Type 0) (f : A → B) (p : Plan A) → MayGo may (mapped f p) → MayGo may p
+may_mapped may f (Finished x) h = tt
+may_mapped may f (Make want note more) h = h
+
+-- the nodes are all there: a Connect begins with the first part
+pub begun_plan : {A V : Type 0} (site : Site) (o : Option Problem) (nodes : List NodeValue) (kind k : Kind) (p : Plan Outcome) → fault_in o ≡ None → k ≡ kind → p ≡ connect_parts site (refs_from k nodes 0 site.parts) [] → mapped (connected {A = A} {V = V}) p ≡ connect_all site o (refs_from kind nodes 0 site.parts)
+begun_plan site o nodes kind k p none e f =
+    ap (mapped connected) f
+    ∙ (ap (λ (x : Kind). connect_all site None (refs_from x nodes 0 site.parts)) e
+    ∙ ap (λ x. connect_all site x (refs_from kind nodes 0 site.parts)) (sym (no_fault o none)))
+
+module _ {X A V : Type 0} (s : Service X A V) where
+  pub beginning_as : (w : Work X V) (k : Connection) (js : List Joined) (y : X) → k ≡ begun w.connection → js ≡ w.parts → y ≡ w.service → record w { connection = k; read = w.seen; connecting = true; parts = js; service = y } ≡ beginning s w
+  beginning_as w k js y e f h =
+      ap (λ (x : Connection). record w { connection = x; read = w.seen; connecting = true; parts = js; service = y }) e
+      ∙ (ap (λ ks. record w { connection = begun w.connection; read = w.seen; connecting = true; parts = ks; service = y }) f
+      ∙ ap (λ x. record w { connection = begun w.connection; read = w.seen; connecting = true; service = x }) h)
+
+  -- a node is wanting, or wrong: the Connect is refused at once
+  pub begins_faulty : (site : Site) (w : Work X V) (o : Option Problem) (refs : List Refs) (why : Reason) (what : Said) (new : Stand (Work X V) (End A V)) → fault_in o ≡ Some why → what ≡ said.Closed why → new ≡ Between (shut s w) → Told s site w (connect_all site o refs) (Some what) new
+  unfolding said_at settled
+  begins_faulty site w None refs why what new e t n = let wrong : ⊥ = cc in absurd wrong
+  begins_faulty site w (Some problem) refs why what new e t n =
+      record { end = Lacked problem; told = what; over = refl; says = refl; told_is = ap closed_for e ∙ ap (λ x. Some x) (sym t); left = n }

@@ -1,5 +1,5 @@
 -- What a backend hears, wherever it stands.
-use Rattle.std.proofs.Common.{◌≡◌, ◌<◌, true, false, [], is_some, List, Option, Some, Result, Ok, Err, OnErr, refl}
+use Rattle.std.proofs.Common.{◌≡◌, ◌<◌, true, false, not, [], is_some, List, Option, Some, Result, Ok, Err, OnErr, refl}
 use mathlib.Core.HLevel.{is_prop→PathP}
 use Rattle.std.proofs.Props.{props}
 use Rattle.device_service.specs.declared.round.Hand.{Hand}
@@ -13,7 +13,7 @@ use Rattle.pv_words.specs.declared.device.State.{State}
 use Rattle.pv_words.specs.declared.device.State.TheVariants as state
 use Rattle.pv_words.specs.Plan.{Plan, Finished, Make}
 use Rattle.host_events.specs.Queue.{refusal_of}
-use Rattle.device_core.specs.Order.{Heard, Hosts, News, Sets, next}
+use Rattle.device_core.specs.Order.{Heard, Hosts, News, Sets, at_rest, next}
 use Rattle.device_core.specs.Site.{Site}
 use Rattle.device_service.specs.declared.backend.Activity.{Activity}
 use Rattle.device_service.specs.declared.backend.Activity.TheVariants as activity
@@ -21,7 +21,7 @@ use Rattle.device_service.specs.declared.backend.Backend.{Backend}
 use Rattle.device_service.specs.declared.serve.Serve.{Ghosts}
 use Rattle.device_service.specs.Service.{Service}
 use Rattle.device_service.specs.Stand.{stand_at, stand_in}
-use Rattle.device_service.specs.Work.{Work, End, device, part_in, told}
+use Rattle.device_service.specs.Work.{Work, End, choice, device, part_in, told}
 
 heard_at : {X A V : Type 0} (s : Service X A V) (site : Site) (w : Work X V) (news : News) (p : Plan (End A V)) → stand_at (told s w news) p ≡ next (device s site) (stand_at w p) (Heard news)
 heard_at s site w (Sets front nodes) (Finished end) = refl
@@ -101,7 +101,25 @@ same_backend {S} {E} {g} b d k = λ i.
       hand_in = is_prop→PathP (λ i. (h : Hand) → k.hand i ≡ Some h → h.part < of_parts.count_of (k.parts i)) (λ i. hlevel props) b.hand_in d.hand_in i;
       rung = is_prop→PathP (λ i. is_some (k.hand i) ≡ true → g.service.kind ≡ Ringed) (λ i. hlevel props) b.rung d.rung i;
       waits = is_prop→PathP (λ i. WaitAt g.service.at (of_parts.count_of (k.parts i)) (k.waiting i)) (λ i. hlevel (props, wait_prop)) b.waits d.waits i;
+      of_domain = is_prop→PathP (λ i. is_working (k.activity i) ≡ true → g.is_of (k.dom i).0 (k.service i) ≡ true) (λ i. hlevel props) b.of_domain d.of_domain i;
       works = is_prop→PathP (λ i. g.going (k.service i) ≡ is_working (k.activity i)) (λ i. hlevel props) b.works d.works i;
       bare = is_prop→PathP (λ i. may_hold (k.activity i) (is_open (k.activity i) (k.closing i) (k.connection i).back) ≡ false → g.service.pages (g.knows (k.service i)) ≡ []) (λ i. hlevel props) b.bare d.bare i;
       ready = is_prop→PathP (λ i. is_answering (k.activity i) ≡ true → g.service.ready (g.knows (k.service i)) ≡ true) (λ i. hlevel props) b.ready d.ready i;
     }
+
+-- whether a backend rests
+at_busy : {X A V : Type 0} (s : Service X A V) (site : Site) (w : Work X V) (p : Plan (End A V)) → true ≡ not (at_rest (device s site) (stand_at w p))
+unfolding choice
+at_busy s site w (Finished x) = refl
+at_busy s site w (Make want note more) = refl
+
+module _ {S E : Type 0} {g : Ghosts S E} where
+  pub stand_busy : (site : Site) (d : Backend S E g) (w : Work g.Known E) (a : Activity) → (a ≡ activity.Between → ⊥) → true ≡ not (at_rest (device g.service site) (stand_in site d w a))
+  stand_busy site d w activity.Between n = absurd (n refl)
+  stand_busy site d w activity.Connecting n = at_busy g.service site w _
+  stand_busy site d w (activity.Leaving why) n = at_busy g.service site w _
+  stand_busy site d w activity.Taking n = refl
+  stand_busy site d w activity.Working n = refl
+  stand_busy site d w activity.Serving n = refl
+  stand_busy site d w activity.Answering n = refl
+  stand_busy site d w activity.Sleeping n = refl

@@ -214,18 +214,22 @@ module _ {X A V : Type 0} (s : Service X A V) (site : Site) (why : Reason) where
   -- the first page is unmapped, of the service, or of the parts
   pub leave_first : (v w : Work X V) (hs hs' ks : List Hold) (a : Access) (event : Option Said) (new : Stand (Work X V) (End A V)) → Drops hs a hs' → v ≡ w → Went (device s site) v (leaving_plan why (hs' ++ ks)) event new → GoesOut s site w (leaving_plan why (hs ++ ks)) (Some a) event new
   leave_first v w [] hs' ks a event new d e h = absurd d
-  leave_first v w (x ∷ xs) hs' ks a event new d e h =
-      (leaving_plan why (xs ++ ks), (d.0, refl),
-      subst (λ ys. Went (device s site) w (leaving_plan why (ys ++ ks)) event new) d.1 (subst (λ (u : Work X V). Went (device s site) u (leaving_plan why (hs' ++ ks)) event new) e h))
+  leave_first v w (x ∷ xs) hs' ks a event new d e h = (
+    leaving_plan why (xs ++ ks),
+    (d.0, refl),
+    subst (λ ys. Went (device s site) w (leaving_plan why (ys ++ ks)) event new) d.1 (subst (λ (u : Work X V). Went (device s site) u (leaving_plan why (hs' ++ ks)) event new) e h),
+  )
 
   pub leave_last : (v w : Work X V) (hs ks ks' : List Hold) (a : Access) (event : Option Said) (new : Stand (Work X V) (End A V)) → hs ≡ [] → Drops ks a ks' → v ≡ w → Went (device s site) v (leaving_plan why (hs ++ ks')) event new → GoesOut s site w (leaving_plan why (hs ++ ks)) (Some a) event new
   leave_last v w hs [] ks' a event new b d e h = absurd d
   leave_last v w hs (x ∷ xs) ks' a event new b d e h =
-      subst (λ ys. GoesOut s site w (leaving_plan why (ys ++ (x ∷ xs))) (Some a) event new) (sym b)
-      (leaving_plan why xs, (d.0, refl),
-      subst (λ ys. Went (device s site) w (leaving_plan why ys) event new) d.1
-      (subst (λ ys. Went (device s site) w (leaving_plan why (ys ++ ks')) event new) b
-      (subst (λ (u : Work X V). Went (device s site) u (leaving_plan why (hs ++ ks')) event new) e h)))
+      subst (λ ys. GoesOut s site w (leaving_plan why (ys ++ (x ∷ xs))) (Some a) event new) (sym b) (
+        leaving_plan why xs,
+        (d.0, refl),
+        subst (λ ys. Went (device s site) w (leaving_plan why ys) event new) d.1
+            (subst (λ ys. Went (device s site) w (leaving_plan why (ys ++ ks')) event new) b
+            (subst (λ (u : Work X V). Went (device s site) u (leaving_plan why (hs ++ ks')) event new) e h)),
+      )
 
   -- nothing was left
   pub leave_none : (w : Work X V) (hs : List Hold) (told : Said) (new : Stand (Work X V) (End A V)) → hs ≡ [] → told ≡ said.Closed why → new ≡ Between (shut s w) → GoesOut s site w (leaving_plan why hs) None (Some told) new

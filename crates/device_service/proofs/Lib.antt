@@ -8,11 +8,14 @@ pub mod Fitting
 pub mod Hearing
 pub mod Held
 pub mod HeldAll
+pub mod InPages
 pub mod Leaving
 pub mod Lists
 pub mod Opened
+pub mod Out
 pub mod PartsLaws
 pub mod Resting
+pub mod SameLength
 pub mod Serving
 pub mod Sleeps
 pub mod Sound
@@ -29,6 +32,8 @@ mod SoundTells
 pub mod SoundWork
 pub mod Standing
 pub mod Telling
+pub mod Throughout
 pub mod Truth
+pub mod Unmapping
 pub mod Wholes
 pub mod Works

@@ -5,7 +5,7 @@ use Rattle.pv_words.specs.declared.device.NodeValue.{NodeValue}
 use Rattle.pv_words.specs.declared.grant.GrantRefusal.{GrantRefusal}
 use Rattle.pv_words.specs.declared.grant.Hold.{Hold}
 use Rattle.pv_words.specs.declared.grant.Mode.TheVariants.{Write}
-use Rattle.pv_words.specs.Held.{Holds, IsProper, holding, holds_of}
+use Rattle.pv_words.specs.Held.{Holds, IsProper, holding}
 use Rattle.pv_words.specs.Plan.{Plan, Finished, Ends, FitsFrom, found, joined}
 use Rattle.pv_words.proofs.Fits.{fits_first}
 use Rattle.pv_words.specs.Mapping.{map_plan, unmap_want}
@@ -92,20 +92,17 @@ module _ (p : Parts) where
 -- While a Connect is under way, whatever words were found so far, what is left of it tells what is held.
 module _ (frames grants : ℕ → ℕ) (dom : ℕ) (held : List Hold) where
   abbrev pub Tells : Holds → Ending → Type 0
-  Tells h r = h ≡ holds_of (held ++ kept_by r)
+  Tells h r = AreSame h.held (held ++ kept_by r)
 
   abbrev pub Fit : Holds → Plan Ending → Type 0
   Fit s p = FitsFrom (IsProper frames grants dom) (holding frames) Tells s p
-
-  same_pages : (s : Holds) (xs : List Hold) → s ≡ holds_of (held ++ xs) → AreSame s.held (held ++ xs)
-  same_pages s xs e k = ap (λ (h : Holds). times k h.held) e
 
   same_after : (s t : Holds) (xs : List Hold) → t.held ≡ s.held → AreSame t.held (held ++ xs) → AreSame s.held (held ++ xs)
   same_after s t xs e same k = ap (times k) (sym e) ∙ same k
 
   -- the pages of a refused one are unmapped
   undo_told : (hs : List Hold) (why : GrantRefusal) (s : Holds) → Fit s (unmaps hs (Finished (Err why))) → AreSame s.held (held ++ hs)
-  undo_told [] why s f = same_pages s [] f
+  undo_told [] why s f = f
   undo_told (h ∷ hs) why s f =
       let u = unmap_leaves frames grants dom h s 0 f.0 in
       let rest = undo_told hs why (holding frames s (Ends h) (found (unmap_want h) 0)) (f.1 0) in
@@ -131,7 +128,7 @@ module _ (frames grants : ℕ → ℕ) (dom : ℕ) (held : List Hold) where
       same_after s none.0 (all_pages met) none.3 (undo_told (all_pages met) none.1 none.0 (subst (λ hs. Fit none.0 (unmaps hs (Finished (Err none.1)))) (nothing_more (all_pages met)) none.2))
 
   parts_told : (site : Site) (rs : List Refs) (met : List Joined) (s : Holds) → Fit s (connect_parts site rs met) → AreSame s.held (held ++ all_pages met)
-  parts_told site [] met s f = same_pages s (all_pages met) f
+  parts_told site [] met s f = f
   parts_told site (r ∷ rs) met s f = start_told site.frames site.grants site.dom r.ring r.event met (connect_parts site rs) s f
 
   -- at the part that it has come to
@@ -187,7 +184,7 @@ doing_told frames grants nodes held now kind parts dom ringed (doing.Answering p
 doing_told frames grants nodes held now kind parts dom ringed (doing.Sleeping part) ls w c f = absurd (false≢true c)
 doing_told frames grants nodes held now kind parts dom ringed doing.Dropping ls w c f = absurd (false≢true c)
 
-pub held_told : (frames grants : ℕ → ℕ) (nodes : List NodeValue) (held : List Hold) (now : Holds) (p : Parts) → connects (doing_of p) ≡ true → FitsFrom (IsProper frames grants (dom_of p)) (holding frames) (λ h r. h ≡ holds_of (held ++ kept_by r)) now (connect_left (site_in frames grants p) nodes p) → AreSame now.held (held ++ held_of p)
+pub held_told : (frames grants : ℕ → ℕ) (nodes : List NodeValue) (held : List Hold) (now : Holds) (p : Parts) → connects (doing_of p) ≡ true → FitsFrom (IsProper frames grants (dom_of p)) (holding frames) (λ h r. AreSame h.held (held ++ kept_by r)) now (connect_left (site_in frames grants p) nodes p) → AreSame now.held (held ++ held_of p)
 unfolding connect_left count_of doing_of dom_of held_of
 held_told frames grants nodes held now p c f =
     doing_told frames grants nodes held now (kind_of p) (count_of p) p.dom.0 p.ringed p.doing p.links.items p.whole c f

@@ -17,6 +17,7 @@ use Rattle.device_service.specs.declared.parts.Parts.{Parts}
 use Rattle.device_service.specs.declared.round.Hand.{Hand}
 use Rattle.device_service.specs.Activity.{StandsAs, hand_part, resting}
 use Rattle.device_service.specs.Doing.{is_open, uses_ring}
+use Rattle.device_service.specs.Moves.{is_asleep}
 use Rattle.device_service.specs.Nodes.{Ringed}
 use Rattle.device_service.specs.Parts.{count_of, doing_of, joined_of, kind_in, kind_of}
 use Rattle.device_service.specs.Waits.{WaitAt}
@@ -83,6 +84,17 @@ hand_within (Some x) n e h = h x refl
 pub rings_in_use : (p : Parts) → uses_ring (doing_of p) ≡ true → kind_of p ≡ Ringed
 unfolding doing_of kind_of
 rings_in_use p e = ap kind_in (p.whole.rung e)
+
+-- so does a Sleep
+pub rings_asleep : (d : Doing) → is_asleep d ≡ true → uses_ring d ≡ true
+rings_asleep (doing.Sleeping part) e = refl
+rings_asleep (doing.Taking part) e = refl
+rings_asleep (doing.Answering part) e = refl
+rings_asleep doing.Bare e = absurd (false≢true e)
+rings_asleep (doing.Connecting part) e = absurd (false≢true e)
+rings_asleep (doing.Undoing why) e = absurd (false≢true e)
+rings_asleep doing.Open e = absurd (false≢true e)
+rings_asleep doing.Dropping e = absurd (false≢true e)
 
 -- the events behind the oldest are of parts that are there too
 pub waits_behind : {V : Type 0} (at : V → ℕ) (n : ℕ) (es : List V) → WaitAt at n es → WaitAt at n (behind es)

@@ -27,7 +27,7 @@ use Rattle.device_service.proofs.SoundWork.{Lawful, site, IsSane, EndsSo, EndsFo
 module _ {X A V Y M : Type 0} (D : Lawful X A V Y M) where
   open D use {s, t, r, known, frames, grants, dom, parts, l}
 
-  shut_pages : (w : Work X V) (k : Hold) → known.Sane w.service → s.pages w.service ≡ [] → times k (s.pages (shut s w).service ++ []) ≡ 0
+  pub shut_pages : (w : Work X V) (k : Hold) → known.Sane w.service → s.pages w.service ≡ [] → times k (s.pages (shut s w).service ++ []) ≡ 0
   shut_pages w k sane bare = ap (λ hs. times k (hs ++ [])) ((l.drops w.service sane).1 ∙ bare)
 
   -- what it holds

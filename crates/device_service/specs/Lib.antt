@@ -4,6 +4,7 @@ pub mod Doing
 pub mod Dropping
 pub mod Facts
 pub mod Goes
+pub mod Held
 pub mod Laws
 pub mod Moves
 pub mod Nodes
@@ -16,6 +17,7 @@ pub mod RefusingKept
 pub mod Rows
 pub mod Service
 pub mod Stand
+pub mod Throughout
 pub mod Truth
 pub mod Waits
 pub mod Work

@@ -91,13 +91,20 @@ impl<S: Serve + Drop> Backend<S> {
     ghost use Rattle.device_core.specs.Site.{Site};
     ghost use Rattle.device_service.specs.declared.backend.Activity.TheVariants as activity;
     ghost use Rattle.device_service.specs.Goes.{Begins};
+    ghost use Rattle.device_service.specs.Held.{HoldsAsMany, HoldsPage};
     ghost use Rattle.device_service.specs.Waits.{IsFor};
     ghost use Rattle.device_service.specs.Stand.{MayStepAt, Same, StepsAt, dev_of, dom_of, held_of, parts_of, site_at, stand_of, work_of};
     ghost use Rattle.device_service.specs.Work.{choice, device, first_work, refused_at};
     ghost use Rattle.xenbus_states.specs.Nodes.{no_nodes};
 
     /// The backend of the device of this number, of so many parts and of this domain, which waits for its frontend.
-    pub fn new(alloc: Global, dev: DevId, dom: DomId, parts: u8, service: S) -> Result<Backend<S>, AllocError>
+    pub fn new(
+        alloc: Global,
+        dev: DevId,
+        dom: DomId,
+        parts: u8,
+        service: S,
+    ) -> Result<Backend<S>, AllocError>
         requires some { 1 ≤ parts }
         requires few { parts ≤ 4 }
         requires idle { S.going service ≡ false }
@@ -167,19 +174,25 @@ impl<S: Serve + Drop> Backend<S> {
         self.waiting.push(event)
     }
 
-    /// How many pages it holds.
+    /// How many pages it holds: as many as its accesses hold, by whatever it came to stand there.
     pub fn held(&self) -> u32
-        ensures { result ≡ length (held_of self.now) }
+        ensures count { result ≡ length (held_of self.now) }
+        ensures holds { HoldsAsMany self.now result }
     {
+        S::keeps_laws();
+        S::tells_held();
         self.service.held() + self.parts.held()
     }
 
     /// The page at this place of those that it holds: those of its service, and those of its parts, in order, the ring's page before
-    /// the event page.
+    /// the event page. It is one of those that its accesses hold.
     pub fn hold_at(&self, i: u32) -> Hold
         requires { i < length (held_of self.now) }
-        ensures { slice_get (held_of self.now) i ≡ Some result }
+        ensures place { slice_get (held_of self.now) i ≡ Some result }
+        ensures holds { HoldsPage self.now result }
     {
+        S::keeps_laws();
+        S::tells_held();
         let served = self.service.held();
         if i < served {
             return self.service.hold_at(i);

@@ -59,6 +59,8 @@ impl Serve for Refusing {
 
     ghost holds_pages = { λ s e. refl };
 
+    ghost begins_bare = { λ nodes. refl };
+
     ghost stays_bare = { λ x e. refl };
 
     ghost drops_bare = { λ x e. refl };
@@ -72,6 +74,8 @@ impl Serve for Refusing {
     ghost owes_none = { λ x. refl };
 
     fn keeps_laws() {}
+
+    fn tells_held() {}
 
     fn is_ringed() -> bool {
         true

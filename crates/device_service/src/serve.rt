@@ -2,6 +2,7 @@
 
 ghost use Rattle.std.specs.Prelude.{◌≡◌, ◌<◌, ◌==◌, ℕ, Bool, List, [], Option, Some, None, false, length, slice_get, true};
 ghost use Rattle.pv_words.specs.declared.device.HostEvent.{HostEvent};
+ghost use Rattle.pv_words.specs.declared.device.NodeValue.{NodeValue};
 ghost use Rattle.pv_words.specs.declared.device.State.{State};
 ghost use Rattle.pv_words.specs.declared.grant.Hold.{Hold};
 ghost use Rattle.pv_words.specs.Plan.{Plan, MayGo, Makes};
@@ -15,6 +16,7 @@ ghost use Rattle.device_service.specs.Operating.{Begins, Continues, Drops, MayDe
 ghost use Rattle.device_service.specs.Reading.{Shows};
 ghost use Rattle.device_service.specs.Rows.{Table};
 ghost use Rattle.device_service.specs.Service.{Service};
+ghost use Rattle.device_service.specs.Throughout.{HoldsThroughout};
 
 use crate::deed::Deed;
 use pv_words::{Access, DomId, Hold, HostEvent, Words};
@@ -67,6 +69,9 @@ pub trait Serve {
     /// Between two activities they are those of what it knows.
     ghost holds_pages: { (s : Self) → going s ≡ false → holds s ≡ service.pages (knows s) };
 
+    /// A service that begins holds no page.
+    ghost begins_bare: { (nodes : List NodeValue) → service.pages (service.begun nodes) ≡ [] };
+
     /// A service that holds no page has none to give up.
     ghost stays_bare: { (x : Known) → service.pages x ≡ [] → service.stripped x ≡ x };
 
@@ -87,6 +92,10 @@ pub trait Serve {
     /// It keeps its laws.
     fn keeps_laws()
         ensures { KeepsLaws service table shows known };
+
+    /// The pages that it tells are held while an activity of its own is under way.
+    fn tells_held()
+        ensures { HoldsThroughout service known knows going left is_of holds };
 
     /// Whether each part of its device has a ring.
     fn is_ringed() -> bool

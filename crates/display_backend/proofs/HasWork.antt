@@ -9,10 +9,10 @@ use Rattle.displ_wire.specs.declared.Create.{Create}
 use Rattle.displ_wire.specs.declared.buffer.Refused.TheVariants.{Unknown}
 use Rattle.displ_wire.specs.Refused.{status_of}
 use Rattle.display_buffers.specs.Buffers.{buffer_of, has_cookie}
-use Rattle.display_backend.specs.Machine.{verdict, is_accepted}
+use Rattle.display_backend.specs.Verdict.{is_accepted, verdict}
 use Rattle.display_backend.specs.Service.{has_work}
 use Rattle.display_backend.specs.Stock.{Held, pages_under}
-use Rattle.display_backend.proofs.SoundRows.{accepted_is}
+use Rattle.display_backend.proofs.Numbered.{accepted_is}
 
 pub negated : (b : Bool) → not b ≡ false → b ≡ true
 negated true e = refl

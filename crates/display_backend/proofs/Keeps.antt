@@ -34,25 +34,24 @@ use Rattle.device_core.specs.Names.{Name, Sight, cells_of, drawn, all_drawn, wor
 use Rattle.device_core.specs.Touched.{Carried, Touch}
 use Rattle.pv_words.proofs.Fits.{fits_mapped, fits_so}
 use Rattle.link_core.proofs.Shown.{FitFound, unmaps_found}
-use Rattle.display_backend.specs.declared.display.Progress.{Progress}
-use Rattle.display_backend.specs.declared.display.Progress.TheVariants as progress
+use Rattle.display_backend.specs.declared.course.Progress.{Progress}
+use Rattle.display_backend.specs.declared.course.Progress.TheVariants as progress
 use Rattle.display_backend.specs.declared.waiting.Waiting.{Waiting}
 use Rattle.display_backend.specs.declared.waiting.Waiting.TheVariants as waiting
 use Rattle.display_backend.specs.Stock.{Stock, pages_of, buffer_pages, pages_under, bared, all_bared}
-use Rattle.display_backend.specs.Machine.{Hand, verdict, is_accepted, is_creation}
-use Rattle.display_backend.specs.Reply.{status_in}
-use Rattle.display_backend.specs.Work.{Naming, live_names, names_under, numbers, numbered, stock_after, is_denied, said_of}
+use Rattle.display_backend.specs.Names.{live_names, names_under, numbers, numbered}
+use Rattle.display_backend.specs.Reply.{stock_after}
+use Rattle.display_backend.specs.Verdict.{is_accepted, is_creation, is_denied, status_in, verdict}
+use Rattle.display_backend.specs.Waiting.{said_of}
 use Rattle.display_backend.specs.Kept as kept
-use Rattle.display_backend.specs.Kept.{hand_of, Come, HasCome, IsNamed, IsWalking, IsFreeing, facts}
+use Rattle.display_backend.specs.Kept.{Come, HasCome, HasComeTo, IsCreating, IsDestroying, IsNamed, IsWalking, IsFreeing, facts}
+use Rattle.display_backend.proofs.Answering.{IsAnswerAt, answer_same, answer_sound, answer_none, answer_all, answer_rows, answer_names, answers_at, done_as}
 use Rattle.display_backend.proofs.HasWork.{create_accepted, create_refused, destroy_accepted, destroy_bare}
+use Rattle.display_backend.proofs.Names.{GoesFrom, names_none, none_bared, name_goes}
+use Rattle.display_backend.proofs.Numbered.{AreLike, accepted_is, like_length, like_sound, like_verdict, no_buffers, numbered_bared, numbered_all_bared, same_verdict, same_status, passes_by}
 use Rattle.display_backend.proofs.Order.{none_left, none_under, parted}
-use Rattle.display_backend.proofs.SoundAnswer.{answer_same, answer_sound, answer_none, answer_all, answer_rows, answer_names, answers_at, done_as}
-use Rattle.display_backend.proofs.SoundNames.{GoesFrom, names_none, none_bared, name_goes}
-use Rattle.display_backend.proofs.SoundPlans.{fits_drop}
-use Rattle.display_backend.proofs.SoundRows.{AreLike, accepted_is, like_length, like_sound, like_verdict, numbered_bared, numbered_all_bared, same_verdict, same_status, passes_by}
-use Rattle.display_backend.proofs.SoundSame.{are_append, are_left, are_right, are_same}
-use Rattle.display_backend.proofs.SoundSettles.{no_buffers}
-use Rattle.display_backend.proofs.SoundWork.{IsCreating, IsDestroying, HasComeTo, IsAnswerAt}
+use Rattle.device_service.proofs.SoundPlans.{fits_drop}
+use Rattle.device_service.proofs.SoundSame.{are_append, are_left, are_right, are_same}
 use Rattle.device_core.specs.Site.{Site}
 use Rattle.device_service.specs.Service.{Runs}
 use Rattle.device_service.specs.Rows.{made_if}
@@ -141,7 +140,7 @@ module _ (frames grants : ℕ → ℕ) (dom parts : ℕ) where
   Meets x want note = kept.Meets frames grants dom parts x want note
 
   -- an answer is one that the request may get
-  answer_at : (x : Known) (q : Request) (p : Progress) (a : Asked) (b : Bool) → q.asked ≡ a → is_accepted (verdict x.stock.buffers q.asked) ≡ b → ready_at p (has_work x.stock.buffers a) ≡ true → HasComeTo x.stock (hand_of q) p → IsAnswerAt x.stock (hand_of q) p
+  answer_at : (x : Known) (q : Request) (p : Progress) (a : Asked) (b : Bool) → q.asked ≡ a → is_accepted (verdict x.stock.buffers q.asked) ≡ b → ready_at p (has_work x.stock.buffers a) ≡ true → HasComeTo x.stock q p → IsAnswerAt x.stock q p
   answer_at x q progress.Decided (asked.Create c) true e f h come = absurd (false≢true (sym (create_refused x.stock.buffers q.asked c e h) ∙ f))
   answer_at x q progress.Decided (asked.Create c) false e f h come = (done_as x.stock q.asked (asked.Create c) (is_accepted (verdict x.stock.buffers q.asked)) false e f come, inl refl)
   answer_at x q progress.Decided (asked.Destroy k) true e f h come = (done_as x.stock q.asked (asked.Destroy k) (is_accepted (verdict x.stock.buffers q.asked)) true e f (destroy_bare x.stock.buffers q.asked k h, come), inl refl)
@@ -151,13 +150,13 @@ module _ (frames grants : ℕ → ℕ) (dom parts : ℕ) where
   answer_at x q progress.Decided (asked.Detach c) b e f h come = (done_as x.stock q.asked (asked.Detach c) (is_accepted (verdict x.stock.buffers q.asked)) b e f come, inl refl)
   answer_at x q progress.Decided (asked.Flip c) b e f h come = (done_as x.stock q.asked (asked.Flip c) (is_accepted (verdict x.stock.buffers q.asked)) b e f come, inl refl)
   answer_at x q progress.Decided asked.Other b e f h come = (done_as x.stock q.asked asked.Other (is_accepted (verdict x.stock.buffers q.asked)) b e f come, inl refl)
-  answer_at x q progress.NoMemory a b e f h come = answers_at x.stock (hand_of q) progress.NoMemory (λ z. let wrong : ⊥ = cc in wrong) come
-  answer_at x q progress.Denied a b e f h come = answers_at x.stock (hand_of q) progress.Denied (λ z. let wrong : ⊥ = cc in wrong) come
-  answer_at x q progress.Mapped a b e f h come = answers_at x.stock (hand_of q) progress.Mapped (λ z. let wrong : ⊥ = cc in wrong) come
-  answer_at x q progress.Released a b e f h come = answers_at x.stock (hand_of q) progress.Released (λ z. let wrong : ⊥ = cc in wrong) come
+  answer_at x q progress.NoMemory a b e f h come = answers_at x.stock q progress.NoMemory (λ z. let wrong : ⊥ = cc in wrong) come
+  answer_at x q progress.Denied a b e f h come = answers_at x.stock q progress.Denied (λ z. let wrong : ⊥ = cc in wrong) come
+  answer_at x q progress.Mapped a b e f h come = answers_at x.stock q progress.Mapped (λ z. let wrong : ⊥ = cc in wrong) come
+  answer_at x q progress.Released a b e f h come = answers_at x.stock q progress.Released (λ z. let wrong : ⊥ = cc in wrong) come
 
   -- the answer
-  module _ (st : Stock) (q : Request) (p : Progress) (sane : AreOf (grants dom) dom (pages_of st) × AreSound st.buffers) (is : IsAnswerAt st (hand_of q) p) where
+  module _ (st : Stock) (q : Request) (p : Progress) (sane : AreOf (grants dom) dom (pages_of st) × AreSound st.buffers) (is : IsAnswerAt st q p) where
     abbrev accepted : Bool
     accepted = is_accepted (status_in p (verdict st.buffers q.asked))
 
@@ -180,12 +179,11 @@ module _ (frames grants : ℕ → ℕ) (dom parts : ℕ) where
   answers_shows st (Some q) p n m s h r named =
       let is = answer_at (known st (Some q) p) q p q.asked (is_accepted (verdict st.buffers q.asked)) refl refl r h.1 in
       let status = status_in p (verdict st.buffers q.asked) in
-      let a = is_accepted status in
-      let naming : Naming = record { ids = m; replies = n } in (
-        answer_all st naming named q.asked a,
+      let a = is_accepted status in (
+        answer_all st n m named q.asked a,
         (q, refl, same_status (is_denied p) st.buffers m q.asked status is.1),
-        ap (λ x. let y : Lines = record { request = None; denied = false; buffers = x } in y) (answer_rows st naming named q.asked a),
-        λ sight. answer_names st naming named q.asked a sight s.1.distinct is.0 ∙ ap (λ (x : Option ℕ). with_name (all_drawn sight (live_names st.buffers m)) x (words_in sight (cond (is_creation q.asked && a) (cells_of st.mapped) []))) (made_cond (is_creation q.asked && a) n),
+        ap (λ x. let y : Lines = record { request = None; denied = false; buffers = x } in y) (answer_rows st n m named q.asked a),
+        λ sight. answer_names st n m named q.asked a sight s.1.distinct is.0 ∙ ap (λ (x : Option ℕ). with_name (all_drawn sight (live_names st.buffers m)) x (words_in sight (cond (is_creation q.asked && a) (cells_of st.mapped) []))) (made_cond (is_creation q.asked && a) n),
       )
 
   -- the walk of a CREATE
@@ -216,7 +214,7 @@ module _ (frames grants : ℕ → ℕ) (dom parts : ℕ) where
         (fits_so (IsProper frames grants dom) (holding frames) (Leaves (frames dom) (grants dom) dom Read n held) (λ h y. WalksSo h (Listed y)) listed (holds_of held) (walk_plan (frames dom) (grants dom) dom w.create.gref_directory Read n) (walks_exactly frames grants dom w.create.gref_directory Read n held))
 
   -- the Release of a DESTROY
-  module _ (x : Known) (q : Request) (cookie : ℕ) (s : IsSane x) (has : x.request ≡ Some q) (decided : x.progress ≡ progress.Decided) (destroying : IsDestroying x.stock (hand_of q) cookie) (none : x.stock.mapped ≡ []) where
+  module _ (x : Known) (q : Request) (cookie : ℕ) (s : IsSane x) (has : x.request ≡ Some q) (decided : x.progress ≡ progress.Decided) (destroying : IsDestroying x.stock q cookie) (none : x.stock.mapped ≡ []) where
     abbrev bs : List (Live (List Hold))
     bs = x.stock.buffers
 
@@ -283,18 +281,18 @@ module _ (frames grants : ℕ → ℕ) (dom parts : ℕ) where
   abbrev Begun : Known → Known → Plan Ending → Type 0
   Begun x y pl = IsSane y × HasCome true y × FitsBeside display frames grants dom Meets EndsOwn x y pl
 
-  begins_in : (x : Known) (q : Request) → x.request ≡ Some q → IsSane x → HasComeTo x.stock (hand_of q) x.progress → (p : Progress) (a : Asked) → x.progress ≡ p → q.asked ≡ a → ready_at p (has_work x.stock.buffers a) ≡ false → (y : Known) (pl : Plan Ending) → Leads (job_of site x a) y pl → Begun x y pl
+  begins_in : (x : Known) (q : Request) → x.request ≡ Some q → IsSane x → HasComeTo x.stock q x.progress → (p : Progress) (a : Asked) → x.progress ≡ p → q.asked ≡ a → ready_at p (has_work x.stock.buffers a) ≡ false → (y : Known) (pl : Plan Ending) → Leads (job_of site x a) y pl → Begun x y pl
   begins_in x q has s come progress.Decided (asked.Create c) e f h y pl leads =
-      let none : x.stock.mapped ≡ [] = subst (λ z. HasComeTo x.stock (hand_of q) z) e come in
+      let none : x.stock.mapped ≡ [] = subst (λ z. HasComeTo x.stock q z) e come in
       let w : IsWalking x = record { request = q; create = c; in_hand = has; creating = (f, create_accepted x.stock.buffers q.asked c f h); decided = e; none = none } in
       subst (λ z. Begun x z pl) leads.0 (subst (λ z. Begun x x z) leads.1
       (s, (ap (λ o. is_some o) has, subst (λ (o : Option Request). Come x.stock x.progress o) (sym has) come), beside x x (mapped (λ z. Listed z) (walk_plan (frames dom) (grants dom) dom c.gref_directory Read (walking.pages_of c.buffer_sz))) (λ rest held same. walk_fits x w rest held same) (λ f. walk_found x w f)))
   begins_in x q has s come progress.Decided (asked.Destroy cookie) e f h y pl leads =
-      let none : x.stock.mapped ≡ [] = subst (λ z. HasComeTo x.stock (hand_of q) z) e come in
-      let destroying : IsDestroying x.stock (hand_of q) cookie = (f, destroy_accepted x.stock.buffers q.asked cookie f h) in
+      let none : x.stock.mapped ≡ [] = subst (λ z. HasComeTo x.stock q z) e come in
+      let destroying : IsDestroying x.stock q cookie = (f, destroy_accepted x.stock.buffers q.asked cookie f h) in
       let new = freeing x cookie in
       subst (λ z. Begun x z pl) leads.0 (subst (λ z. Begun x new z) leads.1
-      (freed_sane x q cookie s has e destroying none, (ap (λ o. is_some o) has, subst (λ (o : Option Request). Come new.stock x.progress o) (sym has) (subst (λ z. HasComeTo new.stock (hand_of q) z) (sym e) none)), beside x new (unmaps (pages_under cookie x.stock.buffers) (Finished Freed)) (λ rest held same. freed_fits x q cookie s has e destroying none rest held same) (λ f. unmaps_found (EndsFound new) f (pages_under cookie x.stock.buffers) (Finished Freed) tt)))
+      (freed_sane x q cookie s has e destroying none, (ap (λ o. is_some o) has, subst (λ (o : Option Request). Come new.stock x.progress o) (sym has) (subst (λ z. HasComeTo new.stock q z) (sym e) none)), beside x new (unmaps (pages_under cookie x.stock.buffers) (Finished Freed)) (λ rest held same. freed_fits x q cookie s has e destroying none rest held same) (λ f. unmaps_found (EndsFound new) f (pages_under cookie x.stock.buffers) (Finished Freed) tt)))
   begins_in x q has s come progress.Decided (asked.Config c) e f h y pl leads = absurd (true≢false h)
   begins_in x q has s come progress.Decided (asked.Attach c) e f h y pl leads = absurd (true≢false h)
   begins_in x q has s come progress.Decided (asked.Detach c) e f h y pl leads = absurd (true≢false h)
@@ -343,9 +341,9 @@ module _ (frames grants : ℕ → ℕ) (dom parts : ℕ) where
   abbrev Starving : Known → Known → Type 0
   Starving x y = IsSane y × HasCome true y × (display.ready y ≡ true) × AreSame (pages_of x.stock) (pages_of y.stock)
 
-  starves_in : (x : Known) (q : Request) → x.request ≡ Some q → IsSane x → HasComeTo x.stock (hand_of q) x.progress → (p : Progress) (a : Asked) → x.progress ≡ p → q.asked ≡ a → ready_at p (has_work x.stock.buffers a) ≡ false → (y : Known) → WantsFor (job_of site x a) y → Starving x y
+  starves_in : (x : Known) (q : Request) → x.request ≡ Some q → IsSane x → HasComeTo x.stock q x.progress → (p : Progress) (a : Asked) → x.progress ≡ p → q.asked ≡ a → ready_at p (has_work x.stock.buffers a) ≡ false → (y : Known) → WantsFor (job_of site x a) y → Starving x y
   starves_in x q has s come progress.Decided (asked.Create c) e f h y wants =
-      let none : x.stock.mapped ≡ [] = subst (λ z. HasComeTo x.stock (hand_of q) z) e come in
+      let none : x.stock.mapped ≡ [] = subst (λ z. HasComeTo x.stock q z) e come in
       let new : Known = record x { progress = progress.NoMemory } in
       subst (λ z. Starving x z) wants
       (s, (ap (λ o. is_some o) has, subst (λ (o : Option Request). Come x.stock progress.NoMemory o) (sym has) ((c, (f, create_accepted x.stock.buffers q.asked c f h)), none)), subst (λ (o : Option Request). ready_for new o ≡ true) (sym has) refl, (λ k. refl))
@@ -382,7 +380,7 @@ module _ (frames grants : ℕ → ℕ) (dom parts : ℕ) where
       same_in asked.Other wants e = absurd wants
 
   -- how an activity ends
-  after_come : (x : Known) (q : Request) (st : Stock) (p : Progress) → x.request ≡ Some q → HasComeTo st (hand_of q) p → HasCome true (record x { stock = st; progress = p })
+  after_come : (x : Known) (q : Request) (st : Stock) (p : Progress) → x.request ≡ Some q → HasComeTo st q p → HasCome true (record x { stock = st; progress = p })
   after_come x q st p has come = (ap (λ o. is_some o) has, subst (λ (o : Option Request). Come st p o) (sym has) come)
 
   ends : (x : Known) (a : Ending) → IsSane x → EndsHeld x a → IsSane (after_end x a) × HasCome true (after_end x a)

@@ -33,20 +33,18 @@ use Rattle.device_service.specs.declared.deed.Now.TheVariants.{Answers, GoesOn, 
 use Rattle.device_service.specs.Operating.{Comes, Continues, IsOutOfPages, Leaves}
 use Rattle.display_backend.specs.declared.course.Course.{Course}
 use Rattle.display_backend.specs.declared.course.Course.TheVariants.{Rests, Walks, Frees}
-use Rattle.display_backend.specs.declared.display.Progress.{Progress}
-use Rattle.display_backend.specs.declared.display.Progress.TheVariants as progress
+use Rattle.display_backend.specs.declared.course.Progress.{Progress}
+use Rattle.display_backend.specs.declared.course.Progress.TheVariants as progress
 use Rattle.display_backend.specs.Course.{Goes, is_under_way, is_walk_of, pages_walked, stock_at, left_at, Creates, Destroys, ComesTo, InHand, HasDestroy, Releases, Stands}
 use Rattle.display_backend.specs.Service.{Known, Ending, Listed, Freed, after_walk, display, has_work, ready_at, ready_for, reply_for, says_at}
 use Rattle.display_backend.specs.Stock.{Stock, Held, pages_of, pages_under, with_pages, less_one, bared, all_bared, stripped, first_less, without_first_in, without_first_of, without_first}
-use Rattle.display_backend.proofs.Freeing.{Clears}
+use Rattle.display_backend.specs.Names.{numbered}
+use Rattle.display_backend.specs.Reply.{reply_to}
+use Rattle.display_backend.specs.Verdict.{status_in, verdict}
+use Rattle.display_backend.proofs.Freeing.{Clears, bare_freed}
+use Rattle.display_backend.proofs.Numbered.{AreLike, like_verdict, numbered_all_bared, numbered_bared, same_check}
 use Rattle.display_backend.proofs.Order.{buffers_stay, first_of_one, none_under, others_stay}
-use Rattle.display_backend.proofs.Out.{goes_mapped}
-use Rattle.display_backend.proofs.SoundRows.{AreLike, like_verdict, numbered_all_bared, numbered_bared, same_check}
-use Rattle.display_backend.proofs.Stocks.{bare_freed}
-use Rattle.display_backend.specs.Machine.{verdict}
-use Rattle.display_backend.specs.Reply.{reply_to, status_in}
-use Rattle.display_backend.specs.Work.{numbered}
-use Rattle.display_backend.proofs.Stays.{lies_left}
+use Rattle.device_service.proofs.Serving.{in_service}
 use Rattle.device_core.specs.Site.{Site}
 use Rattle.device_service.specs.Claims.{site_of}
 use Rattle.std.proofs.lemmas.Bool.{eqb-true}
@@ -62,6 +60,10 @@ pub at_rest : (course : Course) (s : Stock) → is_under_way course ≡ false �
 at_rest Rests s e = refl
 at_rest (Walks w) s e = refl
 at_rest (Frees cookie) s e = absurd (true≢false e)
+
+goes_mapped : {A B : Type 0} (f : A → B) (p : Plan A) (a : Access) (q : Plan A) → plan.Goes p a q → plan.Goes (mapped f p) a (mapped f q)
+goes_mapped f (Finished x) a q g = absurd g
+goes_mapped f (Make want note more) a q g = (g.0, ap (mapped f) g.1)
 
 -- a walk goes on
 walk_left_on : (x y : Known) (q : Plan Walked) (left : Plan Ending) → IsUnfinished q → y ≡ x → left ≡ mapped Listed q → Leaves display x (mapped Listed q) GoesOn None y left
@@ -120,12 +122,6 @@ in_none (Some a) held pages e h = lies_in_none (wanted a) pages (subst (λ (hs :
 pub may_unmap : {A : Type 0} (may : Want → Type 0) (hs : List Hold) (more : Plan A) → MayGo may (unmaps hs more) → (h : Hold) → slice_get hs 0 ≡ Some h → may (unmap_want h)
 may_unmap may [] more m h e = let wrong : ⊥ = cc in absurd wrong
 may_unmap may (x ∷ xs) more m h e =
-    let same : x ≡ h = cc in
-    subst (λ (y : Hold). may (unmap_want y)) same m
-
-pub may_drop : (may : Want → Type 0) (hs : List Hold) → MayDrop may hs → (h : Hold) → slice_get hs 0 ≡ Some h → may (unmap_want h)
-may_drop may [] m h e = let wrong : ⊥ = cc in absurd wrong
-may_drop may (x ∷ xs) m h e =
     let same : x ≡ h = cc in
     subst (λ (y : Hold). may (unmap_want y)) same m
 
@@ -286,9 +282,8 @@ walk_continues frames grants dom parts course mid w hand p s count access now to
 
 -- in a page that it holds
 pub in_walked : (access : Option Access) (course : Course) (w : Walk) (s : Stock) → course ≡ Walks w → AccessIn (held_by w) access → AccessIn (pages_walked course ++ pages_of s) access
-in_walked None course w s is h = tt
-in_walked (Some a) course w s is h =
-    subst (λ (k : Course). LiesIn (pages_walked k ++ pages_of s) (wanted a)) (sym is) (lies_left (wanted a) (held_by w) (pages_of s) h)
+in_walked access course w s is h =
+    subst (λ (k : Course). AccessIn (pages_walked k ++ pages_of s) access) (sym is) (in_service (held_by w) (pages_of s) access h)
 
 -- the verdict stays while pages are given up
 verdict_at : (course : Course) (s : Stock) (asks : Asked) → verdict (stock_at course s).buffers asks ≡ verdict s.buffers asks

@@ -12,8 +12,8 @@ use Rattle.page_directory.specs.WalkLeft as walk
 use Rattle.page_directory.specs.WalkLeft.{walk_left, held_by, count_of}
 use Rattle.link_core.specs.Activities.{unmaps}
 use Rattle.device_core.specs.Site.{Site}
-use Rattle.display_backend.specs.declared.display.Progress.{Progress}
-use Rattle.display_backend.specs.declared.display.Progress.TheVariants as progress
+use Rattle.display_backend.specs.declared.course.Progress.{Progress}
+use Rattle.display_backend.specs.declared.course.Progress.TheVariants as progress
 use Rattle.display_backend.specs.declared.course.Course.{Course}
 use Rattle.display_backend.specs.declared.course.Course.TheVariants.{Rests, Walks, Frees}
 use Rattle.display_backend.specs.Service.{Ending, Listed, Freed}

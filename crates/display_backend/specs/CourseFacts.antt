@@ -8,8 +8,8 @@ use Rattle.displ_wire.specs.declared.Request.{Request}
 use Rattle.page_directory.specs.declared.walk.Walk.{Walk}
 use Rattle.display_backend.specs.declared.course.Course.{Course}
 use Rattle.display_backend.specs.declared.course.Course.TheVariants.{Rests, Walks, Frees}
-use Rattle.display_backend.specs.declared.display.Progress.{Progress}
-use Rattle.display_backend.specs.declared.display.Progress.TheVariants as progress
+use Rattle.display_backend.specs.declared.course.Progress.{Progress}
+use Rattle.display_backend.specs.declared.course.Progress.TheVariants as progress
 use Rattle.display_backend.specs.Course.{Creates, Destroys, ComesTo, InHand, HasCreate, HasDestroy, Goes, Releases, Stands}
 use Rattle.display_backend.specs.Stock.{Held}
 

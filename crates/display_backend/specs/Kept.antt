@@ -17,39 +17,34 @@ use Rattle.device_core.specs.Touched.{Touch}
 use Rattle.device_service.specs.Laws.{Facts}
 use Rattle.display_backend.specs.declared.course.Course.{Course}
 use Rattle.display_backend.specs.declared.course.Course.TheVariants.{Rests, Walks, Frees}
-use Rattle.display_backend.specs.declared.display.Progress.{Progress}
-use Rattle.display_backend.specs.declared.display.Progress.TheVariants as progress
+use Rattle.display_backend.specs.declared.course.Progress.{Progress}
+use Rattle.display_backend.specs.declared.course.Progress.TheVariants as progress
 use Rattle.display_backend.specs.declared.waiting.Waiting.{Waiting}
 use Rattle.display_backend.specs.Course.{is_under_way, pages_walked, stock_at}
-use Rattle.display_backend.specs.Machine.{Hand, verdict}
 use Rattle.display_backend.specs.Service.{Known, Ending, Listed, Freed, Served, reply_for, display}
+use Rattle.display_backend.specs.Verdict.{verdict}
 use Rattle.display_backend.specs.Stock.{Stock, Held, pages_of, buffer_pages, pages_under, with_pages, all_bared, stripped}
 
 -- the request in hand is a CREATE that is accepted, or a DESTROY of this cookie
-abbrev pub IsCreating : Stock → Hand → Create → Type 0
-IsCreating stock h c = (h.request.asked ≡ asked.Create c) × (verdict stock.buffers h.request.asked ≡ pos 0)
+abbrev pub IsCreating : Stock → Request → Create → Type 0
+IsCreating stock q c = (q.asked ≡ asked.Create c) × (verdict stock.buffers q.asked ≡ pos 0)
 
-abbrev pub IsDestroying : Stock → Hand → ℕ → Type 0
-IsDestroying stock h cookie =
-    (h.request.asked ≡ asked.Destroy cookie) × (verdict stock.buffers h.request.asked ≡ pos 0)
+abbrev pub IsDestroying : Stock → Request → ℕ → Type 0
+IsDestroying stock q cookie = (q.asked ≡ asked.Destroy cookie) × (verdict stock.buffers q.asked ≡ pos 0)
 
 -- How far the request in hand has come: pages are mapped for an accepted CREATE alone, and those of the buffer of an accepted
 -- DESTROY are unmapped.
-abbrev pub HasComeTo : Stock → Hand → Progress → Type 0
-HasComeTo stock h progress.Decided = stock.mapped ≡ []
-HasComeTo stock h progress.NoMemory = ((c : Create) × IsCreating stock h c) × (stock.mapped ≡ [])
-HasComeTo stock h progress.Denied = ((c : Create) × IsCreating stock h c) × (stock.mapped ≡ [])
-HasComeTo stock h progress.Mapped = ((c : Create) × IsCreating stock h c) × (0 < length stock.mapped)
-HasComeTo stock h progress.Released =
-    ((cookie : ℕ) × IsDestroying stock h cookie × (pages_under cookie stock.buffers ≡ [])) × (stock.mapped ≡ [])
-
--- a request in hand, as the display's lemmas speak of it
-abbrev pub hand_of : Request → Hand
-hand_of q = record { part = 0; request = q }
+abbrev pub HasComeTo : Stock → Request → Progress → Type 0
+HasComeTo stock q progress.Decided = stock.mapped ≡ []
+HasComeTo stock q progress.NoMemory = ((c : Create) × IsCreating stock q c) × (stock.mapped ≡ [])
+HasComeTo stock q progress.Denied = ((c : Create) × IsCreating stock q c) × (stock.mapped ≡ [])
+HasComeTo stock q progress.Mapped = ((c : Create) × IsCreating stock q c) × (0 < length stock.mapped)
+HasComeTo stock q progress.Released =
+    ((cookie : ℕ) × IsDestroying stock q cookie × (pages_under cookie stock.buffers ≡ [])) × (stock.mapped ≡ [])
 
 abbrev pub Come : Stock → Progress → Option Request → Type 0
 Come st p None = (p ≡ progress.Decided) × (st.mapped ≡ [])
-Come st p (Some q) = HasComeTo st (hand_of q) p
+Come st p (Some q) = HasComeTo st q p
 
 abbrev pub HasCome : Bool → Known → Type 0
 HasCome b x = (is_some x.request ≡ b) × Come x.stock x.progress x.request
@@ -62,7 +57,7 @@ pub record IsWalking (x : Known) : Type 0 where
   pub request : Request
   pub create : Create
   pub in_hand : x.request ≡ Some request
-  pub creating : IsCreating x.stock (hand_of request) create
+  pub creating : IsCreating x.stock request create
   pub decided : x.progress ≡ progress.Decided
   pub none : x.stock.mapped ≡ []
 
@@ -70,7 +65,7 @@ pub record IsFreeing (x : Known) : Type 0 where
   pub request : Request
   pub cookie : ℕ
   pub in_hand : x.request ≡ Some request
-  pub destroying : IsDestroying x.stock (hand_of request) cookie
+  pub destroying : IsDestroying x.stock request cookie
   pub decided : x.progress ≡ progress.Decided
   pub bare : pages_under cookie x.stock.buffers ≡ []
   pub none : x.stock.mapped ≡ []

@@ -6,12 +6,14 @@ use Rattle.pv_words.specs.Held.{Holds, holding, holds_of}
 use Rattle.displ_wire.specs.declared.Create.{Create}
 use Rattle.display_buffers.specs.Buffers.{AreDistinct, cookies}
 use Rattle.page_directory.specs.Same.{AreSame, times}
-use Rattle.device_core.specs.Order.{Own, Station, Between, IsExplained, at_stand, followed, made_by}
+use Rattle.device_core.specs.Order.{Own, followed, made_by}
 use Rattle.device_core.specs.Site.{Site}
+use Rattle.device_service.specs.Claims.{IsWork, first_station}
+use Rattle.device_service.specs.Work.{device}
 use Rattle.display_backend.specs.declared.display.Display.{Display}
 use Rattle.display_backend.specs.Display.{held_of, site_of, stand_of}
+use Rattle.display_backend.specs.Service.{display, shows, table}
 use Rattle.display_backend.specs.Stock.{Stock, Held, pages_of, buffer_pages, pages_under, less_one, bared, stripped, without_first, created, destroyed}
-use Rattle.display_backend.specs.Work.{Work, End, display, first_work}
 
 -- The first page that is given up is the first of all; what is left is the others, in order. With all of them given up the
 -- buffers are the same as with one less.
@@ -35,19 +37,16 @@ KeepsPages =
     → ((c : Create) → AreSame (pages_of s) (pages_of (created s c)))
     × ((cookie : ℕ) → AreDistinct (cookies s.buffers) → pages_under cookie s.buffers ≡ [] → AreSame (pages_of s) (pages_of (destroyed s cookie)))
 
--- a display that is declared
-abbrev pub first_station : Station Work End
-first_station = at_stand (Between first_work)
-
 -- what a display holds that has done and heard this since it was declared: what its accesses mapped and didn't unmap
 abbrev pub holds_by : (frames : ℕ → ℕ) → Site → List Own → Holds
-holds_by frames site es = after (λ h k. holding frames h k.note k.access) (holds_of []) (made_by (display site) first_station es)
+holds_by frames site es =
+    after (λ h k. holding frames h k.note k.access) (holds_of []) (made_by (device display site) (first_station display table shows site) es)
 
 -- It stands where what it has done and heard leads, all of it as its order of work gives.
 abbrev pub StandsBy : (frames grants : ℕ → ℕ) → Display → List Own → Type 0
 StandsBy frames grants d es =
-    IsExplained (display (site_of frames grants d)) first_station es
-    × (stand_of (site_of frames grants d) d ≡ (after (followed (display (site_of frames grants d))) first_station es).stand)
+    IsWork display table shows (site_of frames grants d) es
+    × (stand_of (site_of frames grants d) d ≡ (after (followed (device display (site_of frames grants d))) (first_station display table shows (site_of frames grants d)) es).stand)
 
 -- Whatever it has done and heard, where it stands by that its accesses hold so many pages; and they hold this page.
 abbrev pub HoldsAsMany : Display → ℕ → Type 0

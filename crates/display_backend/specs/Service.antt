@@ -19,16 +19,16 @@ use Rattle.page_directory.specs.Walking as walking
 use Rattle.host_events.specs.Queue.{refusal_of}
 use Rattle.link_core.specs.Activities.{unmaps}
 use Rattle.device_core.specs.Names.{cells_of}
-use Rattle.display_backend.specs.declared.display.Progress.{Progress}
-use Rattle.display_backend.specs.declared.display.Progress.TheVariants as progress
+use Rattle.display_backend.specs.declared.course.Progress.{Progress}
+use Rattle.display_backend.specs.declared.course.Progress.TheVariants as progress
 use Rattle.display_backend.specs.declared.waiting.Waiting.{Waiting}
 use Rattle.display_backend.specs.declared.waiting.Waiting.TheVariants as waiting
-use Rattle.display_backend.specs.Waiting.{waiting_of}
+use Rattle.display_backend.specs.Waiting.{said_of, waiting_of}
 use Rattle.display_backend.specs.Stock.{Stock, Held, no_stock, pages_of, pages_under, bared}
 use Rattle.display_backend.specs.Stock as stock
-use Rattle.display_backend.specs.Machine.{verdict, is_accepted, is_creation, IsStatus, replied_to}
-use Rattle.display_backend.specs.Reply.{reply_to, status_in}
-use Rattle.display_backend.specs.Work.{said_of, denied_by, stock_after, numbered, live_names, names_under, numbers, ids_after, is_denied}
+use Rattle.display_backend.specs.Names.{ids_after, live_names, names_under, numbered, numbers}
+use Rattle.display_backend.specs.Reply.{replied_to, reply_to, stock_after}
+use Rattle.display_backend.specs.Verdict.{IsStatus, is_accepted, is_creation, is_denied, status_in, verdict}
 use Rattle.device_core.specs.Site.{Site}
 use Rattle.device_service.specs.Nodes.{Ringed}
 use Rattle.device_service.specs.Service.{Job, Works, Starves, Runs, Service}
@@ -81,6 +81,11 @@ job_of site x asks = Works x (Finished Freed)
 abbrev pub job_for : Site → Known → Option Request → Job Known Ending
 job_for site x None = Works x (Finished Freed)
 job_for site x (Some q) = job_of site x q.asked
+
+-- the page that was denied, where a walk was refused
+abbrev pub denied_by : Walked → Option Said
+denied_by (walked.Pages pages) = None
+denied_by (walked.Refused why) = Some (said.Denied why)
 
 abbrev pub says_at : Ending → Option Said
 says_at (Listed came) = denied_by came
@@ -178,7 +183,7 @@ table =
 
 abbrev pub named_for : Known → Option Request → ℕ → List ℕ → List ℕ
 named_for x None n m = m
-named_for x (Some q) n m = ids_after x.stock.buffers (record { ids = m; replies = n }) q.asked (is_accepted (status_in x.progress (verdict x.stock.buffers q.asked)))
+named_for x (Some q) n m = ids_after x.stock.buffers n m q.asked (is_accepted (status_in x.progress (verdict x.stock.buffers q.asked)))
 
 abbrev pub made_for : Known → Option Request → List Place
 made_for x None = []

@@ -11,9 +11,7 @@ mod verdict;
 mod waiting;
 
 pub use display::Display;
-pub use laws::{
-    displays_run, frees_in_order, gives_up_in_order, keeps_pages, tells_what_is_held,
-};
+pub use laws::{displays_run, frees_in_order, gives_up_in_order, keeps_pages, tells_what_is_held};
 pub use service::Service;
 
 #[cfg(test)]

@@ -7,8 +7,7 @@ ghost use Rattle.display_backend.specs.CourseFacts.{stands_prop};
 ghost use Rattle.display_backend.specs.Stock.{pages_of};
 ghost use Rattle.display_backend.specs.Store.{stock_of, count_of};
 
-use crate::course::Course;
-use crate::display::Progress;
+use crate::course::{Course, Progress};
 use crate::store::Store;
 use crate::verdict::{answered, status_at};
 use crate::waiting::{Waiting, said_of, waiting_of};
@@ -49,7 +48,7 @@ impl Service {
     ghost use Rattle.device_core.specs.Site.{Site};
     ghost use Rattle.device_service.specs.Claims.{site_of};
     ghost use Rattle.device_service.specs.Operating.{Begins, Comes, Continues, is_going};
-    ghost use Rattle.display_backend.specs.declared.display.Progress.TheVariants as progress;
+    ghost use Rattle.display_backend.specs.declared.course.Progress.TheVariants as progress;
     ghost use Rattle.display_backend.specs.declared.course.Course.TheVariants as course;
     ghost use Rattle.display_backend.specs.Course.{HasCreate};
     ghost use Rattle.display_backend.specs.Known.{known_of, going_of, left_of, is_of, held_of};
@@ -227,7 +226,11 @@ impl Serve for Service {
 
     ghost holds_pages = { λ s e. holds_pages s.course (stock_of s.store) e };
 
+    ghost begins_bare = { λ nodes. refl };
+
     ghost stays_bare = { stays_bare };
+
+    ghost drops_bare = { λ x e. e };
 
     ghost whole_replies = { whole_replies };
 
@@ -238,6 +241,8 @@ impl Serve for Service {
     ghost owes_none = { λ x. refl };
 
     fn keeps_laws() {}
+
+    fn tells_held() {}
 
     fn is_ringed() -> bool {
         true

@@ -2,12 +2,11 @@
 
 ghost use Rattle.std.specs.Prelude.{◌≡◌, pos};
 ghost use Rattle.display_backend.specs.Course.{MayAnswer};
-ghost use Rattle.display_backend.specs.Machine.{verdict, is_accepted};
-ghost use Rattle.display_backend.specs.Reply.{status_in};
+ghost use Rattle.display_backend.specs.Verdict.{is_accepted, status_in, verdict};
 ghost use Rattle.display_backend.specs.Store.{stock_of, count_of};
-ghost use Rattle.display_backend.specs.Work.{stock_after};
+ghost use Rattle.display_backend.specs.Reply.{stock_after};
 
-use crate::display::Progress;
+use crate::course::Progress;
 use crate::store::Store;
 use displ_wire::{Asked, Refused, is_zero};
 

@@ -10,7 +10,7 @@ use Rattle.pv_words.specs.declared.grant.Mode.{Mode}
 use Rattle.pv_words.specs.declared.grant.Mode.TheVariants.{Read, Write}
 use Rattle.pv_words.specs.declared.place.Place.{Place}
 use Rattle.pv_words.specs.Held.{Covers, Has, Holds, IsProper, holding, holds_of, same_hold, same_mode, unheld}
-use Rattle.pv_words.specs.Plan.{Plan, Finished, Make, Want, Load, Store, Note, Plain, FitsFrom, found, mapped, joined}
+use Rattle.pv_words.specs.Plan.{Plan, Finished, Want, Load, Store, Note, Plain, FitsFrom}
 pub use Rattle.pv_words.proofs.Fits.{fits_mapped, fits_joined, fits_so}
 use Rattle.pv_words.specs.MapLaws.{IsHold, IsCause, IsResult, with_result}
 use Rattle.pv_words.specs.Mapping.{map_plan}

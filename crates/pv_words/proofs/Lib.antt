@@ -2,6 +2,7 @@ pub mod Apart
 pub mod Bits
 pub mod Blocks
 pub mod Fits
+pub mod FreePort
 pub mod Holdings
 pub mod Keeping
 pub mod Listing

@@ -1,18 +1,15 @@
 -- What maps and ends come to.
-use Rattle.std.proofs.Common.{◌≡◌, ℕ, ◌%◌, ◌/◌, ◌==◌, ◌&&◌, ◌||◌, Bool, true, false, not, cond, nat_lt, bit_and, [], ◌∷◌, Option, Some, None, is_some, Ok, Err, refl, sym, ◌∙◌, ap, arith}
-use Rattle.std.proofs.lemmas.Bool.{false≢true}
-use Rattle.std.proofs.lemmas.Bool.Decides.{nat_tests}
+use Rattle.std.proofs.Common.{◌≡◌, ℕ, ◌%◌, ◌/◌, ◌==◌, ◌&&◌, ◌||◌, Bool, true, false, not, cond, nat_lt, bit_and, [], ◌∷◌, Option, Some, None, is_some, Ok, Err, refl, sym, ◌∙◌, ap}
 use Rattle.pv_words.specs.declared.grant.Mode.{Mode}
 use Rattle.pv_words.specs.declared.grant.Mode.TheVariants.{Read, Write}
 use Rattle.pv_words.specs.declared.grant.GrantRefusal.{GrantRefusal}
 use Rattle.pv_words.specs.declared.grant.GrantRefusal.TheVariants.{NoEntry, Moved, NotPermitted, OtherDomain, ReadOnly, InUse, BadFrame}
 use Rattle.pv_words.specs.Held.{permits}
-use Rattle.pv_words.specs.Memory.{without}
 use Rattle.pv_words.specs.Plan.{Finished}
-use Rattle.pv_words.specs.Flags.{refusal_of, has, used}
+use Rattle.pv_words.specs.Flags.{refusal_of}
 use Rattle.pv_words.specs.Mapping.{hold_of, undo_plan, frame_plan, with_flags, flags_plan}
 use Rattle.pv_words.specs.MapLaws.{RefusesExactly, MapsExactly, SucceedsExactly, exchange_result, flags_result, outcome, won}
-use Rattle.pv_words.proofs.Bits.{test_280, test_284, without_used}
+use Rattle.pv_words.proofs.Bits.{test_280, test_284}
 
 -- the tests of a flags' word one after another, and all of them at once
 chain : (word : ℕ) (one whole foreign spare free : Bool) → is_some (cond (not one || not whole) (Some (NotPermitted word)) (cond (not foreign) (Some (OtherDomain word)) (cond (not spare) (Some (ReadOnly word)) (cond (not free) (Some (InUse word)) None)))) ≡ not (one && (foreign && (spare && (whole && free))))

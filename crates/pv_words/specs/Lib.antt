@@ -1,6 +1,8 @@
 pub mod Along
+pub mod Each
 pub mod Flags
 pub mod Found
+pub mod FreePort
 pub mod Held
 pub mod Keeping
 pub mod Layout

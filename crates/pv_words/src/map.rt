@@ -83,12 +83,12 @@ fn refusal_of(word: u32, mode: Mode) -> Option<GrantRefusal>
 impl MapStep {
     ghost use Rattle.pv_words.specs.Plan.{MayGo, Makes};
     ghost use Rattle.pv_words.specs.declared.map.MapStage.TheVariants as stage;
-    ghost use Rattle.pv_words.specs.Mapping.{map_plan, hold_of, Advances, HoldsByAccess, IsAtEntry, Wins};
-    ghost use Rattle.pv_words.specs.MapLeft.{map_left, dom_of, gref_of, mode_of, is_over};
+    ghost use Rattle.pv_words.specs.Mapping.{hold_of, HoldsByAccess, IsAtEntry, Wins};
+    ghost use Rattle.pv_words.specs.MapLeft.{map_left_by, AdvancesBy, BeginsMap, dom_of, gref_of, mode_of, is_over};
 
     /// A map of this entry of the domain's grant table, before its first access.
     pub fn new(dom: DomId, gref: GrantRef, mode: Mode) -> MapStep
-        ensures whole { (frames grants : ℕ) → map_left frames grants result ≡ map_plan frames grants dom.0 gref.0 mode }
+        ensures whole { BeginsMap dom.0 gref.0 mode result }
         ensures dom { dom_of result ≡ dom.0 }
         ensures entry { (gref_of result ≡ gref.0) × (mode_of result ≡ mode) }
         ensures begins { is_over result ≡ false }
@@ -146,8 +146,8 @@ impl MapStep {
     // The first access, where the domain has the entry: the load of the flags.
     fn start<W: Words>(&mut self, words: &mut W) -> Turn<Result<Hold, GrantRefusal>>
         requires start { self.old.stage ≡ stage.Start }
-        requires may { MayGo (W.may words.old) (map_left (W.frames_of words.old (dom_of self.old)) (W.grants_of words.old (dom_of self.old)) self.old) }
-        ensures advances { Advances (map_left (W.frames_of words.old (dom_of self.old)) (W.grants_of words.old (dom_of self.old)) self.old) result.access result.done (map_left (W.frames_of words.old (dom_of self.old)) (W.grants_of words.old (dom_of self.old)) self.new) }
+        requires may { MayGo (W.may words.old) (map_left_by (W.frames_of words.old) (W.grants_of words.old) self.old) }
+        ensures advances { AdvancesBy (W.frames_of words.old) (W.grants_of words.old) self.old result.access result.done self.new }
         ensures made { Makes W.makes words.old result.access words.new }
         ensures dom { dom_of self.new ≡ dom_of self.old }
         ensures entry { (gref_of self.new ≡ gref_of self.old) × (mode_of self.new ≡ mode_of self.old) }
@@ -175,8 +175,8 @@ impl MapStep {
     /// another word; BadFrame where the domain has no such frame. A refusal leaves the flags as they were: before
     /// BadFrame the bits that were set are cleared again. A map that is done answers the same again, without an access.
     pub fn step<W: Words>(&mut self, words: &mut W) -> Turn<Result<Hold, GrantRefusal>>
-        requires { MayGo (W.may words.old) (map_left (W.frames_of words.old (dom_of self.old)) (W.grants_of words.old (dom_of self.old)) self.old) }
-        ensures advances { Advances (map_left (W.frames_of words.old (dom_of self.old)) (W.grants_of words.old (dom_of self.old)) self.old) result.access result.done (map_left (W.frames_of words.old (dom_of self.old)) (W.grants_of words.old (dom_of self.old)) self.new) }
+        requires { MayGo (W.may words.old) (map_left_by (W.frames_of words.old) (W.grants_of words.old) self.old) }
+        ensures advances { AdvancesBy (W.frames_of words.old) (W.grants_of words.old) self.old result.access result.done self.new }
         ensures made { Makes W.makes words.old result.access words.new }
         ensures dom { dom_of self.new ≡ dom_of self.old }
         ensures entry { (gref_of self.new ≡ gref_of self.old) × (mode_of self.new ≡ mode_of self.old) }

@@ -11,7 +11,6 @@ pub invariant_of-self : goal.invariant_of-self
 invariant_of-self g c =
     let d = c.args.self.now in
     let apart : is_connected c.moved.new.self.back ≡ false = ap (λ (k : Connection). is_connected k.back) c.moved.ensures ∙ c.requires.state in
-    let begun = ((g.S.Serve.laws (λ x. 0) (λ x. 0) 0 0).begun_sane d.read).2 in
     record {
       dom_is = d.dom_is;
       kind_is = d.kind_is;
@@ -21,8 +20,9 @@ invariant_of-self g c =
       hand_in = λ h e. none_in_hand h e;
       rung = λ e. no_hand e;
       waits = none_wait g.S.Serve.service.at _ _ c.clear.ensures;
+      of_domain = λ e. absurd (false≢true e);
       works = c.start.ensures.idle;
-      bare = λ e. ap g.S.Serve.service.pages c.start.ensures.knows ∙ begun;
+      bare = λ e. ap g.S.Serve.service.pages c.start.ensures.knows ∙ g.S.Serve.begins_bare d.read;
       ready = λ e. absurd (false≢true e);
     }
 

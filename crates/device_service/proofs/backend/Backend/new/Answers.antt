@@ -12,7 +12,7 @@ use Rattle.device_service.proofs.backend.Backend.new.Goals as goal
 pub invariant_of-result : goal.invariant_of-result
 invariant_of-result g c =
     let p = c.in_ok-parts in
-    let bare = ap g.S.Serve.service.pages c.requires.fresh ∙ ((g.S.Serve.laws (λ x. 0) (λ x. 0) 0 0).begun_sane no_nodes).2 in
+    let bare = ap g.S.Serve.service.pages c.requires.fresh ∙ g.S.Serve.begins_bare no_nodes in
     record {
       dom_is = p.ensures.dom;
       kind_is = p.ensures.kind ∙ c.is_ringed.ensures;
@@ -22,6 +22,7 @@ invariant_of-result g c =
       hand_in = λ h e. none_in_hand h e;
       rung = λ e. no_hand e;
       waits = none_wait g.S.Serve.service.at _ _ c.in_ok-waiting.ensures;
+      of_domain = λ e. absurd (false≢true e);
       works = c.requires.idle;
       bare = λ e. bare;
       ready = λ e. absurd (false≢true e);
@@ -45,5 +46,5 @@ pub returns-clause-held : goal.returns-clause-held
 unfolding held_of
 returns-clause-held g c =
     let x = c.args.service in
-    let bare = ap g.S.Serve.service.pages c.requires.fresh ∙ ((g.S.Serve.laws (λ x. 0) (λ x. 0) 0 0).begun_sane no_nodes).2 in
+    let bare = ap g.S.Serve.service.pages c.requires.fresh ∙ g.S.Serve.begins_bare no_nodes in
     none_held (g.S.Serve.holds x) (parts_held c.in_ok-parts.parts) (g.S.Serve.holds_pages x c.requires.idle ∙ bare) c.in_ok-parts.ensures.held

@@ -13,7 +13,7 @@ pub answer-requires-clause-may : goal.answer-requires-clause-may
 answer-requires-clause-may g c =
     let d = c.args.self.now in
     let opened = open_between d.activity (is_open d.activity d.closing d.connection.back) (of_parts.doing_of d.parts) d.at d.hand c.requires.between c.requires.opened d.stands in
-    let begins = answer_begins d.parts (hand_part d.hand) c.reply-self.result opened (d.kind_is ∙ d.rung c.requires.hand) (hand_within d.hand (of_parts.count_of d.parts) c.requires.hand d.hand_in) in
+    let begins = answer_begins d.parts opened (d.kind_is ∙ d.rung c.requires.hand) (hand_part d.hand) c.reply-self.result (hand_within d.hand (of_parts.count_of d.parts) c.requires.hand d.hand_in) in
     let is = begins ∙ ap (λ (r : List ℕ). of_parts.answer_of r (slice_get (of_parts.joined_of d.parts) (hand_part d.hand))) c.reply-self.ensures in
     subst (λ (p : Plan Bool). MayGo (g.W.Words.may c.args.words.now) p) (sym is) c.requires.may
 
@@ -22,7 +22,7 @@ unfolding work_of
 returns-clause-goes g c = λ site.
     let d = c.args.self.now in
     let opened = open_between d.activity (is_open d.activity d.closing d.connection.back) (of_parts.doing_of d.parts) d.at d.hand c.requires.between c.requires.opened d.stands in
-    let begins = answer_begins d.parts (hand_part d.hand) c.reply-self.result opened (d.kind_is ∙ d.rung c.requires.hand) (hand_within d.hand (of_parts.count_of d.parts) c.requires.hand d.hand_in) in
+    let begins = answer_begins d.parts opened (d.kind_is ∙ d.rung c.requires.hand) (hand_part d.hand) c.reply-self.result (hand_within d.hand (of_parts.count_of d.parts) c.requires.hand d.hand_in) in
     let is = begins ∙ ap (λ (r : List ℕ). of_parts.answer_of r (slice_get (of_parts.joined_of d.parts) (hand_part d.hand))) c.reply-self.ensures in
     subst (λ (p : Plan Bool). GoesOn (device g.S.Serve.service site) (work_of d) (mapped (λ x. Answered x) p) c.answer.result.access c.answer.result.said (stand_of site c.answer.new.self)) is (c.answer.ensures.goes site)
 

@@ -118,7 +118,7 @@ take-requires-clause-may g c =
     let nobody = sym c.oldest.ensures ∙ c.in_default-oldest.is in
     let rings : s.kind ≡ Ringed = sym c.is_ringed.ensures ∙ ap kind_in c.if-not-is_ringed.false in
     let j = joined_at d.parts d.at (open_in d.parts rest) d.at_in in
-    let begins = take_begins d.parts d.at rest (d.kind_is ∙ rings) d.at_in in
+    let begins = take_begins d.parts rest (d.kind_is ∙ rings) d.at d.at_in in
     let is = takes_is s site w d.hand none nobody (of_parts.take_left d.at d.parts) _ j.0 rings c.if-self-gt0.true refl j.1 begins in
     may_act s site (λ x. Took x) (g.W.Words.may c.args.words.now) (with_hand s site w d.hand) w (of_parts.take_left d.at d.parts) is c.requires.may
 
@@ -134,7 +134,7 @@ returns-then-self-gt0-clause-begins g c =
     let nobody = sym c.oldest.ensures ∙ c.in_default-oldest.is in
     let rings : s.kind ≡ Ringed = sym c.is_ringed.ensures ∙ ap kind_in c.if-not-is_ringed.false in
     let j = joined_at d.parts d.at (open_in d.parts rest) d.at_in in
-    let begins = take_begins d.parts d.at rest (d.kind_is ∙ rings) d.at_in in
+    let begins = take_begins d.parts rest (d.kind_is ∙ rings) d.at d.at_in in
     let is = takes_is s site w d.hand none nobody (of_parts.take_left d.at d.parts) _ j.0 rings c.if-self-gt0.true refl j.1 begins in
     begins_act s site (λ x. Took x) (with_hand s site w d.hand) w (of_parts.take_left d.at d.parts) c.take.result.access c.take.result.said _ is (c.take.ensures.goes site)
 

@@ -34,6 +34,7 @@ invariant_of-self g c =
       hand_in = λ h e. none_in_hand h e;
       rung = λ e. no_hand e;
       waits = waits_same s.at _ _ d.waiting same.count d.waits;
+      of_domain = λ e. absurd (false≢true e);
       works = c.drop_hand.ensures.idle;
       bare = λ e. ap s.pages c.drop_hand.ensures.knows ∙ g.S.Serve.drops_bare (g.S.Serve.knows d.service) none;
       ready = λ e. absurd (false≢true e);

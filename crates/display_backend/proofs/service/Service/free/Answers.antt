@@ -5,9 +5,9 @@ use Rattle.display_backend.specs.Known.{known_of, left_of}
 use Rattle.display_backend.specs.Service.{Freed}
 use Rattle.display_backend.specs.Stock.{Stock, pages_under}
 use Rattle.display_backend.specs.Store.{stock_of, count_of}
-use Rattle.display_backend.specs.declared.display.Progress.TheVariants as progress
+use Rattle.display_backend.specs.declared.course.Progress.TheVariants as progress
 use Rattle.display_backend.proofs.Freeing.{unmap_lies}
-use Rattle.display_backend.proofs.Held.{nil_of}
+use Rattle.device_service.proofs.Held.{nil_of}
 use Rattle.display_backend.proofs.Serviced.{free_ends, free_goes, knowing, left_under, may_unmap, releases, stock_freed, stock_less}
 use Rattle.display_backend.proofs.service.Service.free.Goals as goal
 

@@ -3,6 +3,7 @@ pub mod Consequences
 mod Displays
 pub mod EachKind
 pub mod Histories
+mod Holding
 pub mod Items
 pub mod OneNext
 mod Truth

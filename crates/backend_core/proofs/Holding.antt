@@ -8,6 +8,7 @@ use Rattle.page_directory.specs.Same.{AreSame, times}
 use Rattle.device_core.specs.Order.{Own, followed}
 use Rattle.device_core.specs.Site.{Site}
 use Rattle.device_service.specs.Claims.{IsWork, first_station}
+use Rattle.device_service.specs.Held.{StandsBy, holds_by}
 use Rattle.device_service.specs.Work.{device}
 use Rattle.display_backend.specs.declared.display.Display.{Display as Screen}
 use Rattle.display_backend.specs.Display as screen
@@ -30,22 +31,22 @@ module _ (frames grants : ℕ → ℕ) (dom n : ℕ) (d : Screen) (es : List Own
   its_site = same_site frames grants dom n d s.dom_is s.parts_are
 
   -- it stands as its own law asks
-  stands_by : IsExplained (kind.Display n) (site_as frames grants dom (kind.Display n)) es → screens.StandsBy frames grants d es
+  stands_by : IsExplained (kind.Display n) (site_as frames grants dom (kind.Display n)) es → StandsBy frames grants d.backend es
   stands_by x =
       subst (λ (site : Site). IsWork display table shows site es × (screen.stand_of site d ≡ (after (followed (device display site)) (first_station display table shows site) es).stand)) (sym its_site) (x, s.stands)
 
 module _ (frames grants : ℕ → ℕ) (dom : ℕ) (es : List Own) where
   told_held : screens.TellsWhatIsHeld → (k : DeviceKind) (d : Device) → StandsFor k (site_as frames grants dom k) d es → IsExplained k (site_as frames grants dom k) es → AreSame (holds_as frames grants dom k es).held (held_of d)
   told_held law (kind.Display n) (Display d) s x =
-      subst (λ (site : Site). AreSame (screens.holds_by frames site es).held (screen.held_of d)) (its_site frames grants dom n d es s) (law frames grants d es (stands_by frames grants dom n d es s x))
+      subst (λ (site : Site). AreSame (holds_by display frames site es).held (screen.held_of d)) (its_site frames grants dom n d es s) (law d frames grants es (stands_by frames grants dom n d es s x))
 
   many_held : (k : DeviceKind) (d : Screen) (m : ℕ) → screens.HoldsAsMany d m → StandsFor k (site_as frames grants dom k) (Display d) es → IsExplained k (site_as frames grants dom k) es → m ≡ length (holds_as frames grants dom k es).held
   many_held (kind.Display n) d m law s x =
-      subst (λ (site : Site). m ≡ length (screens.holds_by frames site es).held) (its_site frames grants dom n d es s) (law frames grants es (stands_by frames grants dom n d es s x))
+      subst (λ (site : Site). m ≡ length (holds_by display frames site es).held) (its_site frames grants dom n d es s) (law frames grants es (stands_by frames grants dom n d es s x))
 
   page_held : (k : DeviceKind) (d : Screen) (h : Hold) → screens.HoldsPage d h → StandsFor k (site_as frames grants dom k) (Display d) es → IsExplained k (site_as frames grants dom k) es → 0 < times h (holds_as frames grants dom k es).held
   page_held (kind.Display n) d h law s x =
-      subst (λ (site : Site). 0 < times h (screens.holds_by frames site es).held) (its_site frames grants dom n d es s) (law frames grants es (stands_by frames grants dom n d es s x))
+      subst (λ (site : Site). 0 < times h (holds_by display frames site es).held) (its_site frames grants dom n d es s) (law frames grants es (stands_by frames grants dom n d es s x))
 
 pub tells_held : screens.TellsWhatIsHeld → TellsWhatIsHeld
 tells_held law frames grants s d es stands explained = told_held frames grants s.dom.0 es law s.kind d stands explained

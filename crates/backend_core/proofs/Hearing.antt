@@ -4,13 +4,10 @@ use Rattle.pv_words.specs.declared.device.HostEvent.{HostEvent}
 use Rattle.pv_words.specs.declared.device.HostRefusal.{HostRefusal}
 use Rattle.pv_words.specs.declared.device.NodeValue.{NodeValue}
 use Rattle.pv_words.specs.declared.device.State.{State}
-use Rattle.pv_words.specs.declared.setup.DeviceKind.{DeviceKind}
 use Rattle.pv_words.specs.declared.setup.DeviceKind.TheVariants as kind
-use Rattle.pv_words.specs.Along.{after}
 use Rattle.host_events.specs.Queue.{refusal_in}
 use Rattle.device_core.specs.Order.{News, Sets, Hosts, Own, Heard, Refused, Stand, Station, IsExplained, at_stand, due_at, followed, next, refused_by, work_at}
 use Rattle.device_core.specs.Site.{Site}
-use Rattle.device_core.proofs.Passing.{news_may_come}
 use Rattle.device_core.proofs.Stations.{due_heard}
 use Rattle.device_service.specs.Work.{End, Work, device, refused_at}
 use Rattle.display_backend.specs.declared.display.Display.{Display as Screen}

@@ -2,6 +2,7 @@ pub mod Answers
 pub mod Consequences
 mod Displays
 pub mod EachKind
+mod Hearing
 pub mod Histories
 mod Holding
 pub mod Items

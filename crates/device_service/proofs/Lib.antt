@@ -14,6 +14,7 @@ pub mod Lists
 pub mod Opened
 pub mod Out
 pub mod PartsLaws
+mod RefusingKept
 pub mod Resting
 pub mod SameLength
 pub mod Serving

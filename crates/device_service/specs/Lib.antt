@@ -13,7 +13,6 @@ pub mod Parts
 pub mod Raise
 pub mod Reading
 pub mod Refusing
-pub mod RefusingKept
 pub mod Rows
 pub mod Service
 pub mod Stand

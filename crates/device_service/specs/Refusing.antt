@@ -3,7 +3,6 @@ use Rattle.std.specs.Prelude.{◌≡◌, ℕ, ℤ, negsuc, true, false, List, []
 use Rattle.pv_words.specs.declared.device.Said.TheVariants as said
 use Rattle.pv_words.specs.Plan.{Finished, IsUntouched}
 use Rattle.host_events.specs.Queue.{refusal_of}
-use Rattle.device_service.specs.declared.refusing.Never.{Never}
 use Rattle.device_service.specs.Laws.{Facts}
 use Rattle.device_service.specs.Nodes.{Ringed}
 use Rattle.device_service.specs.Reading.{Shows}
@@ -19,7 +18,7 @@ reply_to None = replicate 16 0
 reply_to (Some word) = word ∷ 4294967201 ∷ replicate 14 0
 
 -- it knows the first word of the request in hand, and no event waits for it
-abbrev pub refusing : Service (Option ℕ) (Unit {0}) Never
+abbrev pub refusing : Service (Option ℕ) (Unit {0}) ⊥
 refusing =
     record {
       kind = Ringed;
@@ -46,7 +45,7 @@ refusing =
     }
 
 -- its rows are that status alone
-abbrev pub refused : Table (Unit {0}) Never
+abbrev pub refused : Table (Unit {0}) ⊥
 refused =
     record {
       kind = Ringed;
@@ -67,7 +66,7 @@ refused =
 abbrev pub shows_none : Shows (Option ℕ) (Unit {0}) (Unit {0})
 shows_none = record { rows = λ x m. tt; names = λ x m. []; number = λ x m key. 0; named = λ x n m. tt; unnamed = tt; made = λ x. []; goes = λ x m. [] }
 
-abbrev pub facts : Facts (Option ℕ) (Unit {0}) Never (Unit {0})
+abbrev pub facts : Facts (Option ℕ) (Unit {0}) ⊥ (Unit {0})
 facts =
     record {
       Sane = λ x. Unit {0};

@@ -3,7 +3,6 @@ use Rattle.std.proofs.Common.{◌≡◌, ℕ, ◌≤◌, length, Option, Some, N
 use Rattle.std.proofs.lemmas.Bool.{true≢false, false≢true}
 use Rattle.std.proofs.Math.Nat.{le-add_left}
 use Rattle.pv_words.specs.Plan.{Want, Note, Plain, Begins, Frames, Undoes, Ends, Takes, Puts, IsUntouched}
-use Rattle.device_service.specs.declared.refusing.Never.{Never}
 use Rattle.device_service.specs.Claims.{KeepsLaws}
 use Rattle.device_service.specs.Laws.{IsRaise, IsTouching}
 use Rattle.device_service.specs.Refusing.{facts, refused, refusing, reply_to, shows_none}
@@ -12,14 +11,10 @@ short : (x : Option ℕ) → length (reply_to x) ≤ 16
 short None = le-add_left 16 0
 short (Some word) = le-add_left 16 0
 
-pub whole_replies : (x : Option ℕ) → length (reply_to x) ≡ 16
-whole_replies None = refl
-whole_replies (Some word) = refl
-
 -- nothing is ever raised
-none_raised : (x : Option ℕ) (e : Option Never) (part : ℕ) → IsRaise refusing x e part → ⊥
+none_raised : (x : Option ℕ) (e : Option ⊥) (part : ℕ) → IsRaise refusing x e part → ⊥
 none_raised x None part i = false≢true (ap (λ o. is_some o) i.1)
-none_raised x (Some e) part i = elim e [ ]
+none_raised x (Some e) part i = absurd e
 
 meets : (x : Option ℕ) (m : Unit {0}) (want : Want) (note : Note) → IsUntouched note → IsTouching shows_none x m want note
 meets x m want Plain u = tt
@@ -58,13 +53,13 @@ keeps_laws frames grants dom parts =
       ends_quiet = λ x f ts a m q has e n s. absurd e;
       answers = λ x q has is. (tt, refl, λ k. refl);
       answers_shows = λ x n m q has is named. (tt, refl, refl, λ sight. refl);
-      serves = λ x e p q has is. elim e [ ];
-      served = λ x e f ts a q has ends. elim e [ ];
-      served_told = λ x e f ts a m what q has ends n s. elim e [ ];
-      served_says = λ x e f ts a ends s. elim e [ ];
+      serves = λ x e p q has is. absurd e;
+      served = λ x e f ts a q has ends. absurd e;
+      served_told = λ x e f ts a m what q has ends n s. absurd e;
+      served_says = λ x e f ts a ends s. absurd e;
       owes_idle = λ x o b owes has. absurd (none_raised x None o.part (o, owes, refl));
       owes_short = λ x o n owes. absurd (none_raised x None o.part (o, owes, refl));
-      event_short = λ x e words n is. elim e [ ];
+      event_short = λ x e words n is. absurd e;
       raises = λ x e part q has i. absurd (none_raised x e part i);
       raises_shows = λ x e part m q has i n. absurd (none_raised x e part i);
       put_told = λ x e part m told q has i n. absurd (none_raised x e part i);

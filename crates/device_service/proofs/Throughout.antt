@@ -40,8 +40,8 @@ use Rattle.device_service.proofs.SoundConnect.{shut_pages}
 use Rattle.device_service.proofs.SoundParts.{counted_pages}
 use Rattle.device_service.proofs.SoundPlans.{Fit}
 use Rattle.device_service.proofs.SoundSame.{same_append}
-use Rattle.device_service.proofs.Unmapping.{unmaps_come}
 use Rattle.device_service.proofs.SoundWork.{Lawful, EndsSo, IsSane, held_pages, learned, site, sleep_pages}
+use Rattle.device_service.proofs.Unmapping.{unmaps_come}
 
 -- parts that rest hold the pages of what they are joined to
 parts_held : (p : Parts) (o : Bool) → doing_of p ≡ resting o → all_pages (joined_of p) ≡ of_parts.held_of p

@@ -5,6 +5,7 @@ ghost use Rattle.display_backend.specs.Laws.{GivesUpInOrder, FreesInOrder, Keeps
 ghost use Rattle.display_backend.specs.Service.{display, shows, table};
 
 use crate::service::Service;
+use device_service::services_run;
 
 /// All pages are given up in order, the first of all first; the buffers stay.
 pub fn gives_up_in_order()
@@ -30,7 +31,9 @@ pub fn displays_run()
     ensures keeps { Keeps display table shows }
     ensures tells { Tells display table shows }
     ensures rests { RestsAsleep display }
-{}
+{
+    services_run::<Service>();
+}
 
 /// Whatever a display has done and heard, the pages that it tells by `held` and `hold_at` are just those that its accesses hold,
 /// each as often: those that they mapped and didn't unmap, also while an activity is under way.

@@ -4,10 +4,10 @@ use Rattle.pv_words.specs.Port.{PortMay}
 use Rattle.xenbus_states.specs.Nodes.{no_nodes}
 use Rattle.pv_words.proofs.Listing.{port_may}
 use Rattle.backend_core.specs.History.{AnswersIn, IsExplainedIn, IsMachineRunIn, KeepsIn, TellsIn, TellsTrulyIn, held_after, site_of}
-use Rattle.backend_core.specs.Laws.{FrontsAreHistories, HistoriesAreRuns, ListingSuffices, ReadingsTellAll, RefusalsAreShown, TellsWhatIsHeld}
+use Rattle.backend_core.specs.Laws.{FrontsAreHistories, HistoriesAreRuns, ListingSuffices, ReadingsTellAll, RefusalsAreShown}
 use Rattle.backend_core.specs.Marked.{own}
 use Rattle.backend_core.proofs.Histories.{all_weaker, history_front, prompt_front}
-use Rattle.backend_core.proofs.EachKind.{answers, keeps, next_may, runs, tells, tells_held, truly}
+use Rattle.backend_core.proofs.EachKind.{answers, keeps, next_may, runs, tells, truly}
 use Rattle.backend_core.proofs.Truth.{own_true}
 
 pub histories_are_runs : HistoriesAreRuns
@@ -32,6 +32,3 @@ pub listing_suffices : ListingSuffices
 listing_suffices frames grants s d es p stands explained acts serves listed =
     next_may frames grants s.dom.0 (PortMay frames grants p) s.kind d es
     (λ want note proper. port_may frames grants p s.dev.0 s.dom.0 (held_after frames grants s es) want note listed acts serves proper) stands explained
-
-pub tells_what_is_held : TellsWhatIsHeld
-tells_what_is_held frames grants s d es stands explained = tells_held frames grants s.dom.0 s.kind d es stands explained

@@ -34,4 +34,6 @@ pub fn listing_suffices()
 /// each as often: those that they mapped and didn't unmap, also while an activity is under way.
 pub fn tells_what_is_held()
     ensures { TellsWhatIsHeld }
-{}
+{
+    display_backend::tells_what_is_held();
+}

@@ -30,8 +30,10 @@ mod SoundServes
 mod SoundSettles
 mod SoundTells
 pub mod SoundWork
+pub mod Standing
 pub mod Telling
 pub mod Throughout
+pub mod Truth
 pub mod Unmapping
 pub mod Wholes
 pub mod Works

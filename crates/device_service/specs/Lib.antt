@@ -18,5 +18,6 @@ pub mod Rows
 pub mod Service
 pub mod Stand
 pub mod Throughout
+pub mod Truth
 pub mod Waits
 pub mod Work

@@ -13,7 +13,7 @@ mod serve;
 
 pub use backend::{Activity, Backend};
 pub use deed::{Deed, Now};
-pub use laws::{services_run, tells_what_is_held};
+pub use laws::{services_run, services_tell_truly, tells_what_is_held};
 pub use parts::{Doing, Parts};
 pub use refusing::{Refusing, refusing_runs};
 pub use round::{Hand, Round};

@@ -1,5 +1,5 @@
 -- What links hold, and where their accesses lie.
-use Rattle.std.proofs.Common.{◌≡◌, ◌⊎◌, inl, inr, ℕ, zero, suc, ◌+◌, ◌*◌, ◌<◌, ◌≤◌, ◌++◌, List, [], ◌∷◌, Option, Some, None, Err, length, get_or, map, slice_get, slice_set, refl, sym, ap, subst, ◌∙◌, append_assoc, length-append, arith}
+use Rattle.std.proofs.Common.{◌≡◌, ◌⊎◌, inl, inr, ℕ, zero, suc, ◌+◌, ◌<◌, ◌≤◌, ◌++◌, List, [], ◌∷◌, Option, Some, None, Err, length, get_or, map, slice_get, slice_set, refl, sym, ap, subst, ◌∙◌, append_assoc, arith}
 use Rattle.std.proofs.lemmas.Bool.{cases_lt}
 use Rattle.std.proofs.lemmas.Option.{slice_get-get_or}
 use Rattle.pv_words.specs.declared.access.Access.{Access}
@@ -13,7 +13,7 @@ use Rattle.link_core.specs.declared.link.Link.{Link}
 use Rattle.link_core.specs.Activities.{pages_of, page_at, unmaps}
 use Rattle.link_core.specs.Link.{held_of, joined_of, page_of, drop_left, Leads}
 use Rattle.link_core.specs.Stays.{LiesIn, AccessIn}
-use Rattle.link_core.proofs.Links.{holds_at_most, page_held}
+use Rattle.link_core.proofs.Links.{page_held}
 use Rattle.device_service.specs.declared.parts.Doing.{Doing}
 use Rattle.device_service.specs.declared.parts.Doing.TheVariants as doing
 use Rattle.device_service.specs.Doing.{all_held}
@@ -31,11 +31,6 @@ nil_of (x ∷ xs) h = let wrong : ⊥ = omega (arith, h) in absurd wrong
 pub cons_of : {A : Type 0} (xs : List A) → 0 < length xs → (x : A) × (ys : List A) × (xs ≡ x ∷ ys)
 cons_of [] h = let wrong : ⊥ = omega (arith, h) in absurd wrong
 cons_of (x ∷ xs) h = (x, xs, refl)
-
--- a link holds at most two pages
-pub few_held : (ls : List Link) → length (all_held ls) ≤ 2 * length ls
-few_held [] = omega arith
-few_held (l ∷ ls) = omega (arith, length-append (held_of l) (all_held ls), holds_at_most l, few_held ls)
 
 -- links that hold nothing
 pub bare_held : (ls : List Link) → ((i : ℕ) (l : Link) → slice_get ls i ≡ Some l → length (held_of l) ≡ 0) → all_held ls ≡ []
@@ -60,19 +55,6 @@ held_bare (k ∷ ks) e zero l g =
     let same : k ≡ l = cc in
     ap (λ (x : Link). length (held_of x)) (sym same) ∙ left_nil (held_of k) (all_held ks) e
 held_bare (k ∷ ks) e (suc i) l g = held_bare ks (right_nil (held_of k) (all_held ks) e) i l g
-
--- a link that holds some
-pub held_some : (ls : List Link) (k : ℕ) (l : Link) → slice_get ls k ≡ Some l → 0 < length (held_of l) → 0 < length (all_held ls)
-held_some [] k l e some = let wrong : ⊥ = cc in absurd wrong
-held_some (x ∷ xs) zero l e some =
-    let same : x ≡ l = cc in
-    let long = length-append (held_of x) (all_held xs) in
-    let is = ap (λ (y : Link). length (held_of y)) same in
-    omega (arith, long, is, some)
-held_some (x ∷ xs) (suc k) l e some =
-    let long = length-append (held_of x) (all_held xs) in
-    let rest = held_some xs k l e some in
-    omega (arith, long, rest)
 
 -- a link that holds the same changes nothing of what all hold
 pub held_set : (ls : List Link) (k : ℕ) (old new : Link) → slice_get ls k ≡ Some old → held_of new ≡ held_of old → all_held (slice_set ls k new) ≡ all_held ls

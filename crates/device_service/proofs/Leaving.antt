@@ -27,7 +27,7 @@ use Rattle.device_service.specs.declared.parts.Doing.{Doing}
 use Rattle.device_service.specs.declared.parts.Doing.TheVariants as doing
 use Rattle.device_service.specs.declared.parts.Parts.{Parts}
 use Rattle.device_service.specs.declared.round.Hand.{Hand}
-use Rattle.device_service.specs.Activity.{StandsAs, is_answering, is_leaving, is_working, may_hold, resting}
+use Rattle.device_service.specs.Activity.{StandsAs, is_leaving, is_working, may_hold, resting}
 use Rattle.device_service.specs.Parts.{Rests, doing_of, held_of, is_open, joined_of}
 use Rattle.device_service.specs.Service.{Service}
 use Rattle.device_service.specs.Stand.{known_in, leaving_plan, stand_at}
@@ -148,9 +148,6 @@ module _ {S X : Type 0} (pages : X → List Hold) (knows : S → X) (holds : S �
 pub idle_in : (a : Activity) (why : Reason) (b : Bool) → a ≡ activity.Leaving why → b ≡ is_working a → b ≡ false
 idle_in a why b e f = f ∙ ap is_working e
 
-pub idle_between : (a : Activity) (b : Bool) → a ≡ activity.Between → b ≡ is_working a → b ≡ false
-idle_between a b e f = f ∙ ap is_working e
-
 pub some_of : (hs : List Hold) → (length hs == 0) ≡ false → 0 < length hs
 some_of [] h = absurd (true≢false h)
 some_of (x ∷ xs) h = omega arith
@@ -176,16 +173,6 @@ may_last may hs ks e h = subst (λ (xs : List Hold). MayDrop may (xs ++ ks)) e h
 pub may_leave : (A V : Type 0) (may : Want → Type 0) (why : Reason) (hs : List Hold) → MayGo may (leaving_plan {A = A} {V = V} why hs) → MayDrop may hs
 may_leave A V may why [] h = tt
 may_leave A V may why (x ∷ xs) h = h
-
-pub stands_leaving : (a : Activity) (why : Reason) (opened : Bool) (d : Doing) (at : ℕ) (hand : Option Hand) → a ≡ activity.Leaving why → d ≡ doing.Dropping → StandsAs a opened d at hand
-stands_leaving a why opened d at hand e f = subst (λ (x : Activity). StandsAs x opened d at hand) (sym e) f
-
--- in a Close pages may be held, and no request is answered
-pub may_hold_leaving : {P : Type 0} (a : Activity) (why : Reason) (opened : Bool) → a ≡ activity.Leaving why → may_hold a opened ≡ false → P
-may_hold_leaving a why opened e h = absurd (true≢false (ap (λ (x : Activity). may_hold x opened) (sym e) ∙ h))
-
-pub answers_none : {P : Type 0} (a : Activity) (why : Reason) → a ≡ activity.Leaving why → is_answering a ≡ true → P
-answers_none a why e h = absurd (false≢true (ap is_answering (sym e) ∙ h))
 
 -- parts in a Close aren't joined
 pub dropping_joins : (p : Parts) → doing_of p ≡ doing.Dropping → joined_of p ≡ []

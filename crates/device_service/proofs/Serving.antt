@@ -8,7 +8,6 @@ use Rattle.pv_words.specs.Held.{Has, Covers, CoversToWrite}
 use Rattle.pv_words.specs.Plan.{Want, Load, Store, Swap, Clear, wanted}
 use Rattle.link_core.specs.Activities.{Joined}
 use Rattle.link_core.specs.Stays.{AccessIn, LiesIn}
-use Rattle.host_events.specs.Queue.{behind}
 use Rattle.device_service.specs.declared.backend.Activity.{Activity}
 use Rattle.device_service.specs.declared.backend.Activity.TheVariants as activity
 use Rattle.device_service.specs.declared.parts.Doing.{Doing}
@@ -95,11 +94,6 @@ rings_asleep (doing.Connecting part) e = absurd (false≢true e)
 rings_asleep (doing.Undoing why) e = absurd (false≢true e)
 rings_asleep doing.Open e = absurd (false≢true e)
 rings_asleep doing.Dropping e = absurd (false≢true e)
-
--- the events behind the oldest are of parts that are there too
-pub waits_behind : {V : Type 0} (at : V → ℕ) (n : ℕ) (es : List V) → WaitAt at n es → WaitAt at n (behind es)
-waits_behind at n [] w = w
-waits_behind at n (e ∷ es) w = w.1
 
 pub waits_first : {V : Type 0} (at : V → ℕ) (n : ℕ) (es : List V) (e : V) → WaitAt at n es → slice_get es 0 ≡ Some e → at e < n
 waits_first at n [] e w h = let wrong : ⊥ = cc in absurd wrong

@@ -1,5 +1,5 @@
 -- Where explained work leaves a device of a lawful service, and what it then holds.
-use Rattle.std.proofs.Common.{◌≡◌, ℕ, List, [], ◌∷◌, ◌++◌, Option, Some, None, refl, subst, ◌∙◌, ap}
+use Rattle.std.proofs.Common.{◌≡◌, List, [], ◌∷◌, ◌++◌, Option, Some, None, refl, subst, ◌∙◌, ap}
 use Rattle.pv_words.specs.declared.access.Access.{Access}
 use Rattle.pv_words.specs.declared.device.Said.{Said}
 use Rattle.pv_words.specs.Along.{after, after-append}

@@ -3,7 +3,7 @@ use Rattle.std.proofs.Common.{◌≡◌, ℕ, ◌+◌, ◌++◌, Bool, true, Lis
 use Rattle.std.proofs.lemmas.Bool.{false≢true, eqb-true}
 use Rattle.pv_words.specs.declared.grant.Hold.{Hold}
 use Rattle.pv_words.specs.Held.{Holds, IsProper, holding}
-use Rattle.pv_words.specs.Plan.{Plan, Finished, FitsFrom}
+use Rattle.pv_words.specs.Plan.{Finished, FitsFrom}
 use Rattle.displ_wire.specs.declared.Request.{Request}
 use Rattle.page_directory.specs.declared.walk.Walk.{Walk}
 use Rattle.page_directory.specs.declared.walk.Walked.{Walked}
@@ -25,7 +25,7 @@ use Rattle.display_backend.specs.declared.course.Progress.TheVariants as progres
 use Rattle.display_backend.specs.Course.{Stands, is_under_way, is_walk_of, left_at, pages_walked, stock_at}
 use Rattle.display_backend.specs.Kept.{Come, HasCome, HasComeTo, facts}
 use Rattle.display_backend.specs.Known.{going_of, held_of, is_of, known_of, left_of}
-use Rattle.display_backend.specs.Service.{Ending, Freed, Known, Listed, after_end, display}
+use Rattle.display_backend.specs.Service.{Ending, Freed, Listed, after_end, display}
 use Rattle.display_backend.specs.Stock.{Stock, bared, buffer_pages, pages_of, pages_under}
 use Rattle.display_backend.specs.Store.{count_of, stock_of}
 use Rattle.display_backend.proofs.Order.{parted}

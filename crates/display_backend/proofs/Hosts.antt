@@ -1,5 +1,5 @@
 -- An event of the host that a display takes, and why one is refused, wherever its backend stands.
-use Rattle.std.proofs.Common.{◌≡◌, ℕ, ◌<◌, true, Some, refl, arith}
+use Rattle.std.proofs.Common.{◌≡◌, ℕ, ◌<◌, true, refl, arith}
 use Rattle.std.proofs.lemmas.Bool.{false≢true}
 use Rattle.std.proofs.lemmas.Bool.Decides.{nat_tests}
 use Rattle.pv_words.specs.declared.device.HostEvent.{HostEvent}

@@ -1,5 +1,5 @@
 -- The display keeps the laws of a service.
-use Rattle.std.proofs.Common.{◌≡◌, inl, ℕ, ◌<◌, ◌≤◌, ◌&&◌, ◌||◌, ◌==◌, nat_lt, nat_le, pos, Bool, true, false, cond, List, [], ◌∷◌, ◌++◌, Option, Some, None, is_some, refl, sym, ◌∙◌, ap, subst, arith, length}
+use Rattle.std.proofs.Common.{◌≡◌, inl, ℕ, ◌<◌, ◌≤◌, ◌&&◌, ◌||◌, ◌==◌, nat_lt, nat_le, Bool, true, false, cond, List, [], ◌∷◌, ◌++◌, Option, Some, None, is_some, refl, sym, ◌∙◌, ap, subst, arith, length}
 use Rattle.std.proofs.lemmas.Bool.{true≢false, false≢true}
 use Rattle.std.proofs.lemmas.List.{length-replicate, map-append}
 use Rattle.std.proofs.lemmas.Bool.Decides.{nat_tests}
@@ -48,7 +48,7 @@ use Rattle.display_backend.specs.Kept.{Come, HasCome, HasComeTo, IsCreating, IsD
 use Rattle.display_backend.proofs.Answering.{IsAnswerAt, answer_same, answer_sound, answer_none, answer_all, answer_rows, answer_names, answers_at, done_as}
 use Rattle.display_backend.proofs.HasWork.{create_accepted, create_refused, destroy_accepted, destroy_bare}
 use Rattle.display_backend.proofs.Names.{GoesFrom, names_none, none_bared, name_goes}
-use Rattle.display_backend.proofs.Numbered.{AreLike, accepted_is, like_length, like_sound, like_verdict, no_buffers, numbered_bared, numbered_all_bared, same_verdict, same_status, passes_by}
+use Rattle.display_backend.proofs.Numbered.{AreLike, like_length, like_sound, like_verdict, no_buffers, numbered_bared, numbered_all_bared, same_verdict, same_status, passes_by}
 use Rattle.display_backend.proofs.Order.{none_left, none_under, parted}
 use Rattle.device_service.proofs.SoundPlans.{fits_drop}
 use Rattle.device_service.proofs.SoundSame.{are_append, are_left, are_right, are_same}
@@ -56,7 +56,7 @@ use Rattle.device_core.specs.Site.{Site}
 use Rattle.device_service.specs.Service.{Runs}
 use Rattle.device_service.specs.Rows.{made_if}
 use Rattle.device_service.specs.Claims.{KeepsLaws, site_of}
-use Rattle.device_service.specs.Laws.{AreHeld, AreLost, Facts, FitsBeside, IsOfService, IsRaise, IsTouching, Laws, Leads, Same, WantsFor, evidence}
+use Rattle.device_service.specs.Laws.{AreHeld, AreLost, FitsBeside, IsOfService, IsRaise, IsTouching, Laws, Leads, Same, WantsFor, evidence}
 use Rattle.device_service.proofs.Fitting.{fits_carried}
 use Rattle.display_backend.specs.Service.{has_work, reply_for, ready_for, goes_of, Known, Ending, Listed, Freed, Served, Lines, display, table, shows, freeing, ready_at, job_of, job_for, says_at, after_end}
 

@@ -1,7 +1,6 @@
 -- The names of the buffers that have pages: one comes with a CREATE, they go where the pages do.
-use Rattle.std.proofs.Common.{◌≡◌, ℕ, ◌<◌, Bool, true, false, not, cond, List, [], ◌∷◌, ◌++◌, refl, sym, ◌∙◌, ap, subst, arith, length, None}
+use Rattle.std.proofs.Common.{◌≡◌, ℕ, ◌<◌, Bool, true, false, not, cond, List, [], ◌∷◌, ◌++◌, refl, sym, ◌∙◌, ap, subst, arith, length}
 use Rattle.std.proofs.lemmas.Bool.{eqb-true}
-use Rattle.std.proofs.lemmas.List.{map-append}
 use Rattle.pv_words.specs.declared.grant.Hold.{Hold}
 use Rattle.display_buffers.specs.Buffers.{AreDistinct, IsFresh, cookies, has_cookie, without_buffer}
 use Rattle.display_buffers.proofs.Rows.{without_fresh}

@@ -1,17 +1,14 @@
 -- What a step of a display's service comes to.
-use Rattle.std.proofs.Common.{◌≡◌, inl, inr, ℕ, zero, suc, ℤ, ◌<◌, ◌++◌, Bool, true, false, not, cond, nat_lt, List, [], ◌∷◌, drop, length, Option, Some, None, Ok, Err, slice_get, is_some, refl, sym, ap, subst, ◌∙◌, arith}
+use Rattle.std.proofs.Common.{◌≡◌, ℕ, ℤ, ◌<◌, ◌++◌, Bool, true, false, cond, nat_lt, List, [], ◌∷◌, drop, length, Option, Some, None, slice_get, refl, sym, ap, subst, ◌∙◌, arith}
 use Rattle.std.proofs.lemmas.Bool.{true≢false}
 use Rattle.pv_words.specs.declared.access.Access.{Access}
 use Rattle.pv_words.specs.declared.device.Said.{Said}
 use Rattle.pv_words.specs.declared.device.Said.TheVariants as said
 use Rattle.pv_words.specs.declared.grant.Hold.{Hold}
-use Rattle.pv_words.specs.declared.grant.GrantRefusal.TheVariants.{NoEntry}
-use Rattle.pv_words.specs.declared.grant.Mode.TheVariants.{Read}
 use Rattle.pv_words.specs.declared.place.Place.TheVariants.{Cell, Grant}
-use Rattle.pv_words.specs.Memory.{place_of}
 use Rattle.pv_words.specs.Plan as plan
 use Rattle.pv_words.specs.Plan.{Plan, Finished, Make, Want, Load, Store, Swap, Clear, MayGo, Turns, IsUnfinished, joined, mapped, wanted}
-use Rattle.pv_words.specs.Mapping.{flags_plan, unmap_want}
+use Rattle.pv_words.specs.Mapping.{unmap_want}
 use Rattle.displ_wire.specs.declared.Asked.{Asked}
 use Rattle.displ_wire.specs.declared.Asked.TheVariants as asked
 use Rattle.displ_wire.specs.declared.Create.{Create}
@@ -22,22 +19,19 @@ use Rattle.page_directory.specs.declared.walk.Walked.TheVariants as walked
 use Rattle.page_directory.specs.Joins.{TurnsOrEnds}
 use Rattle.page_directory.specs.declared.walk.Walk.{Walk}
 use Rattle.page_directory.specs.WalkLeft.{PagesByAccess, walk_left, dom_of, held_by}
-use Rattle.page_directory.specs.Walking.{walk_plan, entry_plan, rest_plan, with_map}
 use Rattle.link_core.specs.Activities.{unmaps}
 use Rattle.link_core.specs.Stays.{LiesIn, AccessIn}
-use Rattle.device_core.specs.Order.{is_in_page}
-use Rattle.device_core.proofs.Steps.{place_wanted}
-use Rattle.device_service.specs.Dropping.{Drops, MayDrop}
+use Rattle.device_service.specs.Dropping.{Drops}
 use Rattle.device_service.specs.declared.deed.Now.{Now}
-use Rattle.device_service.specs.declared.deed.Now.TheVariants.{Answers, GoesOn, Over}
-use Rattle.device_service.specs.Operating.{Comes, Continues, IsOutOfPages, Leaves}
+use Rattle.device_service.specs.declared.deed.Now.TheVariants.{GoesOn, Over}
+use Rattle.device_service.specs.Operating.{Comes, Continues, Leaves}
 use Rattle.display_backend.specs.declared.course.Course.{Course}
 use Rattle.display_backend.specs.declared.course.Course.TheVariants.{Rests, Walks, Frees}
 use Rattle.display_backend.specs.declared.course.Progress.{Progress}
 use Rattle.display_backend.specs.declared.course.Progress.TheVariants as progress
 use Rattle.display_backend.specs.Course.{Goes, is_under_way, is_walk_of, pages_walked, stock_at, left_at, Creates, Destroys, ComesTo, InHand, HasDestroy, Releases, Stands}
 use Rattle.display_backend.specs.Service.{Known, Ending, Listed, Freed, after_walk, display, has_work, ready_at, ready_for, reply_for, says_at}
-use Rattle.display_backend.specs.Stock.{Stock, Held, pages_of, pages_under, with_pages, less_one, bared, all_bared, stripped, first_less, without_first_in, without_first_of, without_first}
+use Rattle.display_backend.specs.Stock.{Stock, Held, pages_of, pages_under, with_pages, less_one, bared, stripped, first_less, without_first_in, without_first_of, without_first}
 use Rattle.display_backend.specs.Names.{numbered}
 use Rattle.display_backend.specs.Reply.{reply_to}
 use Rattle.display_backend.specs.Verdict.{status_in, verdict}

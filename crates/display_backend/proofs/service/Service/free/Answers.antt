@@ -1,6 +1,6 @@
-use Rattle.std.proofs.Common.{◌≡◌, ◌<◌, [], drop, length, refl, sym, ap, ◌∙◌, arith}
+use Rattle.std.proofs.Common.{◌≡◌, ◌<◌, [], length, sym, ap, ◌∙◌, arith}
 use Rattle.pv_words.specs.Plan.{Finished}
-use Rattle.display_backend.specs.Course.{left_at, stock_at}
+use Rattle.display_backend.specs.Course.{left_at}
 use Rattle.display_backend.specs.Known.{known_of, left_of}
 use Rattle.display_backend.specs.Service.{Freed}
 use Rattle.display_backend.specs.Stock.{Stock, pages_under}

@@ -1,9 +1,9 @@
-use Rattle.std.proofs.Common.{◌≡◌, refl, sym, ap, ◌∙◌}
+use Rattle.std.proofs.Common.{refl, sym, ap, ◌∙◌}
 use Rattle.page_directory.specs.declared.walk.Walked.{Walked}
 use Rattle.page_directory.specs.WalkLeft.{walk_left}
 use Rattle.page_directory.specs.WalkLeft.{dom_of as walked_dom}
 use Rattle.display_backend.specs.Course.{stock_at}
-use Rattle.display_backend.specs.Known.{known_of, left_of}
+use Rattle.display_backend.specs.Known.{known_of}
 use Rattle.display_backend.specs.Service.{Listed, after_walk, says_at}
 use Rattle.display_backend.specs.Store.{stock_of}
 use Rattle.display_backend.proofs.Serviced.{knowing, walk_goes, walk_ends}

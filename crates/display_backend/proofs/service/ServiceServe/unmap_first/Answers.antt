@@ -1,7 +1,6 @@
-use Rattle.std.proofs.Common.{◌≡◌, ◌<◌, drop, length, List, sym, ap, subst, ◌∙◌}
+use Rattle.std.proofs.Common.{◌<◌, length, sym, ap, subst, ◌∙◌}
 use Rattle.device_service.specs.Dropping.{Drops}
 use Rattle.display_backend.specs.Course.{stock_at}
-use Rattle.display_backend.specs.Service.{Known}
 use Rattle.display_backend.specs.Stock.{Stock, pages_of}
 use Rattle.display_backend.specs.Store.{stock_of, count_of}
 use Rattle.display_backend.proofs.Order.{first_goes}

@@ -1,7 +1,10 @@
 pub mod Answers
 pub mod Consequences
+mod Displays
+pub mod EachKind
+mod Hearing
 pub mod Histories
+mod Holding
 pub mod Items
 pub mod OneNext
 mod Truth
-pub mod EachKind

@@ -10,25 +10,26 @@ use Rattle.pv_words.specs.declared.setup.DeviceKind.TheVariants as kind
 use Rattle.pv_words.specs.Plan.{Want}
 use Rattle.device_core.specs.Order.{Own, Did, Heard, Hosts, Refused, MayStep}
 use Rattle.device_core.specs.Site.{Site}
+use Rattle.device_service.specs.Work.{device}
 use Rattle.display_backend.specs.declared.display.Display.{Display as Screen}
-use Rattle.display_backend.specs.Display as display
+use Rattle.display_backend.specs.Display as screen
 use Rattle.display_backend.specs.Waiting.{is_for}
-use Rattle.display_backend.specs.Work as work
+use Rattle.display_backend.specs.Service.{display}
 use Rattle.backend_core.specs.declared.device.Device.{Device}
 use Rattle.backend_core.specs.declared.device.Device.TheVariants.{Display}
 use Rattle.backend_core.specs.Kinds.{Continues, IsSettled, display_station, due_after}
 
 -- its number
 abbrev pub dev_of : Device → ℕ
-dev_of (Display d) = display.dev_of d
+dev_of (Display d) = screen.dev_of d
 
 -- the domain that it serves
 abbrev pub dom_of : Device → ℕ
-dom_of (Display d) = display.dom_of d
+dom_of (Display d) = screen.dom_of d
 
 -- how many parts it has
 abbrev pub parts_of : Device → ℕ
-parts_of (Display d) = display.parts_of d
+parts_of (Display d) = screen.parts_of d
 
 -- the device over these numbers of frames and grant entries
 abbrev pub site_of : (frames grants : ℕ → ℕ) → Device → Site
@@ -36,18 +37,18 @@ site_of frames grants d = record { dom = dom_of d; parts = parts_of d; frames = 
 
 -- all pages that it holds
 abbrev pub held_of : Device → List Hold
-held_of (Display d) = display.held_of d
+held_of (Display d) = screen.held_of d
 
 -- the event is one of the device's kind, and the device has its part
 abbrev pub fits_to : Device → HostEvent → Bool
-fits_to (Display d) e = is_for (display.parts_of d) e
+fits_to (Display d) e = is_for (screen.parts_of d) e
 
 -- a display of this site that stands where what it has done and heard leads
 pub record IsDisplay (site : Site) (connectors : ℕ) (d : Screen) (es : List Own) : Type 0 where
-  pub dom_is : display.dom_of d ≡ site.dom
-  pub parts_are : display.parts_of d ≡ site.parts
+  pub dom_is : screen.dom_of d ≡ site.dom
+  pub parts_are : screen.parts_of d ≡ site.parts
   pub connectors_are : site.parts ≡ connectors
-  pub stands : display.stand_of site d ≡ (display_station site es).stand
+  pub stands : screen.stand_of site d ≡ (display_station site es).stand
 
 -- The device is one of this kind and site, and stands where what it has done and heard leads, the accesses of others among it.
 abbrev pub StandsFor : DeviceKind → Site → Device → List Own → Type 0
@@ -55,7 +56,7 @@ StandsFor (kind.Display connectors) site (Display d) es = IsDisplay site connect
 
 -- its next access may be made through a port
 abbrev pub MayMakeNext : (Want → Type 0) → Site → Device → Type 0
-MayMakeNext may site (Display d) = MayStep may (work.display site) (display.stand_of site d)
+MayMakeNext may site (Display d) = MayStep may (device display site) (screen.stand_of site d)
 
 -- it stands for what came before and for this, which is what comes next
 pub record GoesOn (kind : DeviceKind) (site : Site) (es more : List Own) (new : Device) : Type 0 where

@@ -1,11 +1,13 @@
 -- What is so of every history of devices.
-use Rattle.std.specs.Prelude.{◌≡◌, ℕ, true, List, ◌++◌, Some}
+use Rattle.std.specs.Prelude.{◌≡◌, ℕ, ◌<◌, true, List, ◌++◌, Some, length}
 use Rattle.std.specs.List.{AllByRecursion}
+use Rattle.pv_words.specs.declared.grant.Hold.{Hold}
 use Rattle.pv_words.specs.declared.setup.DeviceSetup.{DeviceSetup}
 use Rattle.pv_words.specs.Port.{Port, PortMay, IsListed}
+use Rattle.page_directory.specs.Same.{AreSame, times}
 use Rattle.device_core.specs.Order.{Own}
 use Rattle.backend_core.specs.declared.device.Device.{Device}
-use Rattle.backend_core.specs.Device.{StandsFor, MayMakeNext}
+use Rattle.backend_core.specs.Device.{StandsFor, MayMakeNext, held_of}
 use Rattle.backend_core.specs.History.{AnswersIn, IsHistory, IsMachineRunIn, IsPromptIn, KeepsIn, TellsIn, TellsTrulyIn, held_after, site_of}
 use Rattle.backend_core.specs.Kinds.{IsExplained}
 use Rattle.backend_core.specs.Marked.{Item}
@@ -41,3 +43,24 @@ ListingSuffices =
     → StandsFor s.kind (site_of frames grants s) d es → IsExplained s.kind (site_of frames grants s) es
     → p.device ≡ Some s.dev.0 → p.serves s.dom.0 ≡ true → IsListed p s.dev.0 (held_after frames grants s es)
     → MayMakeNext (PortMay frames grants p) (site_of frames grants s) d
+
+-- Whatever a device has done and heard, where it stands by that its accesses hold so many pages; and they hold this page.
+abbrev pub HoldsAsMany : Device → ℕ → Type 0
+HoldsAsMany d n =
+    (frames grants : ℕ → ℕ) (s : DeviceSetup) (es : List Own)
+    → StandsFor s.kind (site_of frames grants s) d es → IsExplained s.kind (site_of frames grants s) es
+    → n ≡ length (held_after frames grants s es).held
+
+abbrev pub HoldsPage : Device → Hold → Type 0
+HoldsPage d h =
+    (frames grants : ℕ → ℕ) (s : DeviceSetup) (es : List Own)
+    → StandsFor s.kind (site_of frames grants s) d es → IsExplained s.kind (site_of frames grants s) es
+    → 0 < times h (held_after frames grants s es).held
+
+-- Wherever a device stands by what it has done and heard, the pages that it tells are just those that its accesses hold, each as
+-- often.
+abbrev pub TellsWhatIsHeld : Type 0
+TellsWhatIsHeld =
+    (frames grants : ℕ → ℕ) (s : DeviceSetup) (d : Device) (es : List Own)
+    → StandsFor s.kind (site_of frames grants s) d es → IsExplained s.kind (site_of frames grants s) es
+    → AreSame (held_after frames grants s es).held (held_of d)

@@ -41,6 +41,7 @@ impl Device {
     ghost use Rattle.device_core.specs.Site.{Site};
     ghost use Rattle.backend_core.specs.Device.{Adds, AddsAt, MayMakeNext, RidesAt, StandsFor, dom_of, fits_to, held_of, hosted, parts_of, site_of};
     ghost use Rattle.backend_core.specs.Kinds.{IsSettled, rests_after};
+    ghost use Rattle.backend_core.specs.Laws.{HoldsAsMany, HoldsPage};
 
     /// Hears that the frontend set its state, while its nodes stand so. Whatever it stood for, it stands for that and this state.
     pub fn bus(&mut self, front: State, nodes: &Nodes)
@@ -95,19 +96,21 @@ impl Device {
         }
     }
 
-    /// How many pages the device holds.
+    /// How many pages the device holds: as many as its accesses hold, by whatever it came to stand there.
     pub fn held(&self) -> u32
-        ensures { result ≡ length (held_of self.now) }
+        ensures count { result ≡ length (held_of self.now) }
+        ensures holds { HoldsAsMany self.now result }
     {
         match self {
             Device::Display(display) => display.held(),
         }
     }
 
-    /// The page at this place of those that it holds.
+    /// The page at this place of those that it holds. It is one of those that its accesses hold.
     pub fn hold_at(&self, i: u32) -> Hold
         requires { i < length (held_of self.now) }
-        ensures { slice_get (held_of self.now) i ≡ Some result }
+        ensures place { slice_get (held_of self.now) i ≡ Some result }
+        ensures holds { HoldsPage self.now result }
     {
         match self {
             Device::Display(display) => display.hold_at(i),

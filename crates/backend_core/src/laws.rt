@@ -1,6 +1,6 @@
 //! What is so of every journal of devices.
 
-ghost use Rattle.backend_core.specs.Laws.{FrontsAreHistories, HistoriesAreRuns, ListingSuffices, ReadingsTellAll, RefusalsAreShown};
+ghost use Rattle.backend_core.specs.Laws.{FrontsAreHistories, HistoriesAreRuns, ListingSuffices, ReadingsTellAll, RefusalsAreShown, TellsWhatIsHeld};
 
 /// Whatever was played, what a device said and heard is a run of its machine, its accepted requests are answered, and each of
 /// its accesses lies in a page that it mapped and holds.
@@ -29,3 +29,11 @@ pub fn fronts_are_histories()
 pub fn listing_suffices()
     ensures { ListingSuffices }
 {}
+
+/// Whatever a device has done and heard, the pages that it tells by `held` and `hold_at` are just those that its accesses hold,
+/// each as often: those that they mapped and didn't unmap, also while an activity is under way.
+pub fn tells_what_is_held()
+    ensures { TellsWhatIsHeld }
+{
+    display_backend::tells_what_is_held();
+}

@@ -5,7 +5,10 @@ mod device;
 mod laws;
 
 pub use device::Device;
-pub use laws::{fronts_are_histories, histories_are_runs, listing_suffices, readings_tell_all};
+pub use laws::{
+    fronts_are_histories, histories_are_runs, listing_suffices, readings_tell_all,
+    tells_what_is_held,
+};
 
 #[cfg(test)]
 mod tests;

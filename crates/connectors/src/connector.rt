@@ -1,7 +1,8 @@
 //! A connector.
 
 ghost use Rattle.std.specs.Prelude.{◌≡◌, IsSome, OnOk, OnErr, Some};
-ghost use Rattle.connectors.specs.Connectors.{after_blank, config_check, after_config, after_detach, first_connector, flip_check, after_flip, is_shown_by, pending_of, picture_of, without_mark};
+ghost use Rattle.connectors.specs.Connectors.{after_blank, config_check, after_config, after_detach, first_connector};
+ghost use Rattle.connectors.specs.Connectors.{flip_check, after_flip, is_shown_by, pending_of, picture_of, without_mark};
 
 use crate::rectangle::Rectangle;
 use displ_wire::{Config, Refused, is_zero};

@@ -1,6 +1,6 @@
 -- How the values are kept: a slab with an entry for each of 64 keys, the keys of the values in the order in which they
 -- came, and the other keys, whose entries are empty.
-use Rattle.std.specs.Prelude.{◌≡◌, ℕ, ◌+◌, ◌<◌, List, length, Option, Some, None, IsSome, slice_index, filter_map}
+use Rattle.std.specs.Prelude.{◌≡◌, ℕ, ◌+◌, ◌<◌, ◌≤◌, List, length, Option, Some, None, IsSome, slice_index, filter_map, Vec, vec_capacity}
 use Rattle.std.specs.List.{AllByRecursion}
 use Rattle.std.specs.Option.{option_flatten}
 use Rattle.slab.specs.Slab.{Slab, get}
@@ -37,3 +37,8 @@ module _ {T : Type 0} where
     pub others_distinct : AreDistinct others
     pub number : length order + length others ≡ 64
     pub cookies_distinct : AreDistinct (cookies cookie_of (rows entries order))
+
+  -- such a table, with room for all 64 keys in either list
+  abbrev pub IsRoomyTable : {A : Type 0} → (T → ℕ) → Slab (Option T) → (order others : Vec ℕ A) → Type 0
+  IsRoomyTable cookie_of entries order others =
+      IsTable cookie_of entries order.items others.items × (64 ≤ vec_capacity order) × (64 ≤ vec_capacity others)

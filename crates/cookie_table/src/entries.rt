@@ -1,6 +1,7 @@
 // The entries of a table: what stands under a key, and where a cookie is found.
 
-ghost use Rattle.std.specs.Prelude.{◌≡◌, ℕ, ◌+◌, ◌<◌, ◌≤◌, List, [], length, Some, None, IfOk, option_copied, slice_get, vec_len, vec_capacity};
+ghost use Rattle.std.specs.Prelude.{◌≡◌, ℕ, ◌+◌, ◌<◌, ◌≤◌, List, [], length, Some, None, IfOk};
+ghost use Rattle.std.specs.Prelude.{option_copied, slice_get, vec_len, vec_capacity};
 ghost use Rattle.std.specs.List.{AllByRecursion};
 ghost use Rattle.slab.specs.Slab.{Updates, get};
 ghost use Rattle.cookie_table.specs.Cookies.{value_of, AreDistinct};

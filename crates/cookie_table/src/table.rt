@@ -29,14 +29,14 @@ pub struct Table<T: HasCookie + Drop> {
 }
 
 impl<T: HasCookie + Drop> Model for Table<T> {
-    ghost use Rattle.std.specs.Prelude.{List, ◌≤◌, vec_capacity};
-    ghost use Rattle.cookie_table.specs.Entries.{IsTable, rows};
+    ghost use Rattle.std.specs.Prelude.{List};
+    ghost use Rattle.cookie_table.specs.Entries.{IsRoomyTable, rows};
 
     ghost Value = { List T };
 
     ghost view = { λ t. rows t.entries t.order.items };
 
-    ghost invariant = { λ t. IsTable T.cookie_of t.entries t.order.items t.others.items × (64 ≤ vec_capacity t.order) × (64 ≤ vec_capacity t.others) };
+    ghost invariant = { λ t. IsRoomyTable T.cookie_of t.entries t.order t.others };
 }
 
 impl<T: HasCookie + Drop> Table<T> {

@@ -117,7 +117,7 @@ module _ {S W O N R E : Type 0} (r : Rules W O) (d : Reading S W O N R E) (Prope
   offered_fits : (w x : W) (p : Plan O) (k : Carried S) → sound.Sane w → sound.Tells w k → Offers (r.choice w) x p → Fits x k p
   offered_fits w x p k s t i = (sound.begins w x p s i).1 k t
 
-  begins_named : (w x : W) (p : Plan O) (e : Own) (k : Carried S) (n : N) → picked (r.choice w) e ≡ Act x p → sound.Sane w → sound.Tells w k → sound.Named w n → sound.Named x n
+  pub begins_named : (w x : W) (p : Plan O) (e : Own) (k : Carried S) (n : N) → picked (r.choice w) e ≡ Act x p → sound.Sane w → sound.Tells w k → sound.Named w n → sound.Named x n
   begins_named w x p e k n i s t m =
       (sound.begins_run w x p (record { naming = n; carried = k; sight = Numbers }) s t m (picked_offers (r.choice w) e x p i)).0
 
@@ -255,7 +255,7 @@ module _ {S W O N R E : Type 0} (r : Rules W O) (d : Reading S W O N R E) (Prope
   named_in_next (During w p) e k n g i m = named_gone w p e k n g.0 g.1 i m
   named_in_next (Telling t w o) e k n g i m = named_said t w o e k n g i m
 
-  named_follow : (s : Stand W O) (owes : Option HostRefusal) (e : Own) (k : Carried S) (n : N) → IsGood s k → IsNamedIn s n → MayFollowWith r s owes e → IsNamedIn (follow r s owes e).stand (named_by r d s owes n e)
+  pub named_follow : (s : Stand W O) (owes : Option HostRefusal) (e : Own) (k : Carried S) (n : N) → IsGood s k → IsNamedIn s n → MayFollowWith r s owes e → IsNamedIn (follow r s owes e).stand (named_by r d s owes n e)
   named_follow s None e k n g i m = named_in_next s e k n g i m
   named_follow s (Some why) e k n g i m = i
 

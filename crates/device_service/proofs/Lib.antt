@@ -1,7 +1,25 @@
+pub mod Choices
 pub mod Claims
+pub mod Connecting
+pub mod Connects
+pub mod Deeds
+pub mod Faults
 pub mod Fitting
-pub mod Sound
+pub mod Hearing
+pub mod Held
+pub mod HeldAll
+pub mod InPages
+pub mod Leaving
+pub mod Lists
+pub mod Opened
+pub mod Out
+pub mod PartsLaws
+mod RefusingKept
 pub mod Resting
+pub mod SameLength
+pub mod Serving
+pub mod Sleeps
+pub mod Sound
 pub mod SoundBegins
 mod SoundConnect
 mod SoundFound
@@ -13,4 +31,10 @@ mod SoundServes
 mod SoundSettles
 mod SoundTells
 pub mod SoundWork
+pub mod Standing
 pub mod Telling
+pub mod Throughout
+pub mod Truth
+pub mod Unmapping
+pub mod Wholes
+pub mod Works

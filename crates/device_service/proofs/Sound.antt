@@ -6,17 +6,18 @@ use Rattle.pv_words.specs.declared.device.Reason.TheVariants as reason
 use Rattle.pv_words.specs.declared.device.State.{State}
 use Rattle.pv_words.specs.declared.device.State.TheVariants as state
 use Rattle.pv_words.specs.Held.{Holds, IsProper, holds_of}
-use Rattle.pv_words.specs.Plan.{Plan, Finished, Want, Note, Plain, Begins, Frames, Undoes, Ends, Takes, Puts}
+use Rattle.pv_words.specs.Plan.{Plan, Finished, Make, Want, Note, Plain, Begins, Frames, Undoes, Ends, FitsFrom, Takes, Puts, found}
 use Rattle.page_directory.specs.Same.{AreSame, times}
 use Rattle.xenbus_states.specs.declared.back.Action.{Action}
 use Rattle.xenbus_states.specs.declared.back.Action.TheVariants as action
 use Rattle.xenbus_states.specs.Connection.{action_of}
 use Rattle.link_core.specs.Activities.{Joined}
-use Rattle.device_core.specs.Learned.{Learned, learned_of}
+use Rattle.device_core.specs.Learned.{Learned, learned_of, learning}
 use Rattle.device_core.specs.Machine as machine
 use Rattle.device_core.specs.Machine.{Sound}
-use Rattle.device_core.specs.Order.{News, Sets, Hosts, Act, Offers}
-use Rattle.device_core.specs.Touched.{Carried}
+use Rattle.device_core.specs.Order.{Stand, Between, During, News, Sets, Hosts, Act, Offers}
+use Rattle.device_core.specs.Touched.{Carried, carrying}
+use Rattle.device_core.proofs.MachineRun.{IsGood}
 use Rattle.device_service.specs.Laws.{IsTouching}
 use Rattle.xenbus_states.specs.Needs.{first_fault}
 use Rattle.device_service.specs.Nodes.{Kind, needs_of, refs_from}
@@ -174,3 +175,20 @@ module _ {X A V Y M : Type 0} (D : Lawful X A V Y M) where
         ((refl, (λ k. ap (λ hs. times k (hs ++ [])) (sym b.2))), λ why e. let wrong : ⊥ = cc in absurd wrong),
         (l.begun_shows _).0,
       )
+
+  -- what is known of where the device stands, and of what its accesses made
+  abbrev pub Good : Stand (Work X V) (End A V) → Carried Learned → Type 0
+  Good stand k = IsGood (device s (site D)) (learned D) Lies sound stand k
+
+  -- of which this is what is held, between two activities, and while one is under way
+  pub tells_between : (w : Work X V) (k : Carried Learned) → Good (Between w) k → IsSane D w × TellsHeld s w k.own.holds
+  unfolding sound
+  tells_between w k g = (g.0, g.1.0)
+
+  holds_fit : (w : Work X V) (k : Carried Learned) (p : Plan (End A V)) → FitsFrom (λ (j : Carried Learned) want note. Lies j.own want note × known.Meets w.service want note) (carrying (learning frames)) (λ j o. Tells s (settled s (site D) w o) j × EndsWell D w j o) k p → Fit frames grants dom (EndsSo D w) k.own.holds p
+  holds_fit w k (Finished o) f = (f.0.0, f.1.0)
+  holds_fit w k (Make want note more) f = (f.0.0, λ v. holds_fit w (carrying (learning frames) k note (found want v)) (more v) (f.1 v))
+
+  pub fits_during : (w : Work X V) (p : Plan (End A V)) (k : Carried Learned) → Good (During w p) k → IsSane D w × Fit frames grants dom (EndsSo D w) k.own.holds p
+  unfolding sound
+  fits_during w p k g = (g.0, holds_fit w k p g.1)

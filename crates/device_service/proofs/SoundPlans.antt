@@ -5,10 +5,10 @@ use Rattle.pv_words.specs.declared.grant.Hold.{Hold}
 use Rattle.pv_words.specs.declared.grant.Mode.TheVariants.{Write}
 use Rattle.pv_words.specs.Held.{Has, Holds, Covers, CoversToWrite, IsProper, holding, holds_of, unheld}
 use Rattle.pv_words.specs.Plan.{Plan, Load, Store, Plain, FitsFrom}
-use Rattle.grant_table.specs.Laws.{IsHold}
+use Rattle.pv_words.specs.MapLaws.{IsHold}
 use Rattle.link_core.specs.Activities.{hold_list, page_at, word_of, unmaps}
 use Rattle.link_core.specs.Laws.{AreOf, IsRing, IsRefused}
-use Rattle.grant_table.proofs.Holdings.{unmaps_exactly}
+use Rattle.pv_words.proofs.Holdings.{unmaps_exactly}
 use Rattle.page_directory.specs.Same.{AreSame}
 use Rattle.page_directory.proofs.Counts.{times_here, times_unheld, has_counted}
 use Rattle.device_service.proofs.SoundSame.{IsIn}

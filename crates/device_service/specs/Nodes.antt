@@ -1,8 +1,10 @@
 -- The nodes that a device needs, and the references that they give, by the kind of the device (the nodes of displif.h, sndif.h and
 -- kbdif.h).
-use Rattle.std.specs.Prelude.{◌≡◌, ℕ, zero, suc, ◌+◌, ◌<◌, ◌==◌, ◌||◌, Bool, true, List, [], ◌∷◌, Option, Some, None, Ok}
+use Rattle.std.specs.Prelude.{◌≡◌, ℕ, zero, suc, ◌+◌, ◌<◌, ◌==◌, ◌||◌, Bool, true, false, List, [], ◌∷◌, Option, Some, None, Ok}
 use Rattle.pv_words.specs.declared.device.NodeValue.{NodeValue}
-use Rattle.xenbus_states.specs.Needs.{Need, needs_from, page_keys, ring_keys}
+use Rattle.pv_words.specs.declared.device.Reason.{Reason}
+use Rattle.pv_words.specs.declared.device.Reason.TheVariants as reason
+use Rattle.xenbus_states.specs.Needs.{Need, Problem, needs_from, page_keys, ring_keys}
 use Rattle.xenbus_states.specs.Nodes.{node_at, needed, number_at}
 use Rattle.device_core.specs.Site.{Site}
 
@@ -11,6 +13,11 @@ pub data Kind : Type 0 where
   Ringed : Kind
   Ringless : Kind
 
+-- with a ring, or without
+abbrev pub kind_in : Bool → Kind
+kind_in true = Ringed
+kind_in false = Ringless
+
 abbrev pub keys_of : Kind → List ℕ
 keys_of Ringed = ring_keys
 keys_of Ringless = page_keys
@@ -18,6 +25,11 @@ keys_of Ringless = page_keys
 -- the nodes that a device of this kind needs: the keys of each of its parts
 abbrev pub needs_of : Kind → Site → List Need
 needs_of kind site = needs_from (keys_of kind) 0 site.parts
+
+-- why nodes are refused
+abbrev pub fault_in : Option Problem → Option Reason
+fault_in None = None
+fault_in (Some problem) = Some (reason.Node problem.part problem.key problem.fault)
 
 -- the references of a part's ring page, if it has a ring, and of its event page
 pub record Refs : Type 0 where

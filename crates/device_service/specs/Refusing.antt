@@ -1,5 +1,5 @@
 -- The least service: it knows no operation, and answers each request that it is not supported (EOPNOTSUPP of errno.h, 95).
-use Rattle.std.specs.Prelude.{◌≡◌, ℕ, ℤ, negsuc, true, false, List, [], ◌∷◌, Option, Some, None, is_some, slice_index}
+use Rattle.std.specs.Prelude.{◌≡◌, ℕ, ℤ, negsuc, true, false, List, [], ◌∷◌, Option, Some, None, is_some, replicate, slice_index}
 use Rattle.pv_words.specs.declared.device.Said.TheVariants as said
 use Rattle.pv_words.specs.Plan.{Finished, IsUntouched}
 use Rattle.host_events.specs.Queue.{refusal_of}
@@ -14,8 +14,8 @@ not_supported = negsuc 94
 
 -- the first word of the request, then the status modulo 2 ^ 32
 abbrev pub reply_to : Option ℕ → List ℕ
-reply_to None = []
-reply_to (Some word) = word ∷ 4294967201 ∷ []
+reply_to None = replicate 16 0
+reply_to (Some word) = word ∷ 4294967201 ∷ replicate 14 0
 
 -- it knows the first word of the request in hand, and no event waits for it
 abbrev pub refusing : Service (Option ℕ) (Unit {0}) ⊥

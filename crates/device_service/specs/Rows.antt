@@ -12,7 +12,7 @@ use Rattle.pv_words.specs.declared.device.State.{State}
 use Rattle.pv_words.specs.declared.device.State.TheVariants as state
 use Rattle.pv_words.specs.declared.grant.Mode.TheVariants.{Write}
 use Rattle.pv_words.specs.Found.{Found}
-use Rattle.grant_table.specs.Laws.{IsShown}
+use Rattle.pv_words.specs.MapLaws.{IsShown}
 use Rattle.ring_words.specs.Ring.{since}
 use Rattle.xenbus_states.specs.Bus.{Bus, IsCause, MayClose, MayConnect, MayEnter, bus_begun, bus_closed, bus_entered, bus_heard}
 use Rattle.host_events.specs.Queue.{unless}
@@ -20,13 +20,8 @@ use Rattle.device_core.specs.Order.{News, Sets, Hosts}
 use Rattle.device_core.specs.Site.{Site}
 use Rattle.device_core.specs.Touched.{Touch}
 use Rattle.device_service.specs.Nodes.{Kind, IsAskedFor, needs_of}
+pub use Rattle.device_service.specs.declared.round.Hand.{Hand}
 use Rattle.device_service.specs.Raise.{limit, slots}
-
--- a request in hand: the part whose ring it came by, and what stands in its first word
-pub record Hand : Type 0 where
-  pub part : ℕ
-  pub id : ℕ
-  pub op : ℕ
 
 -- the request of these words, by this part
 abbrev pub hand_in : ℕ → List ℕ → Hand

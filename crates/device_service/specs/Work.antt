@@ -1,5 +1,5 @@
 -- The order of work of a device, whatever its service.
-use Rattle.std.specs.Prelude.{ℕ, zero, suc, ◌+◌, ◌-◌, nat_lt, Bool, true, false, List, [], ◌∷◌, ◌++◌, Option, Some, None, slice_get, slice_set, if◌then◌else◌}
+use Rattle.std.specs.Prelude.{ℕ, zero, suc, ◌+◌, ◌-◌, nat_lt, Bool, true, false, List, [], ◌∷◌, ◌++◌, Option, Some, None, Result, Ok, Err, slice_get, slice_set, if◌then◌else◌}
 use Rattle.pv_words.specs.declared.device.HostEvent.{HostEvent}
 use Rattle.pv_words.specs.declared.device.HostRefusal.{HostRefusal}
 use Rattle.pv_words.specs.declared.device.NodeValue.{NodeValue}
@@ -29,13 +29,9 @@ use Rattle.xenbus_states.specs.Needs.{Problem, first_fault}
 use Rattle.device_service.specs.Nodes.{Kind, Ringed, Ringless, Refs, needs_of, refs_from}
 use Rattle.device_service.specs.Raise.{Put, Stored, Full, BadCons, raise_plan, limit}
 use Rattle.device_service.specs.Rows.{Hand, hand_in}
+pub use Rattle.device_service.specs.declared.round.Round.{Round}
+pub use Rattle.device_service.specs.declared.round.Round.TheVariants.{Looks, Sleeps, Idles}
 use Rattle.device_service.specs.Service.{Job, Works, Starves, Owed, Deed, Runs, Raises, Service}
-
--- What comes next where no request is left: a look at the ring of a part, and whether the round served a request.
-pub data Round : Type 0 where
-  Looks : ℕ → Bool → Round
-  Sleeps : Round
-  Idles : Round
 
 -- what a device knows between two activities, and what of it stays known in one
 pub record Work (X V : Type 0) : Type 0 where
@@ -108,18 +104,22 @@ sleep_all [] = Finished true
 sleep_all (j ∷ js) = joined (sleep_plan (ring_page j) j.rsp) (sleeps_on (sleep_all js))
 
 -- Connect, part by part. A refused one ends it, once all that was mapped is unmapped, in order.
-abbrev pub after_part : {A V : Type 0} → List Joined → (List Joined → Plan (End A V)) → Connected → Plan (End A V)
+abbrev pub after_part : List Joined → (List Joined → Plan (Result (List Joined) GrantRefusal)) → Connected → Plan (Result (List Joined) GrantRefusal)
 after_part met more (Joins j) = more (met ++ j ∷ [])
-after_part met more (Refuses held why) = unmaps (all_pages met ++ held) (Finished (Denied why))
+after_part met more (Refuses held why) = unmaps (all_pages met ++ held) (Finished (Err why))
 
-abbrev pub connect_parts : {A V : Type 0} → Site → List Refs → List Joined → Plan (End A V)
-connect_parts site [] met = Finished (Met met)
+abbrev pub connect_parts : Site → List Refs → List Joined → Plan (Result (List Joined) GrantRefusal)
+connect_parts site [] met = Finished (Ok met)
 connect_parts site (r ∷ rs) met = joined (connect_plan site.frames site.grants site.dom r.ring r.event) (after_part met (connect_parts site rs))
+
+abbrev pub connected : {A V : Type 0} → Result (List Joined) GrantRefusal → End A V
+connected (Ok parts) = Met parts
+connected (Err why) = Denied why
 
 -- the nodes are read once, at the beginning; a faulty one ends the Connect before any access
 abbrev pub connect_all : {A V : Type 0} → Site → Option Problem → List Refs → Plan (End A V)
 connect_all site (Some problem) refs = Finished (Lacked problem)
-connect_all site None refs = connect_parts site refs []
+connect_all site None refs = mapped connected (connect_parts site refs [])
 
 -- the place in the round after a Look at this part
 abbrev pub next_look : ℕ → ℕ → Bool → Round

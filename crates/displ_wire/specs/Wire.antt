@@ -1,6 +1,6 @@
 -- The messages of displif.h of Xen's public headers, protocol 1, as lists of sixteen words. A word is a
 -- number below 2 ^ 32, stored with its low octet first.
-use Rattle.std.specs.Prelude.{◌≡◌, ℕ, ◌+◌, ◌*◌, ◌/◌, ◌%◌, ◌^◌, ◌<◌, ℤ, FitsSigned, List, [], ◌∷◌, ◌++◌, slice_index, replicate, if◌then◌else◌, ◌==◌, Bool, ◌&&◌}
+use Rattle.std.specs.Prelude.{◌≡◌, ℕ, ◌^◌, ◌<◌, ℤ, FitsSigned, List, ◌∷◌, ◌++◌, slice_index, replicate, if◌then◌else◌, ◌==◌, Bool, ◌&&◌}
 use Rattle.std.specs.Int.{w32, cast_signed, cast_unsigned}
 pub use Rattle.wire_fields.specs.Fields.{id_of, operation_of, head_of, u64_at, u64_words}
 use Rattle.displ_wire.specs.declared.Asked.{Asked}

@@ -4,7 +4,9 @@
 #![tactic(auto)]
 
 ghost use Rattle.std.specs.Prelude.{◌≡◌, ◌∷◌, ◌↔◌, IsTrue};
-ghost use Rattle.displ_wire.specs.Wire.{all_zero, asked_of, attach_of, attach_words, config_of, config_words, cookie_words, create_of, create_words, event_of, event_words, reply_of, reply_words, request_of, request_words, EventsReadBack, IsZero, RepliesReadBack, RequestsReadBack};
+ghost use Rattle.displ_wire.specs.Wire.{request_of, request_words, asked_of, create_of, create_words, attach_of, attach_words};
+ghost use Rattle.displ_wire.specs.Wire.{config_of, config_words, cookie_words, reply_of, reply_words, event_of, event_words};
+ghost use Rattle.displ_wire.specs.Wire.{all_zero, IsZero, EventsReadBack, RepliesReadBack, RequestsReadBack};
 
 mod buffer;
 

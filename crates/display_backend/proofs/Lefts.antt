@@ -83,12 +83,12 @@ cookie_left bs gone left view k cookie there t at test =
     ∙ cookie_here bs gone k cookie there at
     ∙ ap (λ u. let o : Option Bool = Some u in o) test
 
--- a buffer comes with all its pages
-pub created_left : (bs : List Held) (gone : List ℕ) (c : Create) (pages : List Hold) → length gone ≡ length bs → left_in (with_buffer bs c pages) (gone ++ 0 ∷ []) ≡ with_buffer (left_in bs gone) c pages
-created_left [] [] c pages long = refl
-created_left [] (n ∷ ns) c pages long = absurd (omega (arith, long))
-created_left (b ∷ bs) [] c pages long = absurd (omega (arith, long))
-created_left (b ∷ bs) (n ∷ ns) c pages long = ap (λ cs. with_pages b (drop n b.pages) ∷ cs) (created_left bs ns c pages (omega (arith, long)))
+-- a buffer comes with its pages, less those that were given up
+pub created_left : (bs : List Held) (gone : List ℕ) (c : Create) (pages : List Hold) (less : ℕ) → length gone ≡ length bs → left_in (with_buffer bs c pages) (gone ++ less ∷ []) ≡ with_buffer (left_in bs gone) c (drop less pages)
+created_left [] [] c pages less long = refl
+created_left [] (n ∷ ns) c pages less long = absurd (omega (arith, long))
+created_left (b ∷ bs) [] c pages less long = absurd (omega (arith, long))
+created_left (b ∷ bs) (n ∷ ns) c pages less long = ap (λ cs. with_pages b (drop n b.pages) ∷ cs) (created_left bs ns c pages less (omega (arith, long)))
 
 -- one more page is given up
 less_here : (bs : List Held) (gone : List ℕ) (k : ℕ) → k < length gone → left_in bs (slice_set gone k (slice_index gone k + 1)) ≡ less_at (left_in bs gone) k

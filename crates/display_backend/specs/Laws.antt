@@ -1,8 +1,11 @@
--- What the pages of buffers come to.
+-- What the pages of buffers come to, and what a display tells that it holds.
 use Rattle.std.specs.Prelude.{◌≡◌, ℕ, List, [], ◌++◌, drop}
+use Rattle.pv_words.specs.declared.grant.Hold.{Hold}
 use Rattle.displ_wire.specs.declared.Create.{Create}
 use Rattle.display_buffers.specs.Buffers.{AreDistinct, cookies}
 use Rattle.page_directory.specs.Same.{AreSame}
+use Rattle.device_service.specs.Held as held
+use Rattle.display_backend.specs.declared.display.Display.{Display}
 use Rattle.display_backend.specs.Stock.{Stock, Held, pages_of, buffer_pages, pages_under, less_one, bared, stripped, without_first, created, destroyed}
 
 -- The first page that is given up is the first of all; what is left is the others, in order. With all of them given up the
@@ -26,3 +29,15 @@ KeepsPages =
     (s : Stock)
     → ((c : Create) → AreSame (pages_of s) (pages_of (created s c)))
     × ((cookie : ℕ) → AreDistinct (cookies s.buffers) → pages_under cookie s.buffers ≡ [] → AreSame (pages_of s) (pages_of (destroyed s cookie)))
+
+-- Whatever it has done and heard, where it stands by that its accesses hold so many pages; and they hold this page.
+abbrev pub HoldsAsMany : Display → ℕ → Type 0
+HoldsAsMany d n = held.HoldsAsMany d.backend n
+
+abbrev pub HoldsPage : Display → Hold → Type 0
+HoldsPage d h = held.HoldsPage d.backend h
+
+-- Wherever a display stands by what it has done and heard, the pages that it tells are just those that its accesses hold, each as
+-- often.
+abbrev pub TellsWhatIsHeld : Type 0
+TellsWhatIsHeld = (d : Display) → held.TellsWhatIsHeld d.backend

@@ -1,26 +1,25 @@
--- Replies.
-use Rattle.std.specs.Prelude.{ℕ, ℤ, Bool, List, Option, Some, None}
-use Rattle.pv_words.specs.declared.device.Said.{Said}
-use Rattle.pv_words.specs.declared.device.Said.TheVariants as said
+-- Replies, and what they make of the buffers.
+use Rattle.std.specs.Prelude.{ℕ, ℤ, Bool, true, List}
+use Rattle.displ_wire.specs.declared.Asked.{Asked}
+use Rattle.displ_wire.specs.declared.Asked.TheVariants as asked
 use Rattle.displ_wire.specs.declared.Request.{Request}
 use Rattle.displ_wire.specs.Wire.{reply_words}
-use Rattle.display_backend.specs.declared.display.Progress.{Progress}
-use Rattle.display_backend.specs.declared.display.Progress.TheVariants as progress
-use Rattle.display_backend.specs.Machine.{Hand, no_memory, no_access}
+use Rattle.display_buffers.specs.declared.live.Live.{Live}
+use Rattle.display_buffers.specs.Buffers.{with_buffer, without_buffer}
+use Rattle.display_backend.specs.Stock.{Stock, created, destroyed}
 
 -- the reply to a request
 abbrev pub reply_to : Request → ℤ → List ℕ
 reply_to q status = reply_words q.id q.op status
 
--- the status of the request in hand: its verdict, unless memory was wanting or a page was denied
-abbrev pub status_in : Progress → ℤ → ℤ
-status_in progress.Decided verdict = verdict
-status_in progress.NoMemory verdict = no_memory
-status_in progress.Denied verdict = no_access
-status_in progress.Mapped verdict = verdict
-status_in progress.Released verdict = verdict
+-- an accepted CREATE makes a buffer of the pages that were mapped for it, an accepted DESTROY takes one away
+abbrev pub stock_after : Stock → Asked → Bool → Stock
+stock_after s (asked.Create c) true = created s c
+stock_after s (asked.Destroy cookie) true = destroyed s cookie
+stock_after s asks accepted = s
 
--- what is said once the request in hand is answered
-abbrev pub replied : Option Hand → ℤ → Bool → Option Said
-replied None status notified = None
-replied (Some h) status notified = Some (said.Replied h.part h.request.id status notified)
+-- so it is in the rows, where the name of a buffer is the number of the reply that made it
+abbrev pub replied_to : List (Live ℕ) → ℕ → Asked → Bool → List (Live ℕ)
+replied_to bs number (asked.Create c) true = with_buffer bs c number
+replied_to bs number (asked.Destroy cookie) true = without_buffer cookie bs
+replied_to bs number asked accepted = bs

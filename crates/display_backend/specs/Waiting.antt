@@ -1,7 +1,9 @@
--- The events of a host that a display takes.
+-- The events of a host that a display takes, and what it says of them.
 use Rattle.std.specs.Prelude.{ℕ, nat_lt, Bool, false, Option, Some, None}
 use Rattle.pv_words.specs.declared.device.HostEvent.{HostEvent}
 use Rattle.pv_words.specs.declared.device.HostEvent.TheVariants as host
+use Rattle.pv_words.specs.declared.device.Said.{Said}
+use Rattle.pv_words.specs.declared.device.Said.TheVariants as said
 use Rattle.display_backend.specs.declared.waiting.Waiting.{Waiting}
 use Rattle.display_backend.specs.declared.waiting.Waiting.TheVariants as waiting
 
@@ -24,3 +26,9 @@ waiting_of (host.Touch t) = None
 waiting_of (host.Key code pressed) = None
 waiting_of (host.Motion x y z) = None
 waiting_of (host.Position x y z) = None
+
+-- A blank of a connector on which no flip is pending is only told; a connector without a picture shows no pixel, whose mark is 0. No
+-- flip is ever pending yet, and no connector has a picture.
+abbrev pub said_of : Waiting → Said
+said_of (waiting.Blank part) = said.Blank part
+said_of (waiting.Show part) = said.Shown part 0 0

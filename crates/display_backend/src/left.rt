@@ -1,6 +1,6 @@
 // The live buffers of a display, with what is left of the pages of each.
 
-ghost use Rattle.std.specs.Prelude.{◌≡◌, ◌<◌, ◌≤◌, ◌*◌, [], length, slice_get, is_some, Some, Ok, IfOk};
+ghost use Rattle.std.specs.Prelude.{◌≡◌, ◌<◌, ◌≤◌, ◌*◌, [], drop, length, slice_get, is_some, Some, Ok, IfOk};
 ghost use Rattle.display_buffers.specs.Buffers.{AreDistinct, buffer_of, check_of, cookies, has_cookie, with_buffer, without_buffer};
 ghost use Rattle.display_buffers.specs.Pixels.{page_count};
 ghost use Rattle.display_backend.specs.Stock.{buffer_pages, without_first_in};
@@ -63,14 +63,14 @@ impl LeftBuffers {
         self.buffers.get(cookie).is_some()
     }
 
-    // Makes the buffer that a CREATE asks for, of these pages.
-    pub(crate) fn create(&mut self, c: &Create, pages: Pages)
+    // Makes the buffer that a CREATE asks for, of these pages, of which so many were given up.
+    pub(crate) fn create(&mut self, c: &Create, pages: Pages, gone: u32)
         requires checked { check_of self.old c.now ≡ Ok tt }
         requires count { length pages ≡ page_count c.now.buffer_sz }
-        ensures { self.new ≡ with_buffer self.old c.now pages }
+        ensures { self.new ≡ with_buffer self.old c.now (drop gone pages) }
     {
         self.buffers.create(c, pages);
-        self.gone.push_reserved(0);
+        self.gone.push_reserved(gone);
     }
 
     // Takes away the buffer of a cookie.

@@ -1,14 +1,18 @@
 //! A display's backend, one step at a time.
 #![tactic(auto)]
 
+mod course;
 mod display;
 mod laws;
 mod left;
+mod service;
 mod store;
+mod verdict;
 mod waiting;
 
 pub use display::Display;
-pub use laws::{frees_in_order, gives_up_in_order, keeps_pages};
+pub use laws::{displays_run, frees_in_order, gives_up_in_order, keeps_pages, tells_what_is_held};
+pub use service::Service;
 
 #[cfg(test)]
 mod tests;

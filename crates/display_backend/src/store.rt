@@ -6,9 +6,8 @@ ghost use Rattle.display_buffers.specs.Pixels.{page_count};
 
 use crate::left::LeftBuffers;
 use displ_wire::{Create, Refused};
-use grant_table::unmap;
 use page_directory::Pages;
-use pv_words::{Access, Hold, Words};
+use pv_words::{Access, Hold, Words, unmap};
 use std::alloc::{AllocError, Global};
 
 /// The live buffers of a display, in order of creation, and the pages that are held for buffers. The room for all buffers
@@ -21,14 +20,14 @@ pub struct Store {
     mapped_gone: u32,
 }
 
-#[tactic(auto, unfolding(crate::specs::Store::is_whole, crate::specs::Store::stock_of))]
+#[tactic(auto, unfolding(crate::specs::Store::is_whole, crate::specs::Store::stock_of, crate::specs::Store::count_of))]
 impl Store {
     ghost use Rattle.std.specs.Prelude.{List};
     ghost use Rattle.pv_words.specs.declared.grant.Hold.{Hold};
     ghost use Rattle.pv_words.specs.Plan.{wanted};
-    ghost use Rattle.grant_table.specs.Mapping.{unmap_want};
+    ghost use Rattle.pv_words.specs.Mapping.{unmap_want};
     ghost use Rattle.display_backend.specs.Stock.{Stock, no_stock, pages_of, pages_under, less_one, without_first, created, destroyed};
-    ghost use Rattle.display_backend.specs.Store.{stock_of, is_whole};
+    ghost use Rattle.display_backend.specs.Store.{stock_of, is_whole, count_of};
 
     /// No buffer and no page.
     pub fn new(alloc: Global) -> Result<Store, AllocError>
@@ -58,9 +57,9 @@ impl Store {
 
     /// Keeps the pages that were mapped for a CREATE.
     pub fn keep(&mut self, pages: Pages)
-        requires { (stock_of self.old).mapped ≡ [] }
         ensures stock { stock_of self.new ≡ record { mapped = pages; buffers = (stock_of self.old).buffers } }
         ensures whole { is_whole self.new ≡ true }
+        ensures count { count_of self.new ≡ length pages }
     {
         self.mapped = Some(pages);
         self.mapped_gone = 0;
@@ -69,15 +68,15 @@ impl Store {
     /// Makes the buffer that a CREATE asks for, of the pages that were mapped for it.
     pub fn create(&mut self, c: &Create)
         requires checked { check_of (stock_of self.old).buffers c.now ≡ Ok tt }
-        requires count { length (stock_of self.old).mapped ≡ page_count c.now.buffer_sz }
-        requires whole { is_whole self.old ≡ true }
+        requires count { count_of self.old ≡ page_count c.now.buffer_sz }
         ensures stock { stock_of self.new ≡ created (stock_of self.old) c.now }
         ensures still { is_whole self.new ≡ true }
     {
         let Some(pages) = self.mapped.take() else {
             unreachable!();
         };
-        self.buffers.create(c, pages);
+        self.buffers.create(c, pages, self.mapped_gone);
+        self.mapped_gone = 0;
     }
 
     /// Takes away the buffer of a cookie, whose pages are given up.
@@ -159,6 +158,7 @@ impl Store {
         ensures access { (h : Hold) → slice_get (pages_of (stock_of self.old)) 0 ≡ Some h → wanted result ≡ unmap_want h }
         ensures made { W.makes words.old result words.new }
         ensures stock { stock_of self.new ≡ without_first (stock_of self.old) }
+        ensures count { count_of self.new ≡ count_of self.old }
     {
         let hold = self.hold_at(0);
         if self.mapped_held() > 0 {

@@ -1,8 +1,7 @@
 //! The host's events that wait.
 
 ghost use Rattle.std.specs.Prelude.{◌≡◌};
-ghost use Rattle.display_backend.specs.Waiting.{waiting_of};
-ghost use Rattle.display_backend.specs.Work.{said_of};
+ghost use Rattle.display_backend.specs.Waiting.{said_of, waiting_of};
 
 use pv_words::{HostEvent, Said};
 

@@ -11,7 +11,7 @@ use Rattle.pv_words.proofs.Keeping.{open_word}
 use Rattle.grant_table.specs.declared.owner.Owned.TheVariants.{Opened, AlreadyOpen, Ended, Busy, Moved}
 use Rattle.grant_table.specs.Laws.{PermitsAtEntry, EndsAtEntry, OpensExactly, FreesExactly}
 use Rattle.grant_table.specs.Owning.{name_plan}
-use Rattle.grant_table.proofs.Bits.{without_used}
+use Rattle.pv_words.proofs.Bits.{without_used}
 
 pub permits_at_entry : PermitsAtEntry
 permits_at_entry dom gref frame mode = ((refl, refl), λ v. by v (v == 0))

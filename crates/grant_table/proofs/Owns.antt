@@ -10,10 +10,10 @@ use Rattle.grant_table.specs.declared.owner.Owned.{Owned}
 use Rattle.grant_table.specs.declared.owner.Owned.TheVariants.{AlreadyOpen}
 use Rattle.grant_table.specs.declared.owner.OwnerStage.{OwnerStage}
 use Rattle.grant_table.specs.declared.owner.OwnerStage.TheVariants as stage
-use Rattle.grant_table.specs.Flags.{flags_place, frame_place, used}
+use Rattle.pv_words.specs.Flags.{flags_place, frame_place, used}
 use Rattle.grant_table.specs.Owning.{permit_plan, name_plan, open_plan, end_plan, close_plan, granting, opened_at, ended_at}
 use Rattle.grant_table.specs.OwnerLeft.{permit_rest, end_rest}
-use Rattle.grant_table.proofs.Plans.{goes_from}
+use Rattle.pv_words.proofs.Plans.{goes_from}
 
 module _ (dom gref : ℕ) (s : OwnerStage) where
   pub start_head : (frame : Frame) (mode : Mode) → s ≡ stage.Start frame mode → permit_rest dom gref s ≡ permit_plan dom gref frame.0 mode

@@ -1,6 +1,3 @@
-pub mod Flags
 pub mod Laws
-pub mod MapLeft
-pub mod Mapping
 pub mod OwnerLeft
 pub mod Owning

@@ -7,7 +7,7 @@ use Rattle.pv_words.specs.Plan.{Plan, Finished, Make, Load, Store, Swap, Plain}
 pub use Rattle.pv_words.specs.Port.{granting}
 use Rattle.grant_table.specs.declared.owner.Owned.{Owned}
 use Rattle.grant_table.specs.declared.owner.Owned.TheVariants.{Opened, AlreadyOpen, Ended, Busy, Moved}
-use Rattle.grant_table.specs.Flags.{flags_place, frame_place, has, used}
+use Rattle.pv_words.specs.Flags.{flags_place, frame_place, has, used}
 
 abbrev pub opened_at : ℕ → Owned
 opened_at seen = if seen == 0 then Opened else AlreadyOpen seen

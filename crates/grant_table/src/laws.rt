@@ -1,25 +1,6 @@
-//! What maps and ends come to.
+//! What ends and permits come to.
 
-ghost use Rattle.grant_table.specs.Laws.{RefusesExactly, MapsExactly, MapsShow, SucceedsExactly, HoldsExactly, UnmapsExactly, EndsExactly, GrantsExactly, PermitsAtEntry, EndsAtEntry, OpensExactly, FreesExactly};
-
-/// A flags' word is refused for some reason exactly where it doesn't permit the mode. A map comes to the first refusal
-/// that applies to the words that it found, or else to a hold of the frame that it found: that exactly where the domain has
-/// the entry, the flags' word that it loaded permits the mode, its exchange saw the same word, and the domain has the frame.
-/// A refusal tells the words that the map found.
-pub fn maps_exactly()
-    ensures refused { RefusesExactly }
-    ensures comes_to { MapsExactly }
-    ensures held { SucceedsExactly }
-    ensures shown { MapsShow }
-{}
-
-/// By the accesses of a map a device holds one page more where the map succeeds, and what it held before where it is
-/// refused; each access stays in the domain's grant entries, and a refusal shows its cause. By an unmap it holds one page
-/// less.
-pub fn holds_exactly()
-    ensures maps { HoldsExactly }
-    ensures unmaps { UnmapsExactly }
-{}
+ghost use Rattle.grant_table.specs.Laws.{EndsExactly, GrantsExactly, PermitsAtEntry, EndsAtEntry, OpensExactly, FreesExactly};
 
 /// An end answers Ended exactly where its exchange frees the entry, in which it saw no in-use bit, and Busy exactly
 /// where it saw one. With any other answer than Ended the flags' word is as the exchange saw it.

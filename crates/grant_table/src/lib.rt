@@ -3,12 +3,11 @@
 #![tactic(auto)]
 
 pub mod laws;
-pub mod map;
 pub mod owner;
 
-pub use laws::{ends_exactly, grants_exactly, holds_exactly, maps_exactly, owns_exactly};
-pub use map::{MapStep, unmap};
+pub use laws::{ends_exactly, grants_exactly, owns_exactly};
 pub use owner::{Owned, OwnerStep};
+pub use pv_words::{MapStep, unmap};
 
 #[cfg(test)]
 mod tests;

@@ -1,8 +1,10 @@
-ghost use Rattle.std.proofs.Common.{inl, refl};
-ghost use Rattle.std.proofs.lemmas.Bool.{false≢true};
+ghost use Rattle.std.proofs.Common.{refl};
 
 use super::*;
-use pv_words::{DomId, Frame, GrantRef, GrantRefusal, Half, Hold, Mode, Place, Words};
+use pv_words::{
+    DomId, Frame, GrantRef, GrantRefusal, Half, Hold, Mode, Place, Words, holds_exactly,
+    maps_exactly,
+};
 
 // One entry of a domain with 8 grant entries and 4 frames. Another word comes to stand there before the next exchange.
 #[derive(Drop)]
@@ -13,15 +15,14 @@ struct Entry {
 }
 
 impl Words for Entry {
-    ghost use Rattle.std.specs.Prelude.{true, None, false};
-    ghost use Rattle.pv_words.specs.Port.{no_listing};
-    ghost use Rattle.pv_words.specs.declared.access.Access.TheVariants.{Load, Store, Cas, Clear};
+    ghost use Rattle.pv_words.specs.FreePort.{free_port};
+    ghost use Rattle.pv_words.proofs.FreePort.{stays_free, finds_any};
 
     ghost frames_of = { λ w d. 4 };
 
     ghost grants_of = { λ w d. 8 };
 
-    ghost port = { λ w. record { device = None; serves = λ dom. true; everywhere = true; keeps = λ dom. false; opens = λ dom gref. None; listed = λ d. no_listing; told = λ at. None } };
+    ghost port = { λ w. free_port };
 
     ghost may = { λ w want. Unit {0} };
 
@@ -33,9 +34,9 @@ impl Words for Entry {
 
     ghost allows = { λ w want h. tt };
 
-    ghost leaves = { λ old a new made. record { device = refl; serves = λ dom. refl; everywhere = refl; keeps = λ dom. refl; opens = λ dom gref e. absurd (false≢true e); told = λ at v range e unwritten learns. absurd (false≢true e); listed = inl (refl, λ dom. refl) } };
+    ghost leaves = { λ old a new made. stays_free _ _ a };
 
-    ghost tells = { λ old. elim [ Load at v ↦ λ new made. (tt, tt) | Store at v ↦ λ new made. tt | Cas at from to seen ↦ λ new made. (tt, tt) | Clear at mask seen ↦ λ new made. (tt, tt) ] };
+    ghost tells = { λ old a new made. finds_any a };
 
     fn load(&mut self, at: Place) -> u32 {
         match at {
@@ -78,7 +79,7 @@ impl Words for Entry {
 }
 
 // What a map comes to.
-#[tactic(auto, using(crate::proofs::Plans::may_any))]
+#[tactic(auto, using(pv_words::proofs::Plans::may_any))]
 fn mapped(entry: &mut Entry, gref: u32, mode: Mode) -> Option<Result<Hold, GrantRefusal>> {
     let mut step = MapStep::new(DomId(1), GrantRef(gref), mode);
     for _ in 0..4 {
@@ -91,7 +92,7 @@ fn mapped(entry: &mut Entry, gref: u32, mode: Mode) -> Option<Result<Hold, Grant
 }
 
 // What a permit of frame 2 comes to.
-#[tactic(auto, using(crate::proofs::Plans::may_any))]
+#[tactic(auto, using(pv_words::proofs::Plans::may_any))]
 fn permitted(entry: &mut Entry, mode: Mode) -> Option<Owned> {
     let mut step = OwnerStep::permit(DomId(1), GrantRef(3), Frame(2), mode);
     for _ in 0..3 {
@@ -104,7 +105,7 @@ fn permitted(entry: &mut Entry, mode: Mode) -> Option<Owned> {
 }
 
 // What an end comes to.
-#[tactic(auto, using(crate::proofs::Plans::may_any))]
+#[tactic(auto, using(pv_words::proofs::Plans::may_any))]
 fn ended(entry: &mut Entry) -> Option<Owned> {
     let mut step = OwnerStep::end(DomId(1), GrantRef(3));
     for _ in 0..2 {

@@ -4,7 +4,8 @@
 #![tactic(auto)]
 
 ghost use Rattle.std.specs.Prelude.{◌≡◌, ◌↔◌, IsNone};
-ghost use Rattle.kbd_wire.specs.Wire.{event_of, event_words, is_set, touch_at, touch_words, axes_words, EventsReadBack, IsNoEvent, WordsReadBack};
+ghost use Rattle.kbd_wire.specs.Wire.{event_of, event_words, is_set, touch_at, touch_words};
+ghost use Rattle.kbd_wire.specs.Wire.{axes_words, EventsReadBack, IsNoEvent, WordsReadBack};
 
 mod fields;
 

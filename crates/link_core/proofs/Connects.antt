@@ -8,8 +8,8 @@ use Rattle.pv_words.specs.declared.grant.GrantRefusal.TheVariants.{NoEntry}
 use Rattle.pv_words.specs.declared.grant.Hold.{Hold}
 use Rattle.pv_words.specs.declared.grant.Mode.TheVariants.{Write}
 use Rattle.pv_words.specs.Plan.{Plan, Finished, Make, Want, Goes, IsUnfinished, MayGo, joined}
-use Rattle.grant_table.specs.Mapping.{Advances, HoldsByAccess, map_plan, flags_plan}
-use Rattle.grant_table.specs.MapLeft.{map_left}
+use Rattle.pv_words.specs.Mapping.{Advances, HoldsByAccess, map_plan, flags_plan}
+use Rattle.pv_words.specs.MapLeft.{map_left}
 use Rattle.link_core.specs.declared.link.Kept.TheVariants as kept
 use Rattle.link_core.specs.declared.link.Link.{Link}
 use Rattle.link_core.specs.declared.link.Stage.{Stage}

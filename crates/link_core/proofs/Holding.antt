@@ -1,23 +1,15 @@
 -- What a link holds while a Connect is under way: what is left of it tells what is held.
-use Rattle.std.proofs.Common.{◌≡◌, ◌⊎◌, inl, inr, ℕ, suc, ◌+◌, ◌==◌, ◌&&◌, Bool, true, false, cond, nat_lt, List, [], ◌∷◌, ◌++◌, Option, Some, None, Result, Ok, Err, refl, sym, ap, subst, ◌∙◌, arith}
+use Rattle.std.proofs.Common.{◌≡◌, ◌⊎◌, inl, inr, ℕ, true, nat_lt, List, [], ◌∷◌, ◌++◌, Option, Some, refl, sym, ap, subst, ◌∙◌}
 use Rattle.std.proofs.lemmas.Bool.{false≢true}
-use Rattle.std.proofs.lemmas.Bool.Decides.{nat_tests}
-use Rattle.pv_words.specs.declared.access.Access.{Access}
 use Rattle.pv_words.specs.declared.grant.GrantRefusal.{GrantRefusal}
-use Rattle.pv_words.specs.declared.grant.GrantRefusal.TheVariants.{NoEntry, NotPermitted, Moved, BadFrame}
 use Rattle.pv_words.specs.declared.grant.Hold.{Hold}
-use Rattle.pv_words.specs.declared.grant.Mode.{Mode}
-use Rattle.pv_words.specs.declared.grant.Mode.TheVariants.{Read, Write}
-use Rattle.pv_words.specs.Held.{Begun, Holds, begins, exchanged, framed, holding, in_use, kept, passed, unmissed}
-use Rattle.pv_words.specs.Plan.{Plan, Finished, Make, Note, FitsFrom, Want, found, joined}
+use Rattle.pv_words.specs.declared.grant.Mode.TheVariants.{Write}
+use Rattle.pv_words.specs.Held.{Holds, holding, kept}
+use Rattle.pv_words.specs.Plan.{Note, FitsFrom, Want}
 use Rattle.pv_words.proofs.Fits.{fits_first}
-use Rattle.grant_table.proofs.Refusing.{map_none, start_none}
-use Rattle.grant_table.specs.declared.map.MapStage.{MapStage}
-use Rattle.grant_table.specs.declared.map.MapStage.TheVariants as map_stage
-use Rattle.grant_table.specs.declared.map.MapStep.{MapStep}
-use Rattle.grant_table.specs.Mapping.{flags_plan, map_plan, frame_plan, hold_of, undo_plan}
-use Rattle.grant_table.specs.MapLeft.{is_last, is_over, map_left, map_rest}
-use Rattle.grant_table.specs.MapLeft as mapping
+use Rattle.pv_words.proofs.Refusing.{map_none, start_none}
+use Rattle.pv_words.specs.Mapping.{map_plan}
+use Rattle.pv_words.specs.MapLeft.{map_left}
 use Rattle.link_core.specs.declared.link.Link.{Link}
 use Rattle.link_core.specs.declared.link.Stage.{Stage}
 use Rattle.link_core.specs.declared.link.Stage.TheVariants as stage

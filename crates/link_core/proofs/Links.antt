@@ -1,8 +1,8 @@
 -- A link that rests has the whole of each activity before it; what it holds.
 use Rattle.pv_words.specs.declared.grant.Mode.TheVariants.{Write}
 use Rattle.pv_words.specs.Plan.{Plan, Finished, Make, joined}
-use Rattle.grant_table.specs.Mapping.{map_plan}
-use Rattle.grant_table.specs.MapLeft.{map_left}
+use Rattle.pv_words.specs.Mapping.{map_plan}
+use Rattle.pv_words.specs.MapLeft.{map_left}
 use Rattle.std.proofs.Common.{◌≡◌, ◌≢◌, ℕ, ◌<◌, ◌++◌, true, List, [], ◌∷◌, Option, Some, None, Result, Ok, Err, length, slice_get, refl, ap, subst, ◌∙◌, arith, ◌≤◌}
 use Rattle.std.proofs.lemmas.Bool.{false≢true}
 use Rattle.pv_words.specs.declared.grant.GrantRefusal.{GrantRefusal}

@@ -10,11 +10,11 @@ use Rattle.pv_words.specs.declared.grant.Mode.{Mode}
 use Rattle.pv_words.specs.declared.grant.Mode.TheVariants.{Read, Write}
 use Rattle.pv_words.specs.declared.place.Place.{Place}
 use Rattle.pv_words.specs.Held.{Covers, Has, Holds, IsProper, holding, holds_of, same_hold, same_mode, unheld}
-use Rattle.pv_words.specs.Plan.{Plan, Finished, Make, Want, Load, Store, Note, Plain, FitsFrom, found, mapped, joined}
+use Rattle.pv_words.specs.Plan.{Plan, Finished, Want, Load, Store, Note, Plain, FitsFrom}
 pub use Rattle.pv_words.proofs.Fits.{fits_mapped, fits_joined, fits_so}
-use Rattle.grant_table.specs.Laws.{IsHold, IsCause, IsResult, with_result}
-use Rattle.grant_table.specs.Mapping.{map_plan}
-use Rattle.grant_table.proofs.Holdings.{holds_exactly, unmaps_exactly}
+use Rattle.pv_words.specs.MapLaws.{IsHold, IsCause, IsResult, with_result}
+use Rattle.pv_words.specs.Mapping.{map_plan}
+use Rattle.pv_words.proofs.Holdings.{holds_exactly, unmaps_exactly}
 use Rattle.link_core.specs.Activities.{Connected, Joined, Joins, Refuses, hold_list, page_at, pages_of, word_of, loads, stores, prod_plan, with_event, event_map_plan, rsp_plan, with_ring, connect_plan, unmaps}
 use Rattle.link_core.specs.Laws.{AreOf, ConnectsExactly, DropsExactly, IsEnd, IsRefused, IsRing, kept_by}
 

@@ -1,6 +1,5 @@
 -- What the words show that an activity found, and that it touches no word of a name.
-use Rattle.std.proofs.Common.{◌≡◌, ◌⊎◌, inl, inr, ℕ, zero, suc, ◌+◌, List, [], ◌∷◌, ◌++◌, Option, Some, None, Result, Ok, Err, refl}
-use Rattle.pv_words.specs.declared.access.Access.{Access}
+use Rattle.std.proofs.Common.{◌≡◌, inl, inr, ℕ, zero, suc, ◌+◌, List, [], ◌∷◌, ◌++◌, Option, Some, None, Result, Ok, Err, refl}
 use Rattle.pv_words.specs.declared.grant.GrantRefusal.{GrantRefusal}
 use Rattle.pv_words.specs.declared.grant.Hold.{Hold}
 use Rattle.pv_words.specs.declared.grant.Mode.TheVariants.{Write}
@@ -8,10 +7,10 @@ use Rattle.pv_words.specs.declared.place.Place.{Place}
 use Rattle.pv_words.specs.Found.{Found, finding}
 use Rattle.pv_words.specs.Plan.{Plan, Finished, Make, Note, Fits, FitsFrom, IsUntouched, found, joined}
 use Rattle.pv_words.proofs.Fits.{fits_then}
-use Rattle.grant_table.specs.Laws.{IsShown, Shows}
-use Rattle.grant_table.specs.Mapping.{map_plan}
-use Rattle.grant_table.proofs.Shown.{maps_show}
-use Rattle.link_core.specs.Activities.{Connected, Joins, Refuses, Page, loads, stores, take_plan, answer_plan, sleep_plan, with_event, event_map_plan, with_ring, connect_plan, slot_place, publish_plan, unmaps}
+use Rattle.pv_words.specs.MapLaws.{IsShown, Shows}
+use Rattle.pv_words.specs.Mapping.{map_plan}
+use Rattle.pv_words.proofs.Shown.{maps_show}
+use Rattle.link_core.specs.Activities.{Connected, Page, loads, stores, take_plan, answer_plan, sleep_plan, with_event, event_map_plan, with_ring, slot_place, publish_plan, unmaps}
 use Rattle.link_core.specs.Laws.{ConnectsShow, LooksShow, HasShown}
 
 -- an activity that touches no word of a name, with what it found at its ends

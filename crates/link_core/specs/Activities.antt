@@ -7,7 +7,7 @@ use Rattle.pv_words.specs.declared.grant.Mode.TheVariants.{Write}
 use Rattle.pv_words.specs.declared.place.Place.{Place}
 use Rattle.pv_words.specs.declared.place.Place.TheVariants.{Cell}
 use Rattle.pv_words.specs.Plan.{Plan, Finished, Make, Load, Store, Plain, Ends, joined}
-use Rattle.grant_table.specs.Mapping.{map_plan, unmap_want}
+use Rattle.pv_words.specs.Mapping.{map_plan, unmap_want}
 use Rattle.ring_words.specs.declared.Looked.{Looked}
 use Rattle.ring_words.specs.Ring.{looked_of, next_index, notifies, slot_of}
 

@@ -6,7 +6,7 @@ use Rattle.pv_words.specs.declared.grant.Mode.TheVariants.{Write}
 use Rattle.pv_words.specs.Found.{Found, finding}
 use Rattle.pv_words.specs.Held.{Holds, IsProper, holding, holds_of}
 use Rattle.pv_words.specs.Plan.{Finished, FitsFrom, IsUntouched}
-use Rattle.grant_table.specs.Laws.{IsHold, IsCause, IsShown}
+use Rattle.pv_words.specs.MapLaws.{IsHold, IsCause, IsShown}
 use Rattle.ring_words.specs.Ring.{looked_of}
 use Rattle.link_core.specs.declared.link.Link.{Link}
 use Rattle.link_core.specs.Activities.{Connected, Joins, Refuses, Page, pages_of, connect_plan, look_plan, unmaps}

@@ -1,11 +1,12 @@
 -- What a link holds, and what it has still to do of each activity.
 use Rattle.std.specs.Prelude.{◌≡◌, ℕ, ◌-◌, ◌==◌, Bool, true, false, List, [], ◌∷◌, take, drop, if◌then◌else◌, Option, Some, None, Result, Ok, Err, length}
 use Rattle.pv_words.specs.declared.access.Access.{Access}
+use Rattle.pv_words.specs.declared.access.Turn.{Turn}
 use Rattle.pv_words.specs.declared.grant.GrantRefusal.{GrantRefusal}
 use Rattle.pv_words.specs.declared.grant.Hold.{Hold}
 use Rattle.pv_words.specs.declared.place.GrantRef.{GrantRef}
-use Rattle.pv_words.specs.Plan.{Plan, Finished, Goes, IsUnfinished, joined}
-use Rattle.grant_table.specs.MapLeft.{map_left}
+use Rattle.pv_words.specs.Plan.{Plan, Want, Finished, Goes, IsUnfinished, MayGo, joined}
+use Rattle.pv_words.specs.MapLeft.{map_left}
 use Rattle.ring_words.specs.Ring.{next_index}
 use Rattle.link_core.specs.declared.link.Link.{Link}
 use Rattle.link_core.specs.declared.link.Stage.{Stage}
@@ -126,6 +127,33 @@ end_of l (Err r) = Refuses (held_of l) r
 abbrev pub ending_of : Link → Option (Result (Unit {0}) GrantRefusal) → Option Connected
 ending_of l None = None
 ending_of l (Some r) = Some (end_of l r)
+
+-- what is left over a port, each of whose domains has so many frames and grant entries: of a Connect, and of the map that
+-- is under way in it
+abbrev pub connect_left_by : (frames grants : ℕ → ℕ) → Option ℕ → ℕ → Link → Plan Connected
+connect_left_by frames grants ring event l = connect_left (frames (dom_of l)) (grants (dom_of l)) ring event l
+
+abbrev pub connect_map_left : (frames grants : ℕ → ℕ) → Link → Plan (Result Hold GrantRefusal)
+connect_map_left frames grants l = map_left (frames (dom_of l)) (grants (dom_of l)) l.map
+
+-- the next access of a Connect may be made through such a port
+abbrev pub MayConnectBy : (Want → Type 0) → (frames grants : ℕ → ℕ) → Option ℕ → ℕ → Link → Type 0
+MayConnectBy may frames grants ring event l = MayGo may (connect_left_by frames grants ring event l)
+
+-- A step of a Connect leads from what was left of it to what is left of it then, or to its end: where the domain has so
+-- many frames and grant entries, over such a port, and the same whatever ring, or ring and event page, the Connect is for.
+abbrev pub ConnectsOn : (frames grants : ℕ) → Option ℕ → ℕ → (old : Link) → Turn (Result (Unit {0}) GrantRefusal) → (new : Link) → Type 0
+ConnectsOn frames grants ring event old turn new =
+    Leads (connect_left frames grants ring event old) turn.access (ending_of new turn.done) (connect_left frames grants ring event new)
+
+abbrev pub ConnectsOnBy : (frames grants : ℕ → ℕ) → Option ℕ → ℕ → (old : Link) → Turn (Result (Unit {0}) GrantRefusal) → (new : Link) → Type 0
+ConnectsOnBy frames grants ring event old turn new = ConnectsOn (frames (dom_of old)) (grants (dom_of old)) ring event old turn new
+
+abbrev pub ConnectsAnyRingBy : (frames grants : ℕ → ℕ) → ℕ → (old : Link) → Turn (Result (Unit {0}) GrantRefusal) → (new : Link) → Type 0
+ConnectsAnyRingBy frames grants event old turn new = (ring : Option ℕ) → ConnectsOnBy frames grants ring event old turn new
+
+abbrev pub ConnectsAnyBy : (frames grants : ℕ → ℕ) → (old : Link) → Turn (Result (Unit {0}) GrantRefusal) → (new : Link) → Type 0
+ConnectsAnyBy frames grants old turn new = (ring : Option ℕ) (event : ℕ) → ConnectsOnBy frames grants ring event old turn new
 
 -- what is left of a Drop: every page that is held is unmapped
 unfoldable pub drop_left : Link → Plan (Unit {0})

@@ -1,12 +1,13 @@
 //! A device's end of one request ring and of one event page.
 
-ghost use Rattle.std.specs.Prelude.{◌≡◌, ℕ, [], Option, ◌+◌, ◌<◌, IsTrue, true, false, OnSome, IsSome, is_some, length, List, Some, None, Ok, Err, slice_get, ◌≤◌, if◌then◌else◌};
-ghost use Rattle.grant_table.specs.MapLeft as mapping;
+ghost use Rattle.std.specs.Prelude.{◌≡◌, ℕ, [], Option, ◌+◌, ◌<◌, ◌≤◌, IsTrue, true, false, length, List, Some, None, Ok, Err};
+ghost use Rattle.pv_words.specs.MapLeft as mapping;
 ghost use Rattle.pv_words.specs.declared.grant.Mode.TheVariants.{Write};
 ghost use Rattle.link_core.specs.Stage.{length_of, taken_in, answered_in, slept_in, agrees, and_event};
 
-use grant_table::{MapStep, unmap};
-use pv_words::{Access, DomId, Frame, GrantRef, GrantRefusal, Hold, Mode, Place, Turn, Words};
+use pv_words::{
+    Access, DomId, Frame, GrantRef, GrantRefusal, Hold, MapStep, Mode, Place, Turn, Words, unmap,
+};
 use ring_words::{BackRing, Looked, REQ_EVENT, REQ_PROD, RSP_EVENT, RSP_PROD, must_notify};
 
 /// The word of an event page with the index up to which the backend wrote events.
@@ -78,15 +79,18 @@ pub struct Link {
 }
 
 impl Link {
+    ghost use Rattle.std.specs.Prelude.{OnSome, IsSome, is_some, slice_get, if◌then◌else◌};
     ghost use Rattle.pv_words.specs.Plan.{Plan, MayGo, Turns, Makes};
     ghost use Rattle.ring_words.specs.declared.Looked.{Looked};
     ghost use Rattle.ring_words.specs.Ring.{next_index};
-    ghost use Rattle.grant_table.specs.Mapping.{map_plan};
     ghost use Rattle.link_core.specs.Stays.{AccessIn};
     ghost use Rattle.link_core.specs.declared.link.Kept.TheVariants as kept;
     ghost use Rattle.link_core.specs.declared.link.Stage.TheVariants as stage;
     ghost use Rattle.link_core.specs.Activities.{Page, Joined, look_plan, take_plan, answer_plan, sleep_plan, pages_of};
-    ghost use Rattle.link_core.specs.Link.{dom_of, part_of, held_of, is_joined, joined_of, page_of, rsp_of, take_left, answer_left, sleep_left, idle, connect_left, drop_left, Leads, refs_of, ending_of, rest_of, answered_of, Keeps, AfterConnect, rings, Came, CameBy};
+    ghost use Rattle.link_core.specs.Link.{dom_of, part_of, held_of, is_joined, joined_of, page_of, rsp_of, idle};
+    ghost use Rattle.link_core.specs.Link.{take_left, answer_left, sleep_left, Keeps, answered_of, drop_left, Leads, rest_of};
+    ghost use Rattle.link_core.specs.Link.{connect_map_left, refs_of, MayConnectBy, AfterConnect, rings, Came, CameBy};
+    ghost use Rattle.link_core.specs.Link.{ConnectsOn, ConnectsOnBy, ConnectsAnyRingBy, ConnectsAnyBy};
 
     /// The link of this part of a device of the domain, which holds no page. It stays that part's.
     pub fn new(dom: DomId, part: u8) -> Link
@@ -194,7 +198,7 @@ impl Link {
         ensures ring { self.new.ring ≡ 0 }
         ensures dom { self.new.dom ≡ self.old.dom }
         ensures part { part_of self.new ≡ part_of self.old }
-        ensures map { (frames grants : ℕ) → mapping.map_left frames grants self.new.map ≡ map_plan frames grants self.old.dom.0 gref.0 Write }
+        ensures map { mapping.BeginsMap self.old.dom.0 gref.0 Write self.new.map }
     {
         self.kept = Kept::Nothing;
         self.joined = false;
@@ -207,8 +211,8 @@ impl Link {
     // The map of the ring's page.
     fn ring_step<W: Words>(&mut self, words: &mut W) -> Turn<Result<(), GrantRefusal>>
         requires stage { self.old.stage ≡ stage.Ring }
-        requires may { MayGo (W.may words.old) (mapping.map_left (W.frames_of words.old (dom_of self.old)) (W.grants_of words.old (dom_of self.old)) self.old.map) }
-        ensures leads { (ring : Option ℕ) (event : ℕ) → Leads (connect_left (W.frames_of words.old (dom_of self.old)) (W.grants_of words.old (dom_of self.old)) ring event self.old) result.access (ending_of self.new result.done) (connect_left (W.frames_of words.old (dom_of self.old)) (W.grants_of words.old (dom_of self.old)) ring event self.new) }
+        requires may { MayGo (W.may words.old) (connect_map_left (W.frames_of words.old) (W.grants_of words.old) self.old) }
+        ensures leads { ConnectsAnyBy (W.frames_of words.old) (W.grants_of words.old) self.old result self.new }
         ensures made { Makes W.makes words.old result.access words.new }
         ensures stays { (held : List Hold) → AccessIn held result.access }
         ensures dom { dom_of self.new ≡ dom_of self.old }
@@ -247,8 +251,8 @@ impl Link {
         event: GrantRef,
     ) -> Turn<Result<(), GrantRefusal>>
         requires stage { self.old.stage ≡ stage.Index }
-        requires may { MayGo (W.may words.old) (connect_left (W.frames_of words.old (dom_of self.old)) (W.grants_of words.old (dom_of self.old)) None event.0 self.old) }
-        ensures leads { (ring : Option ℕ) → Leads (connect_left (W.frames_of words.old (dom_of self.old)) (W.grants_of words.old (dom_of self.old)) ring event.0 self.old) result.access (ending_of self.new result.done) (connect_left (W.frames_of words.old (dom_of self.old)) (W.grants_of words.old (dom_of self.old)) ring event.0 self.new) }
+        requires may { MayConnectBy (W.may words.old) (W.frames_of words.old) (W.grants_of words.old) None event.0 self.old }
+        ensures leads { ConnectsAnyRingBy (W.frames_of words.old) (W.grants_of words.old) event.0 self.old result self.new }
         ensures made { Makes W.makes words.old result.access words.new }
         ensures stays { AccessIn (held_of self.old) result.access }
         ensures dom { dom_of self.new ≡ dom_of self.old }
@@ -277,8 +281,8 @@ impl Link {
     // The map of the event page.
     fn event_step<W: Words>(&mut self, words: &mut W) -> Turn<Result<(), GrantRefusal>>
         requires stage { self.old.stage ≡ stage.Event }
-        requires may { MayGo (W.may words.old) (mapping.map_left (W.frames_of words.old (dom_of self.old)) (W.grants_of words.old (dom_of self.old)) self.old.map) }
-        ensures leads { (ring : Option ℕ) (event : ℕ) → Leads (connect_left (W.frames_of words.old (dom_of self.old)) (W.grants_of words.old (dom_of self.old)) ring event self.old) result.access (ending_of self.new result.done) (connect_left (W.frames_of words.old (dom_of self.old)) (W.grants_of words.old (dom_of self.old)) ring event self.new) }
+        requires may { MayGo (W.may words.old) (connect_map_left (W.frames_of words.old) (W.grants_of words.old) self.old) }
+        ensures leads { ConnectsAnyBy (W.frames_of words.old) (W.grants_of words.old) self.old result self.new }
         ensures made { Makes W.makes words.old result.access words.new }
         ensures stays { (held : List Hold) → AccessIn held result.access }
         ensures dom { dom_of self.new ≡ dom_of self.old }
@@ -313,8 +317,8 @@ impl Link {
     // The load of in_prod.
     fn prod_step<W: Words>(&mut self, words: &mut W) -> Turn<Result<(), GrantRefusal>>
         requires stage { self.old.stage ≡ stage.Prod }
-        requires may { MayGo (W.may words.old) (connect_left (W.frames_of words.old (dom_of self.old)) (W.grants_of words.old (dom_of self.old)) None 0 self.old) }
-        ensures leads { (frames grants : ℕ) (ring : Option ℕ) (event : ℕ) → Leads (connect_left frames grants ring event self.old) result.access (ending_of self.new result.done) (connect_left frames grants ring event self.new) }
+        requires may { MayConnectBy (W.may words.old) (W.frames_of words.old) (W.grants_of words.old) None 0 self.old }
+        ensures leads { (frames grants : ℕ) (ring : Option ℕ) (event : ℕ) → ConnectsOn frames grants ring event self.old result self.new }
         ensures made { Makes W.makes words.old result.access words.new }
         ensures stays { AccessIn (held_of self.old) result.access }
         ensures dom { dom_of self.new ≡ dom_of self.old }
@@ -344,8 +348,8 @@ impl Link {
         ring: Option<GrantRef>,
         event: GrantRef,
     ) -> Turn<Result<(), GrantRefusal>>
-        requires { MayGo (W.may words.old) (connect_left (W.frames_of words.old (dom_of self.old)) (W.grants_of words.old (dom_of self.old)) (refs_of ring) event.0 self.old) }
-        ensures leads { Leads (connect_left (W.frames_of words.old (dom_of self.old)) (W.grants_of words.old (dom_of self.old)) (refs_of ring) event.0 self.old) result.access (ending_of self.new result.done) (connect_left (W.frames_of words.old (dom_of self.old)) (W.grants_of words.old (dom_of self.old)) (refs_of ring) event.0 self.new) }
+        requires { MayConnectBy (W.may words.old) (W.frames_of words.old) (W.grants_of words.old) (refs_of ring) event.0 self.old }
+        ensures leads { ConnectsOnBy (W.frames_of words.old) (W.grants_of words.old) (refs_of ring) event.0 self.old result self.new }
         ensures made { Makes W.makes words.old result.access words.new }
         ensures stays { AccessIn (held_of self.old) result.access }
         ensures dom { dom_of self.new ≡ dom_of self.old }

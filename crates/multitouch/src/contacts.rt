@@ -1,9 +1,11 @@
 //! Contacts and keys, with the groups that wait.
 
-ghost use Rattle.std.specs.Prelude.{◌≡◌, ◌≤◌, ◌↔◌, None, IsNone, IsSome, IfOk, IfSome, is_none, length, true, not, nat_lt, ◌&&◌, ◌++◌, ◌∷◌, [], if◌then◌else◌};
+ghost use Rattle.std.specs.Prelude.{◌≡◌, ◌≤◌, ◌↔◌, None, IsNone, IsSome, IfOk, IfSome, is_none};
+ghost use Rattle.std.specs.Prelude.{length, true, not, nat_lt, ◌&&◌, ◌++◌, ◌∷◌, [], if◌then◌else◌};
 ghost use Rattle.kbd_wire.specs.declared.Event.TheVariants.{Key as EventKey, Motion as EventMotion, Position as EventPosition};
 ghost use Rattle.std.specs.Option.{option_copied};
-ghost use Rattle.multitouch.specs.Known.{accepted, at_rest, begun, event_of, given_up, heard, is_caught_up, is_due, next_group, published, refusal_in, settled};
+ghost use Rattle.multitouch.specs.Known.{accepted, at_rest, begun, event_of, given_up, heard};
+ghost use Rattle.multitouch.specs.Known.{is_caught_up, is_due, next_group, published, refusal_in, settled};
 ghost use Rattle.multitouch.specs.Pressed.{after, refusal_of, Accepts};
 ghost use Rattle.multitouch.specs.Repair.{is_told, repair_of};
 ghost use Rattle.multitouch.specs.Sound.{IsSound};

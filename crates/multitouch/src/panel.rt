@@ -3,7 +3,8 @@
 ghost use Rattle.std.specs.Prelude.{◌≡◌, ◌<◌, ◌≤◌, None, length, true, false};
 ghost use Rattle.std.specs.FinMap as map;
 ghost use Rattle.multitouch.specs.Panel.{place, with_contact};
-ghost use Rattle.multitouch.specs.Pressed.{after_event, down_refusal, is_key_down, lift_refusal, nothing, press_refusal, refusal_of, release_refusal};
+ghost use Rattle.multitouch.specs.Pressed.{after_event, down_refusal, is_key_down, lift_refusal};
+ghost use Rattle.multitouch.specs.Pressed.{nothing, press_refusal, refusal_of, release_refusal};
 
 use crate::contact::Contact;
 use arrayvec::ArrayVec;

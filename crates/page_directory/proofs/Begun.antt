@@ -11,13 +11,13 @@ use Rattle.pv_words.specs.declared.grant.GrantRefusal.TheVariants.{NoEntry, Move
 use Rattle.pv_words.specs.declared.place.Half.TheVariants.{Flags, FrameNo}
 use Rattle.pv_words.specs.declared.place.Place.TheVariants.{Cell, Grant}
 use Rattle.pv_words.specs.Plan.{Plan, Finished, Make, Load, Store, Swap, Clear, Goes, IsUnfinished, seen_by, joined}
-use Rattle.grant_table.specs.declared.map.MapStep.{MapStep}
-use Rattle.grant_table.specs.declared.map.MapStage.{MapStage}
-use Rattle.grant_table.specs.declared.map.MapStage.TheVariants as map
-use Rattle.grant_table.specs.Flags.{refusal_of}
-use Rattle.grant_table.specs.MapLeft.{map_left, map_rest, is_over, is_last}
-use Rattle.grant_table.specs.Mapping.{Advances, hold_of, flags_plan, frame_plan, with_flags}
-use Rattle.grant_table.specs.Mapping.{undo_plan as undo_map}
+use Rattle.pv_words.specs.declared.map.MapStep.{MapStep}
+use Rattle.pv_words.specs.declared.map.MapStage.{MapStage}
+use Rattle.pv_words.specs.declared.map.MapStage.TheVariants as map
+use Rattle.pv_words.specs.Flags.{refusal_of}
+use Rattle.pv_words.specs.MapLeft.{map_left, map_rest, is_over, is_last}
+use Rattle.pv_words.specs.Mapping.{Advances, hold_of, flags_plan, frame_plan, with_flags}
+use Rattle.pv_words.specs.Mapping.{undo_plan as undo_map}
 use Rattle.page_directory.specs.declared.walk.Walked.{Walked}
 use Rattle.page_directory.specs.declared.walk.Stage.{Stage}
 use Rattle.page_directory.specs.declared.walk.Stage.TheVariants as stage

@@ -7,12 +7,12 @@ use Rattle.pv_words.specs.declared.grant.Mode.{Mode}
 use Rattle.pv_words.specs.declared.grant.GrantRefusal.{GrantRefusal}
 use Rattle.pv_words.specs.declared.grant.GrantRefusal.TheVariants.{NoEntry, Moved}
 use Rattle.pv_words.specs.Plan.{Plan, Finished, Make, Want, Note, Plain, Begins, Frames, Undoes, Ends, Goes, IsUnfinished, seen_by}
-use Rattle.grant_table.specs.declared.map.MapStep.{MapStep}
-use Rattle.grant_table.specs.declared.map.MapStage.{MapStage}
-use Rattle.grant_table.specs.declared.map.MapStage.TheVariants as map
-use Rattle.grant_table.specs.MapLeft.{map_left, map_rest}
-use Rattle.grant_table.specs.Flags.{refusal_of}
-use Rattle.grant_table.specs.Mapping.{flags_plan, with_flags, frame_plan, undo_plan, hold_of, Advances, HoldsByAccess}
+use Rattle.pv_words.specs.declared.map.MapStep.{MapStep}
+use Rattle.pv_words.specs.declared.map.MapStage.{MapStage}
+use Rattle.pv_words.specs.declared.map.MapStage.TheVariants as map
+use Rattle.pv_words.specs.MapLeft.{map_left, map_rest}
+use Rattle.pv_words.specs.Flags.{refusal_of}
+use Rattle.pv_words.specs.Mapping.{flags_plan, with_flags, frame_plan, undo_plan, hold_of, Advances, HoldsByAccess}
 use Rattle.page_directory.specs.declared.walk.Walked.{Walked}
 use Rattle.page_directory.specs.Changes.{Gains, ChangesBy, Changes, Stand}
 use Rattle.pv_words.specs.Plan.{joined}

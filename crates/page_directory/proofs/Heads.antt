@@ -10,11 +10,11 @@ use Rattle.pv_words.specs.declared.grant.GrantRefusal.{GrantRefusal}
 use Rattle.pv_words.specs.declared.grant.GrantRefusal.TheVariants.{NoEntry}
 use Rattle.pv_words.specs.Held.{Covers, CoversToWrite}
 use Rattle.pv_words.specs.Plan.{Plan, Finished, Make, Want, Load, Store, Swap, Clear, wanted}
-use Rattle.grant_table.specs.declared.map.MapStep.{MapStep}
-use Rattle.grant_table.specs.declared.map.MapStage.{MapStage}
-use Rattle.grant_table.specs.declared.map.MapStage.TheVariants as map
-use Rattle.grant_table.specs.MapLeft.{map_left, map_rest, is_over, is_last}
-use Rattle.grant_table.specs.Mapping.{flags_plan}
+use Rattle.pv_words.specs.declared.map.MapStep.{MapStep}
+use Rattle.pv_words.specs.declared.map.MapStage.{MapStage}
+use Rattle.pv_words.specs.declared.map.MapStage.TheVariants as map
+use Rattle.pv_words.specs.MapLeft.{map_left, map_rest, is_over, is_last}
+use Rattle.pv_words.specs.Mapping.{flags_plan}
 use Rattle.page_directory.specs.declared.walk.Walked.{Walked}
 use Rattle.page_directory.specs.declared.walk.Walked.TheVariants.{Pages, Refused}
 use Rattle.page_directory.specs.declared.walk.Stage.{Stage}

@@ -4,9 +4,9 @@ use Rattle.pv_words.specs.declared.access.Access.{Access}
 use Rattle.pv_words.specs.declared.grant.Hold.{Hold}
 use Rattle.pv_words.specs.declared.grant.GrantRefusal.{GrantRefusal}
 use Rattle.pv_words.specs.Plan.{Plan, Finished, Make, Want, Note, Goes, IsUnfinished, MayGo, Makes}
-use Rattle.grant_table.specs.declared.map.MapStep.{MapStep}
-use Rattle.grant_table.specs.MapLeft.{map_left}
-use Rattle.grant_table.specs.Mapping.{Advances, HoldsByAccess}
+use Rattle.pv_words.specs.declared.map.MapStep.{MapStep}
+use Rattle.pv_words.specs.MapLeft.{map_left}
+use Rattle.pv_words.specs.Mapping.{Advances, HoldsByAccess}
 use Rattle.page_directory.specs.declared.walk.Walked.{Walked}
 use Rattle.page_directory.specs.declared.walk.Walked.TheVariants.{Refused}
 use Rattle.pv_words.specs.Plan.{joined}

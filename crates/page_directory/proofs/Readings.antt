@@ -10,16 +10,16 @@ use Rattle.pv_words.specs.declared.grant.GrantRefusal.{GrantRefusal}
 use Rattle.pv_words.specs.declared.grant.GrantRefusal.TheVariants.{NoEntry, NotPermitted, OtherDomain, ReadOnly, InUse, Moved, BadFrame, NoNext}
 use Rattle.pv_words.specs.Plan.{Plan, Finished}
 use Rattle.pv_words.specs.Held.{permits}
-use Rattle.grant_table.specs.Flags.{refusal_of, denies, forbids, has, is_foreign, used}
-use Rattle.grant_table.specs.Mapping.{map_plan, flags_plan, with_flags, frame_plan, hold_of}
-use Rattle.grant_table.specs.Mapping as map_of
+use Rattle.pv_words.specs.Flags.{refusal_of, denies, forbids, has, is_foreign, used}
+use Rattle.pv_words.specs.Mapping.{map_plan, flags_plan, with_flags, frame_plan, hold_of}
+use Rattle.pv_words.specs.Mapping as map_of
 use Rattle.page_directory.specs.declared.walk.Walked.{Walked}
 use Rattle.pv_words.specs.Plan.{FitsFrom}
-use Rattle.grant_table.specs.Laws.{IsCause}
+use Rattle.pv_words.specs.MapLaws.{IsCause}
 use Rattle.pv_words.specs.Plan.{joined}
 use Rattle.page_directory.specs.Reading.{IsLastMap, Reading, with_frame, reading, IsDue, ReadsOn, is_no_next, grefs, ReadsTo, unread, ReadsExactly}
-use Rattle.grant_table.proofs.Outcomes.{refuses_exactly}
-use Rattle.grant_table.proofs.Holdings.{caused, permitted}
+use Rattle.pv_words.proofs.Outcomes.{refuses_exactly}
+use Rattle.pv_words.proofs.Holdings.{caused, permitted}
 use Rattle.page_directory.specs.Walking.{per_page, undo_plan, with_map, entry_plan, enter_plan, leave_plan, next_plan, rest_plan, walk_plan}
 
 -- a flags' word is never refused for want of a directory page

@@ -1,8 +1,7 @@
 -- What is left of a walk tells what is held: one way on from here ends it, and what was held goes on that way.
-use Rattle.std.proofs.Common.{◌≡◌, ℕ, zero, suc, ◌+◌, Bool, true, false, nat_lt, List, [], ◌∷◌, ◌++◌, drop, Result, Ok, Err, refl, sym, ap, subst, ◌∙◌, arith}
+use Rattle.std.proofs.Common.{◌≡◌, ℕ, ◌+◌, true, false, nat_lt, List, [], ◌∷◌, ◌++◌, drop, refl, sym, ap, ◌∙◌, arith}
 use Rattle.std.proofs.lemmas.Bool.{false≢true}
 use Rattle.std.specs.List.{insert}
-use Rattle.pv_words.specs.declared.access.Access.{Access}
 use Rattle.pv_words.specs.declared.grant.GrantRefusal.{GrantRefusal}
 use Rattle.pv_words.specs.declared.grant.GrantRefusal.TheVariants.{NoNext}
 use Rattle.pv_words.specs.declared.grant.Hold.{Hold}
@@ -11,10 +10,10 @@ use Rattle.pv_words.specs.declared.grant.Mode.TheVariants.{Read}
 use Rattle.pv_words.specs.Held.{Holds, IsProper, holding, kept}
 use Rattle.pv_words.specs.Plan.{Plan, Finished, Make, Ends, FitsFrom, found, joined}
 use Rattle.pv_words.proofs.Fits.{fits_first}
-use Rattle.grant_table.specs.declared.map.MapStep.{MapStep}
-use Rattle.grant_table.specs.Mapping.{map_plan, unmap_want}
-use Rattle.grant_table.specs.MapLeft as mapping
-use Rattle.grant_table.proofs.Refusing.{map_none, start_none, unmap_leaves}
+use Rattle.pv_words.specs.declared.map.MapStep.{MapStep}
+use Rattle.pv_words.specs.Mapping.{map_plan, unmap_want}
+use Rattle.pv_words.specs.MapLeft as mapping
+use Rattle.pv_words.proofs.Refusing.{map_none, start_none, unmap_leaves}
 use Rattle.page_directory.specs.declared.walk.Stage.{Stage}
 use Rattle.page_directory.specs.declared.walk.Stage.TheVariants as stage
 use Rattle.page_directory.specs.declared.walk.Walk.{Walk}
@@ -23,7 +22,7 @@ use Rattle.page_directory.specs.declared.walk.Walked.TheVariants.{Pages, Refused
 use Rattle.page_directory.specs.Laws.{HoldsThroughout, pages_in}
 use Rattle.page_directory.specs.Same.{AreSame, times}
 use Rattle.page_directory.specs.Stages.{is_last, is_mapping}
-use Rattle.page_directory.specs.Walking.{undo_plan, with_map, with_next, enter_plan, entry_plan, leave_plan, rest_plan}
+use Rattle.page_directory.specs.Walking.{undo_plan, with_map, enter_plan, rest_plan}
 use Rattle.page_directory.specs.WalkLeft.{dom_of, entered, held_by, held_in, is_over, left_in, walk_left}
 use Rattle.page_directory.proofs.Counts.{times_append, times_insert, times_unheld}
 

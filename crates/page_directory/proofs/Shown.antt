@@ -1,24 +1,21 @@
 -- A walk's refusal is the one that the words show which it found.
-use Rattle.std.proofs.Common.{◌≡◌, inl, inr, ℕ, zero, suc, ◌-◌, ◌==◌, Bool, true, false, cond, nat_lt, List, [], ◌∷◌, ◌++◌, length, Some, Result, Ok, Err, refl, sym, ◌∙◌, ap, arith}
+use Rattle.std.proofs.Common.{◌≡◌, inl, inr, ℕ, zero, suc, ◌-◌, ◌==◌, Bool, true, false, cond, nat_lt, List, [], ◌∷◌, ◌++◌, length, Some, Result, Ok, Err, refl, ◌∙◌, ap, arith}
 use Rattle.std.proofs.lemmas.Bool.Decides.{nat_tests}
 use Rattle.std.specs.List.{insert}
-use Rattle.pv_words.specs.declared.access.Access.{Access}
-use Rattle.pv_words.specs.declared.access.Access.TheVariants as access
 use Rattle.pv_words.specs.declared.grant.GrantRefusal.{GrantRefusal}
 use Rattle.pv_words.specs.declared.grant.GrantRefusal.TheVariants.{NoNext}
 use Rattle.pv_words.specs.declared.grant.Hold.{Hold}
 use Rattle.pv_words.specs.declared.grant.Mode.{Mode}
 use Rattle.pv_words.specs.declared.grant.Mode.TheVariants.{Read}
 use Rattle.pv_words.specs.Found.{Found, finding}
-use Rattle.pv_words.specs.Plan.{Plan, Finished, Note, FitsFrom, IsUntouched, joined}
+use Rattle.pv_words.specs.Plan.{Plan, Note, FitsFrom, IsUntouched, joined}
 use Rattle.pv_words.proofs.Fits.{fits_then}
-use Rattle.grant_table.specs.Laws.{Shows}
-use Rattle.grant_table.specs.Mapping.{map_plan}
-use Rattle.grant_table.proofs.Shown.{maps_show}
+use Rattle.pv_words.specs.MapLaws.{Shows}
+use Rattle.pv_words.specs.Mapping.{map_plan}
+use Rattle.pv_words.proofs.Shown.{maps_show}
 use Rattle.page_directory.specs.declared.walk.Walked.{Walked}
-use Rattle.page_directory.specs.declared.walk.Walked.TheVariants.{Pages}
 use Rattle.page_directory.specs.Laws.{IsLastFound, IsReason, HasShown, WalksShow}
-use Rattle.page_directory.specs.Walking.{per_page, word_in, undo_plan, with_map, entry_plan, enter_plan, leave_plan, next_plan, rest_plan, walk_plan}
+use Rattle.page_directory.specs.Walking.{per_page, undo_plan, with_map, entry_plan, enter_plan, leave_plan, next_plan, rest_plan, walk_plan}
 
 module _ (frames grants dom first : ℕ) (mode : Mode) where
   abbrev Fit : Found → Plan Walked → Type 0

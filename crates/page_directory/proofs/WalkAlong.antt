@@ -1,28 +1,27 @@
 -- What a device holds along a walk.
-use Rattle.std.proofs.Common.{◌≡◌, inl, inr, ℕ, zero, suc, ◌+◌, ◌-◌, ◌<◌, ◌≤◌, ◌==◌, Bool, true, false, cond, nat_lt, List, [], ◌∷◌, ◌++◌, length, Result, Ok, Err, refl, sym, subst, arith, length-append}
+use Rattle.std.proofs.Common.{◌≡◌, ℕ, zero, suc, ◌+◌, ◌-◌, ◌<◌, ◌≤◌, ◌==◌, Bool, true, false, cond, nat_lt, List, [], ◌∷◌, ◌++◌, length, Result, Ok, Err, refl, sym, subst, arith, length-append}
 use Rattle.std.proofs.lemmas.Bool.Decides.{nat_tests}
 use Rattle.std.specs.List.{AllByRecursion, insert}
-use Rattle.pv_words.specs.declared.access.Access.{Access}
 use Rattle.pv_words.specs.declared.grant.Hold.{Hold}
 use Rattle.pv_words.specs.declared.grant.Mode.{Mode}
 use Rattle.pv_words.specs.declared.grant.Mode.TheVariants.{Read}
 use Rattle.pv_words.specs.declared.grant.GrantRefusal.{GrantRefusal}
 use Rattle.pv_words.specs.declared.grant.GrantRefusal.TheVariants.{NoNext}
-use Rattle.pv_words.specs.Plan.{Plan, Finished, Make, Want, Note, Load, Plain, Ends}
-use Rattle.grant_table.specs.Mapping.{map_plan, unmap_want}
-use Rattle.grant_table.specs.Laws.{with_result}
+use Rattle.pv_words.specs.Plan.{Plan, Finished, Make, Load, Plain, Ends}
+use Rattle.pv_words.specs.Mapping.{map_plan, unmap_want}
+use Rattle.pv_words.specs.MapLaws.{with_result}
 use Rattle.page_directory.specs.declared.walk.Walked.{Walked}
 use Rattle.page_directory.specs.declared.walk.Walked.TheVariants.{Pages}
-use Rattle.pv_words.specs.Plan.{FitsFrom, found}
+use Rattle.pv_words.specs.Plan.{FitsFrom}
 use Rattle.pv_words.proofs.Fits.{fits_then}
 use Rattle.pv_words.specs.Held.{Holds, IsProper, holding, holds_of, unheld}
-use Rattle.grant_table.specs.Laws.{IsHold, IsResult}
+use Rattle.pv_words.specs.MapLaws.{IsHold, IsResult}
 use Rattle.page_directory.specs.Same.{AreSame, times}
 use Rattle.pv_words.specs.Plan.{joined}
 use Rattle.page_directory.specs.Laws.{IsPage, Leaves, WalksExactly}
 use Rattle.page_directory.specs.Walking.{per_page, word_in, undo_plan, with_map, entry_plan, enter_plan, leave_plan, next_plan, rest_plan, walk_plan}
 use Rattle.page_directory.proofs.Counts.{times_append, times_insert, times_here, has_counted, covers_counted, times_unheld}
-use Rattle.grant_table.proofs.Holdings.{holds_exactly, unmaps_exactly}
+use Rattle.pv_words.proofs.Holdings.{holds_exactly, unmaps_exactly}
 
 pub all_push : {X : Type 0} (P : X → Type 0) (xs : List X) (x : X) → AllByRecursion P xs → P x → AllByRecursion P (xs ++ x ∷ [])
 all_push P [] x h p = (p, tt)

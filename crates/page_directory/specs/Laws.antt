@@ -11,7 +11,7 @@ use Rattle.page_directory.specs.declared.walk.Walked.TheVariants.{Pages, Refused
 use Rattle.pv_words.specs.Found.{Found, finding}
 use Rattle.pv_words.specs.Plan.{FitsFrom, IsUntouched}
 use Rattle.pv_words.specs.Held.{Holds, IsProper, holding, holds_of}
-use Rattle.grant_table.specs.Laws.{IsHold, IsShown}
+use Rattle.pv_words.specs.MapLaws.{IsHold, IsShown}
 use Rattle.page_directory.specs.Same.{AreSame}
 use Rattle.page_directory.specs.declared.walk.Walk.{Walk}
 use Rattle.page_directory.specs.WalkLeft.{dom_of, held_by, is_over, walk_left}

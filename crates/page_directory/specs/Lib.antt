@@ -5,4 +5,5 @@ pub mod Reading
 pub mod Same
 pub mod Stages
 pub mod WalkLeft
+pub mod WalkSteps
 pub mod Walking

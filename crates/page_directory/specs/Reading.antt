@@ -14,7 +14,7 @@ use Rattle.pv_words.specs.Plan.{Want, Load, Store, Swap, Clear, Note}
 use Rattle.page_directory.specs.declared.walk.Walked.{Walked}
 use Rattle.page_directory.specs.declared.walk.Walked.TheVariants.{Pages, Refused}
 use Rattle.pv_words.specs.Plan.{FitsFrom}
-use Rattle.grant_table.specs.Laws.{IsCause}
+use Rattle.pv_words.specs.MapLaws.{IsCause}
 use Rattle.page_directory.specs.Walking.{walk_plan}
 
 pub record Reading : Type 0 where

@@ -9,10 +9,10 @@ use Rattle.pv_words.specs.declared.grant.Hold.{Hold}
 use Rattle.pv_words.specs.declared.grant.Mode.{Mode}
 use Rattle.pv_words.specs.Held.{Covers, CoversToWrite}
 use Rattle.pv_words.specs.Plan.{Plan, Finished}
-use Rattle.grant_table.specs.declared.map.MapStep.{MapStep}
-use Rattle.grant_table.specs.declared.map.MapStage.{MapStage}
-use Rattle.grant_table.specs.declared.map.MapStage.TheVariants as map
-use Rattle.grant_table.specs.MapLeft.{map_left}
+use Rattle.pv_words.specs.declared.map.MapStep.{MapStep}
+use Rattle.pv_words.specs.declared.map.MapStage.{MapStage}
+use Rattle.pv_words.specs.declared.map.MapStage.TheVariants as map
+use Rattle.pv_words.specs.MapLeft.{map_left}
 use Rattle.page_directory.specs.declared.walk.Stage.{Stage}
 use Rattle.page_directory.specs.declared.walk.Stage.TheVariants as stage
 use Rattle.page_directory.specs.declared.walk.Walk.{Walk}

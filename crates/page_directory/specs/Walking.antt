@@ -11,7 +11,7 @@ use Rattle.pv_words.specs.declared.grant.Mode.TheVariants.{Read}
 use Rattle.pv_words.specs.declared.grant.GrantRefusal.{GrantRefusal}
 use Rattle.pv_words.specs.declared.grant.GrantRefusal.TheVariants.{NoNext}
 use Rattle.pv_words.specs.Plan.{Plan, Finished, Make, Load, Plain, Ends}
-use Rattle.grant_table.specs.Mapping.{map_plan, unmap_want}
+use Rattle.pv_words.specs.Mapping.{map_plan, unmap_want}
 use Rattle.page_directory.specs.declared.walk.Walked.{Walked}
 use Rattle.page_directory.specs.declared.walk.Walked.TheVariants.{Pages, Refused}
 use Rattle.pv_words.specs.Plan.{joined}

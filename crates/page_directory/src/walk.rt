@@ -1,12 +1,13 @@
 //! A device maps the pages that a page directory lists.
 
 ghost use Rattle.std.specs.Prelude.{◌≡◌, ℕ, ◌+◌, ◌-◌, ◌<◌, ◌≤◌, true, false, Some, None, IfOk, is_some, vec_len, vec_capacity};
-ghost use Rattle.grant_table.specs.MapLeft.{dom_of, is_over};
+ghost use Rattle.pv_words.specs.MapLeft.{dom_of, is_over};
 ghost use Rattle.page_directory.specs.Stages.{is_mapping, is_going, is_leaving, is_reading, is_turning, is_undoing, undone, directory_in};
 
 use crate::pages::Pages;
-use grant_table::{MapStep, unmap};
-use pv_words::{Access, DomId, GrantRef, GrantRefusal, Hold, Mode, Place, Turn, Words};
+use pv_words::{
+    Access, DomId, GrantRef, GrantRefusal, Hold, MapStep, Mode, Place, Turn, Words, unmap,
+};
 use std::alloc::{AllocError, Global};
 use std::mem;
 
@@ -75,13 +76,13 @@ impl Walk {
     ghost use Rattle.std.specs.Prelude.{[], ◌∷◌, ◌++◌, length, slice_get, drop, List, IfSome, OnSome};
     ghost use Rattle.std.specs.List.{insert};
     ghost use Rattle.pv_words.specs.declared.grant.Hold.{Hold};
-    ghost use Rattle.pv_words.specs.Plan.{Plan, IsUnfinished, MayGo, Makes};
+    ghost use Rattle.pv_words.specs.Plan.{IsUnfinished, MayGo, Makes};
     ghost use Rattle.page_directory.specs.declared.walk.Walked.{Walked};
     ghost use Rattle.page_directory.specs.declared.walk.Stage.TheVariants as stage;
-    ghost use Rattle.page_directory.specs.Changes.{Changes, Stand, held_then};
-    ghost use Rattle.page_directory.specs.Joins.{Leads, TurnsOrEnds};
-    ghost use Rattle.page_directory.specs.Walking.{walk_plan, pages_of, undo_plan, rest_plan};
-    ghost use Rattle.page_directory.specs.WalkLeft.{walk_left, count_of, is_begun, held_by, Steps, Counts, PagesByAccess, LiesIn};
+    ghost use Rattle.page_directory.specs.Walking.{pages_of, undo_plan};
+    ghost use Rattle.page_directory.specs.WalkLeft.{walk_left, count_of, is_begun, held_by, Counts, PagesByAccess, LiesIn};
+    ghost use Rattle.page_directory.specs.WalkSteps.{walk_left_by, BeginsWalk, StepsBy, StepsWherever, UndoesFrom, UndoesAfter};
+    ghost use Rattle.page_directory.specs.WalkSteps.{GoesOnWith, TurnsBy, ChangesHeldBy};
     ghost use Rattle.page_directory.specs.WalkLeft.{dom_of as walked_dom, is_over as is_walked};
 
     /// A walk for a buffer of so many octets, before its first access: over the page directory of the domain whose first
@@ -95,7 +96,7 @@ impl Walk {
     ) -> Result<Walk, AllocError>
         requires some { 0 < buffer_sz }
         requires limit { buffer_sz ≤ 33554432 }
-        ensures whole { IfOk result (λ w. (frames grants : ℕ) → walk_left frames grants w ≡ walk_plan frames grants dom.0 gref.0 mode (pages_of buffer_sz)) }
+        ensures whole { IfOk result (BeginsWalk dom.0 gref.0 mode (pages_of buffer_sz)) }
         ensures dom { IfOk result (λ w. walked_dom w ≡ dom.0) }
         ensures begins { IfOk result (λ w. is_walked w ≡ false) }
         ensures holds { IfOk result (λ w. held_by w ≡ []) }
@@ -175,7 +176,7 @@ impl Walk {
     fn undo<W: Words>(&mut self, words: &mut W, i: usize, refusal: GrantRefusal) -> Turn<Walked>
         requires within { i < vec_len self.old.pages }
         requires may { MayGo (W.may words.old) (undo_plan (drop i self.old.pages.items) refusal) }
-        ensures steps { (frames grants : ℕ) → Steps frames grants (walked_dom self.old) (drop i self.old.pages.items) (undo_plan (drop i self.old.pages.items) refusal) result.access result.done self.new }
+        ensures steps { UndoesFrom i refusal self.old result self.new }
         ensures count { self.new.count ≡ self.old.count }
         ensures begun { result.done ≡ None → is_begun self.new.map self.new.pages.items self.new.stage ≡ true }
         ensures number { (n : ℕ) → Counts n result.done result.access }
@@ -207,7 +208,7 @@ impl Walk {
         refusal: GrantRefusal,
     ) -> Turn<Walked>
         requires may { access ≡ None → MayGo (W.may words.old) (undo_plan self.old.pages.items refusal) }
-        ensures steps { (frames grants : ℕ) (held : List Hold) (old : Plan Walked) → Leads old access (undo_plan self.old.pages.items refusal) → Stand frames held old access self.old.pages.items → Steps frames grants (walked_dom self.old) held old result.access result.done self.new }
+        ensures steps { UndoesAfter access refusal self.old result self.new }
         ensures count { self.new.count ≡ self.old.count }
         ensures begun { result.done ≡ None → is_begun self.new.map self.new.pages.items self.new.stage ≡ true }
         ensures number { (n : ℕ) → Counts n result.done result.access }
@@ -247,8 +248,8 @@ impl Walk {
     // The next access of the map of a directory page.
     fn directory_step<W: Words>(&mut self, words: &mut W) -> Turn<Walked>
         requires mapping { self.old.stage ≡ stage.Directory }
-        requires may { MayGo (W.may words.old) (walk_left (W.frames_of words.old (walked_dom self.old)) (W.grants_of words.old (walked_dom self.old)) self.old) }
-        ensures steps { Steps (W.frames_of words.old (walked_dom self.old)) (W.grants_of words.old (walked_dom self.old)) (walked_dom self.old) (held_by self.old) (walk_left (W.frames_of words.old (walked_dom self.old)) (W.grants_of words.old (walked_dom self.old)) self.old) result.access result.done self.new }
+        requires may { MayGo (W.may words.old) (walk_left_by (W.frames_of words.old) (W.grants_of words.old) self.old) }
+        ensures steps { StepsBy (W.frames_of words.old) (W.grants_of words.old) self.old result self.new }
         ensures count { self.new.count ≡ self.old.count }
         ensures begun { result.done ≡ None → is_begun self.new.map self.new.pages.items self.new.stage ≡ true }
         ensures number { Counts self.old.count result.done result.access }
@@ -273,8 +274,8 @@ impl Walk {
     // The load of a reference that this directory page lists.
     fn reference_step<W: Words>(&mut self, words: &mut W, directory: Hold) -> Turn<Walked>
         requires reading { self.old.stage ≡ stage.Reference directory }
-        requires may { MayGo (W.may words.old) (walk_left (W.frames_of words.old (walked_dom self.old)) (W.grants_of words.old (walked_dom self.old)) self.old) }
-        ensures steps { (frames grants : ℕ) → Steps frames grants (walked_dom self.old) (held_by self.old) (walk_left frames grants self.old) result.access result.done self.new }
+        requires may { MayGo (W.may words.old) (walk_left_by (W.frames_of words.old) (W.grants_of words.old) self.old) }
+        ensures steps { StepsWherever self.old result self.new }
         ensures count { self.new.count ≡ self.old.count }
         ensures begun { result.done ≡ None → is_begun self.new.map self.new.pages.items self.new.stage ≡ true }
         ensures number { Counts self.old.count result.done result.access }
@@ -297,7 +298,7 @@ impl Walk {
         requires counted { vec_len self.old.pages + self.old.more + 1 ≡ self.old.count }
         ensures count { self.new.count ≡ self.old.count }
         ensures begun { is_begun self.new.map self.new.pages.items self.new.stage ≡ true }
-        ensures left { (frames grants : ℕ) → walk_left frames grants self.new ≡ rest_plan frames grants (walked_dom self.old) self.old.mode self.old.more directory self.old.begins (self.old.pages.items ++ page ∷ []) }
+        ensures left { GoesOnWith directory page self.old self.new }
         ensures dom { walked_dom self.new ≡ walked_dom self.old }
         ensures over { is_walked self.new ≡ false }
         ensures held { held_by self.new ≡ insert (self.old.pages.items ++ page ∷ []) self.old.begins directory }
@@ -318,8 +319,8 @@ impl Walk {
     // The next access of the map of a page that this directory page lists.
     fn page_step<W: Words>(&mut self, words: &mut W, directory: Hold) -> Turn<Walked>
         requires mapping { self.old.stage ≡ stage.Page directory }
-        requires may { MayGo (W.may words.old) (walk_left (W.frames_of words.old (walked_dom self.old)) (W.grants_of words.old (walked_dom self.old)) self.old) }
-        ensures steps { Steps (W.frames_of words.old (walked_dom self.old)) (W.grants_of words.old (walked_dom self.old)) (walked_dom self.old) (held_by self.old) (walk_left (W.frames_of words.old (walked_dom self.old)) (W.grants_of words.old (walked_dom self.old)) self.old) result.access result.done self.new }
+        requires may { MayGo (W.may words.old) (walk_left_by (W.frames_of words.old) (W.grants_of words.old) self.old) }
+        ensures steps { StepsBy (W.frames_of words.old) (W.grants_of words.old) self.old result self.new }
         ensures count { self.new.count ≡ self.old.count }
         ensures begun { result.done ≡ None → is_begun self.new.map self.new.pages.items self.new.stage ≡ true }
         ensures number { Counts self.old.count result.done result.access }
@@ -346,8 +347,8 @@ impl Walk {
     // The load of the reference of the next directory page.
     fn next_step<W: Words>(&mut self, words: &mut W, directory: Hold) -> Turn<Walked>
         requires turning { self.old.stage ≡ stage.Next directory }
-        requires may { MayGo (W.may words.old) (walk_left (W.frames_of words.old (walked_dom self.old)) (W.grants_of words.old (walked_dom self.old)) self.old) }
-        ensures steps { (frames grants : ℕ) → Steps frames grants (walked_dom self.old) (held_by self.old) (walk_left frames grants self.old) result.access result.done self.new }
+        requires may { MayGo (W.may words.old) (walk_left_by (W.frames_of words.old) (W.grants_of words.old) self.old) }
+        ensures steps { StepsWherever self.old result self.new }
         ensures count { self.new.count ≡ self.old.count }
         ensures begun { result.done ≡ None → is_begun self.new.map self.new.pages.items self.new.stage ≡ true }
         ensures number { Counts self.old.count result.done result.access }
@@ -372,8 +373,8 @@ impl Walk {
         gref: GrantRef,
     ) -> Turn<Walked>
         requires turning { self.old.stage ≡ stage.Further directory gref }
-        requires may { MayGo (W.may words.old) (walk_left (W.frames_of words.old (walked_dom self.old)) (W.grants_of words.old (walked_dom self.old)) self.old) }
-        ensures steps { (frames grants : ℕ) → Steps frames grants (walked_dom self.old) (held_by self.old) (walk_left frames grants self.old) result.access result.done self.new }
+        requires may { MayGo (W.may words.old) (walk_left_by (W.frames_of words.old) (W.grants_of words.old) self.old) }
+        ensures steps { StepsWherever self.old result self.new }
         ensures count { self.new.count ≡ self.old.count }
         ensures begun { result.done ≡ None → is_begun self.new.map self.new.pages.items self.new.stage ≡ true }
         ensures number { Counts self.old.count result.done result.access }
@@ -405,8 +406,8 @@ impl Walk {
     // The walk leaves the last directory page.
     fn leave_step<W: Words>(&mut self, words: &mut W, directory: Hold) -> Turn<Walked>
         requires leaving { self.old.stage ≡ stage.Leave directory }
-        requires may { MayGo (W.may words.old) (walk_left (W.frames_of words.old (walked_dom self.old)) (W.grants_of words.old (walked_dom self.old)) self.old) }
-        ensures steps { (frames grants : ℕ) → Steps frames grants (walked_dom self.old) (held_by self.old) (walk_left frames grants self.old) result.access result.done self.new }
+        requires may { MayGo (W.may words.old) (walk_left_by (W.frames_of words.old) (W.grants_of words.old) self.old) }
+        ensures steps { StepsWherever self.old result self.new }
         ensures count { self.new.count ≡ self.old.count }
         ensures begun { result.done ≡ None → is_begun self.new.map self.new.pages.items self.new.stage ≡ true }
         ensures number { Counts self.old.count result.done result.access }
@@ -421,8 +422,8 @@ impl Walk {
 
     // The step at the stage at which the walk is.
     fn advance<W: Words>(&mut self, words: &mut W) -> Turn<Walked>
-        requires { MayGo (W.may words.old) (walk_left (W.frames_of words.old (walked_dom self.old)) (W.grants_of words.old (walked_dom self.old)) self.old) }
-        ensures steps { Steps (W.frames_of words.old (walked_dom self.old)) (W.grants_of words.old (walked_dom self.old)) (walked_dom self.old) (held_by self.old) (walk_left (W.frames_of words.old (walked_dom self.old)) (W.grants_of words.old (walked_dom self.old)) self.old) result.access result.done self.new }
+        requires { MayGo (W.may words.old) (walk_left_by (W.frames_of words.old) (W.grants_of words.old) self.old) }
+        ensures steps { StepsBy (W.frames_of words.old) (W.grants_of words.old) self.old result self.new }
         ensures count { self.new.count ≡ self.old.count }
         ensures begun { result.done ≡ None → is_begun self.new.map self.new.pages.items self.new.stage ≡ true }
         ensures number { Counts self.old.count result.done result.access }
@@ -446,20 +447,20 @@ impl Walk {
     /// Makes the next access of the walk. Each directory page is mapped for reading; its references are loaded in order,
     /// each page mapped before the next reference is loaded; where a further directory page is needed, its reference is
     /// loaded from word 0, which has to be another than 0; then the directory page is unmapped. Done is the list of the
-    /// pages, as many as the walk was made for, or why it was refused: the first map that was refused, or NoNext where the reference of a needed
-    /// directory page is 0. Before a refusal is told each page that the walk holds is unmapped, in the order of mapping.
-    /// A walk that is done holds no page itself, and answers none, without an access. One that isn't done after a step makes a
-    /// further access, whatever the domain has then.
+    /// pages, as many as the walk was made for, or why it was refused: the first map that was refused, or NoNext where the
+    /// reference of a needed directory page is 0. Before a refusal is told each page that the walk holds is unmapped, in
+    /// the order of mapping. A walk that is done holds no page itself, and answers none, without an access. One that isn't
+    /// done after a step makes a further access, whatever the domain has then.
     pub fn step<W: Words>(&mut self, words: &mut W) -> Turn<Walked>
-        requires { MayGo (W.may words.old) (walk_left (W.frames_of words.old (walked_dom self.old)) (W.grants_of words.old (walked_dom self.old)) self.old) }
-        ensures turns { TurnsOrEnds (walk_left (W.frames_of words.old (walked_dom self.old)) (W.grants_of words.old (walked_dom self.old)) self.old) result.access result.done (walk_left (W.frames_of words.old (walked_dom self.old)) (W.grants_of words.old (walked_dom self.old)) self.new) }
+        requires { MayGo (W.may words.old) (walk_left_by (W.frames_of words.old) (W.grants_of words.old) self.old) }
+        ensures turns { TurnsBy (W.frames_of words.old) (W.grants_of words.old) self.old result self.new }
         ensures made { Makes W.makes words.old result.access words.new }
         ensures dom { walked_dom self.new ≡ walked_dom self.old }
         ensures count { count_of self.new ≡ count_of self.old }
         ensures number { Counts (count_of self.old) result.done result.access }
         ensures over { is_walked self.new ≡ is_some result.done }
         ensures goes_on { result.done ≡ None → (frames grants : ℕ) → IsUnfinished (walk_left frames grants self.new) }
-        ensures holds { Changes (W.frames_of words.old (walked_dom self.old)) (held_by self.old) (walk_left (W.frames_of words.old (walked_dom self.old)) (W.grants_of words.old (walked_dom self.old)) self.old) result.access (held_then result.done (held_by self.new)) }
+        ensures holds { ChangesHeldBy (W.frames_of words.old) (W.grants_of words.old) self.old result self.new }
         ensures rests { OnSome result.done (held_by self.new ≡ []) }
         ensures pages { is_walked self.old ≡ false → PagesByAccess result.access result.done }
         ensures lies { IfSome result.access (λ a. LiesIn (held_by self.old) a) }

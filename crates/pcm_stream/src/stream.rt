@@ -5,7 +5,8 @@ ghost use Rattle.pv_words.specs.Mark.{mark_of};
 ghost use Rattle.pcm_params.specs.Params.{is_accepted};
 ghost use Rattle.pcm_stream.specs.Queue.{queue_for};
 ghost use Rattle.pcm_stream.specs.State.{is_closed};
-ghost use Rattle.pcm_stream.specs.Stream.{close_check, closed, open_check, opened, popped, pushed, read_check, room, told, triggered, trigger_check, write_check};
+ghost use Rattle.pcm_stream.specs.Stream.{close_check, closed, open_check, opened, popped, pushed};
+ghost use Rattle.pcm_stream.specs.Stream.{read_check, room, told, triggered, trigger_check, write_check};
 ghost use Rattle.pcm_stream.specs.Tick.{after_tick, carried, counted, limit_of, octets_of, ticked_of};
 
 use crate::line;

@@ -1,5 +1,6 @@
 // A sink that keeps what it gets in memory.
-ghost use Rattle.std.specs.Prelude.{◌≡◌, ◌⊎◌, ◌+◌, ◌-◌, ◌<◌, ◌≤◌, ◌↔◌, [], ◌++◌, length, min, max, take, Some, vec_len, vec_capacity, Contains, IfOk, IsOk, IsErr, OnOk, OnErr};
+ghost use Rattle.std.specs.Prelude.{◌≡◌, ◌⊎◌, ◌+◌, ◌-◌, ◌<◌, ◌≤◌, ◌↔◌, [], ◌++◌, length, min, max, take, Some};
+ghost use Rattle.std.specs.Prelude.{vec_len, vec_capacity, Contains, IfOk, IsOk, IsErr, OnOk, OnErr};
 ghost use Rattle.pv_ports.specs.Port.{counted, CountsFault, HasCause};
 
 use crate::plan::Plan;

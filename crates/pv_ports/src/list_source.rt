@@ -1,5 +1,6 @@
 // A source that gives the octets of a list, in memory.
-ghost use Rattle.std.specs.Prelude.{◌≡◌, ◌+◌, ◌<◌, ◌≤◌, ◌↔◌, [], ◌++◌, length, min, take, Some, vec_len, Contains, IfOk, IsOk, IsErr, OnOk, OnErr};
+ghost use Rattle.std.specs.Prelude.{◌≡◌, ◌+◌, ◌<◌, ◌≤◌, ◌↔◌, [], ◌++◌, length, min, take, Some};
+ghost use Rattle.std.specs.Prelude.{vec_len, Contains, IfOk, IsOk, IsErr, OnOk, OnErr};
 ghost use Rattle.pv_ports.specs.Port.{counted, CountsFault, HasCause};
 
 use crate::plan::Plan;

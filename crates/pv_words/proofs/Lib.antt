@@ -1,5 +1,13 @@
 pub mod Apart
+pub mod Bits
 pub mod Blocks
 pub mod Fits
+pub mod FreePort
+pub mod Holdings
 pub mod Keeping
 pub mod Listing
+pub mod Maps
+pub mod Outcomes
+pub mod Plans
+pub mod Refusing
+pub mod Shown

@@ -1,10 +1,16 @@
 pub mod Along
+pub mod Each
+pub mod Flags
 pub mod Found
+pub mod FreePort
 pub mod Held
 pub mod Keeping
 pub mod Layout
 pub mod ListPort
 pub mod ListWords
+pub mod MapLaws
+pub mod MapLeft
+pub mod Mapping
 pub mod Mark
 pub mod Memory
 pub mod Place

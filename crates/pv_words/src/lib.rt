@@ -8,6 +8,7 @@ pub mod grant;
 pub mod journal;
 pub mod laws;
 pub mod list_words;
+pub mod map;
 pub mod mark;
 pub mod page_list;
 pub mod place;
@@ -21,8 +22,9 @@ pub use device::{
 pub use entry::{End, Entry, Told};
 pub use grant::{GrantRefusal, Hold, Mode};
 pub use journal::{Entries, JOURNAL_LIMIT, Journal, Stop};
-pub use laws::keeps_entries;
+pub use laws::{holds_exactly, keeps_entries, maps_exactly};
 pub use list_words::ListWords;
+pub use map::{MapStep, unmap};
 pub use mark::{extend_mark, next_mark};
 pub use page_list::PageList;
 pub use place::{DevId, DomId, Frame, GrantRef, Half, Place, Who};

@@ -4,6 +4,7 @@ ghost use Rattle.std.specs.Prelude.{◌≡◌, ℕ};
 ghost use Rattle.pv_words.specs.declared.place.Place.{Place};
 ghost use Rattle.pv_words.specs.declared.access.Access.{Access};
 ghost use Rattle.pv_words.specs.declared.access.Access.TheVariants as access;
+ghost use Rattle.pv_words.specs.Each.{OfEach};
 ghost use Rattle.pv_words.specs.Plan.{Want};
 ghost use Rattle.pv_words.specs.Plan as plan;
 ghost use Rattle.pv_words.specs.Memory.{Answers};
@@ -60,9 +61,9 @@ pub trait Words {
         ensures { result ≡ grants_of self.now dom.0 };
 
     /// No access changes how many frames and grant entries there are.
-    ghost keeps_frames: { (old : Self) (a : Access) (new : Self) → makes old a new → (d : ℕ) → frames_of new d ≡ frames_of old d };
+    ghost keeps_frames: { OfEach makes (λ old a new. (d : ℕ) → frames_of new d ≡ frames_of old d) };
 
-    ghost keeps_grants: { (old : Self) (a : Access) (new : Self) → makes old a new → (d : ℕ) → grants_of new d ≡ grants_of old d };
+    ghost keeps_grants: { OfEach makes (λ old a new. (d : ℕ) → grants_of new d ≡ grants_of old d) };
 
     /// What the port may touch: every place in range but the entries that it keeps; or for a device the words of the
     /// pages that it lists, and the entries that it maps and unmaps; or for a domain the domain's own words, among
@@ -74,11 +75,11 @@ pub trait Words {
     /// reference and mode until as many clears of them were made as there are of them. Of a domain whose entries it
     /// keeps it knows which grants are open, and tells the words that the domain stored or loaded, up to where their
     /// frame is opened for writing.
-    ghost leaves: { (old : Self) (a : Access) (new : Self) → makes old a new → Leaves (frames_of old) (grants_of old) (port old) a (port new) };
+    ghost leaves: { OfEach makes (λ old a new. Leaves (frames_of old) (grants_of old) (port old) a (port new)) };
 
     /// Where it tells a word, this is the one that an access finds. In an entry that it keeps an access finds a word
     /// that fits whether the grant is open.
-    ghost tells: { (old : Self) (a : Access) (new : Self) → makes old a new → FindsTold (port old) a };
+    ghost tells: { OfEach makes (λ old a new. FindsTold (port old) a) };
 }
 
 /// Words that only the calls made through this port change: each answer is the word last written there. The port is
@@ -110,12 +111,12 @@ pub trait Machine: Words {
         ensures domains { (d : ℕ) → knows_domain self.old d → knows_domain self.new d };
 
     /// An access finds the word that stands there, and changes that word alone.
-    ghost remembers: { (old : Self) (a : Access) (new : Self) → Self.makes old a new → Answers (Self.frames_of old) (Self.grants_of old) (word old) a (word new) };
+    ghost remembers: { OfEach Self.makes (λ old a new. Answers (Self.frames_of old) (Self.grants_of old) (word old) a (word new)) };
 
     /// No access changes whether it is whole, nor whom it knows.
-    ghost keeps_whole: { (old : Self) (a : Access) (new : Self) → Self.makes old a new → whole old → whole new };
+    ghost keeps_whole: { OfEach Self.makes (λ old a new. whole old → whole new) };
 
-    ghost keeps_devices: { (old : Self) (a : Access) (new : Self) → Self.makes old a new → (d dom : ℕ) → knows_device old d dom → knows_device new d dom };
+    ghost keeps_devices: { OfEach Self.makes (λ old a new. (d dom : ℕ) → knows_device old d dom → knows_device new d dom) };
 
-    ghost keeps_domains: { (old : Self) (a : Access) (new : Self) → Self.makes old a new → (d : ℕ) → knows_domain old d → knows_domain new d };
+    ghost keeps_domains: { OfEach Self.makes (λ old a new. (d : ℕ) → knows_domain old d → knows_domain new d) };
 }

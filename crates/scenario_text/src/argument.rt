@@ -3,7 +3,8 @@
 ghost use Rattle.std.specs.Prelude.{◌≡◌, ◌<◌, ◌≤◌, IfOk};
 ghost use Rattle.scenario_text.specs.Flaws.{Gives};
 ghost use Rattle.scenario_text.specs.Cursors.{cursor, seen};
-ghost use Rattle.scenario_text.specs.Arguments.{number_at, between_at, below_at, keyword_at, named, halves, half_at, modes, mode_at, key_at, node_value_at, state_at};
+ghost use Rattle.scenario_text.specs.Arguments.{number_at, between_at, below_at, keyword_at, named, halves};
+ghost use Rattle.scenario_text.specs.Arguments.{half_at, modes, mode_at, key_at, node_value_at, state_at};
 ghost use Rattle.scenario_text.specs.Nodes.{keys, node_value};
 ghost use Rattle.xenbus_states.specs.States.{state_of};
 

@@ -3,7 +3,8 @@
 ghost use Rattle.std.specs.Prelude.{◌≡◌, option_map};
 ghost use Rattle.scenario_text.specs.Flaws.{Gives};
 ghost use Rattle.scenario_text.specs.Cursors.{cursor, seen, seen_device};
-ghost use Rattle.scenario_text.specs.Lookups.{size_of, device_of, has_device, parts_of, frames_left, grants_left, new_domain_at, size_at, new_device_at, device_at};
+ghost use Rattle.scenario_text.specs.Lookups.{size_of, device_of, has_device, parts_of, frames_left};
+ghost use Rattle.scenario_text.specs.Lookups.{grants_left, new_domain_at, size_at, new_device_at, device_at};
 
 use crate::argument::between;
 use crate::fault::{FaultKind, Flaw};

@@ -4,7 +4,8 @@ ghost use Rattle.std.specs.Prelude.{◌≡◌};
 ghost use Rattle.scenario_text.specs.Flaws.{Gives};
 ghost use Rattle.scenario_text.specs.Cursors.{cursor, seen};
 ghost use Rattle.scenario_text.specs.Scenario.{drafted};
-ghost use Rattle.scenario_text.specs.Statements.{put_at, fill_at, put_grant_at, swap_at, open_at, end_at, node_at, bus_at, wake_at, back_at, serve_at};
+ghost use Rattle.scenario_text.specs.Statements.{put_at, fill_at, put_grant_at, swap_at, open_at};
+ghost use Rattle.scenario_text.specs.Statements.{end_at, node_at, bus_at, wake_at, back_at, serve_at};
 
 use crate::argument::{below, between, half, key, mode, node_value, state};
 use crate::draft::{Draft, Item};

@@ -23,60 +23,42 @@ const ASKED: Ranges = Ranges {
     period_max: 2_000_000,
 };
 
+// The words of a message about these ranges.
+const QUERIED: [u32; 16] = [
+    0x0009_0002,
+    0,
+    4,
+    1,
+    192_000,
+    400_000,
+    2,
+    3,
+    1024,
+    1025,
+    256,
+    2_000_000,
+    0,
+    0,
+    0,
+    0,
+];
+
+// The words of a request with two fields at most.
+fn short(head: u32, first: u32, second: u32) -> [u32; 16] {
+    [head, 0, first, second, 0, 0, 0, 0, 0, 0, 0, 0, 0, 0, 0, 0]
+}
+
 // A request for each operation, and its words from word 0 on.
 #[test]
 fn reads_and_writes_each_request(rt: HostRuntime) {
-    let queried = [
-        0x0009_0002,
-        0,
-        4,
-        1,
-        192_000,
-        400_000,
-        2,
-        3,
-        1024,
-        1025,
-        256,
-        2_000_000,
-        0,
-        0,
-        0,
-        0,
-    ];
     let rows = [
         (1, OPEN, Asked::Open(PARAMS), OPENED),
-        (
-            2,
-            CLOSE,
-            Asked::Close,
-            [0x0001_0002, 0, 0, 0, 0, 0, 0, 0, 0, 0, 0, 0, 0, 0, 0, 0],
-        ),
-        (
-            3,
-            READ,
-            Asked::Read(0, 3),
-            [0x0002_0003, 0, 0, 3, 0, 0, 0, 0, 0, 0, 0, 0, 0, 0, 0, 0],
-        ),
-        (
-            2,
-            WRITE,
-            Asked::Write(1, 6),
-            [0x0003_0002, 0, 1, 6, 0, 0, 0, 0, 0, 0, 0, 0, 0, 0, 0, 0],
-        ),
-        (
-            3,
-            TRIGGER,
-            Asked::Trigger(2),
-            [0x0008_0003, 0, 2, 0, 0, 0, 0, 0, 0, 0, 0, 0, 0, 0, 0, 0],
-        ),
-        (2, HW_PARAM_QUERY, Asked::Query(ASKED), queried),
-        (
-            65_535,
-            7,
-            Asked::Other,
-            [0x0007_FFFF, 0, 0, 0, 0, 0, 0, 0, 0, 0, 0, 0, 0, 0, 0, 0],
-        ),
+        (2, CLOSE, Asked::Close, short(0x0001_0002, 0, 0)),
+        (3, READ, Asked::Read(0, 3), short(0x0002_0003, 0, 3)),
+        (2, WRITE, Asked::Write(1, 6), short(0x0003_0002, 1, 6)),
+        (3, TRIGGER, Asked::Trigger(2), short(0x0008_0003, 2, 0)),
+        (2, HW_PARAM_QUERY, Asked::Query(ASKED), QUERIED),
+        (65_535, 7, Asked::Other, short(0x0007_FFFF, 0, 0)),
     ];
     for (id, op, asked, words) in rows {
         let request = Request { id, op, asked };
@@ -114,25 +96,7 @@ fn writes_and_reads_replies(rt: HostRuntime) {
         status: 0,
         body: ASKED,
     };
-    want = [
-        0x0009_0002,
-        0,
-        4,
-        1,
-        192_000,
-        400_000,
-        2,
-        3,
-        1024,
-        1025,
-        256,
-        2_000_000,
-        0,
-        0,
-        0,
-        0,
-    ];
-    assert_eq!(rt; answered, want);
+    assert_eq!(rt; answered, QUERIED);
     assert_eq!(rt; decode_reply(&answered), reply);
     replies_read_back();
 }

@@ -1,4 +1,4 @@
-use Rattle.std.proofs.Common.{◌≡◌, arith, ap, ◌∙◌, length}
+use Rattle.std.proofs.Common.{◌≡◌, arith, ap, ◌∙◌, drop, length}
 use Rattle.display_buffers.specs.Buffers.{check_of, with_buffer}
 use Rattle.display_buffers.proofs.Checks.{leaves_room}
 use Rattle.display_backend.specs.Left.{left_in}
@@ -23,5 +23,5 @@ returns c =
     let long : length gone ≡ length bs = omega (arith, c.self.invariant.0, c.self.inside.gone.ok.0) in
     ap (λ cs. left_in cs c.push_reserved.new.self.items) c.create.ensures
     ∙ ap (left_in (with_buffer bs c.args.c.now c.args.pages)) c.push_reserved.ensures.items
-    ∙ created_left bs gone c.args.c.now c.args.pages long
-    ∙ ap (λ cs. with_buffer cs c.args.c.now c.args.pages) c.self.view_is
+    ∙ created_left bs gone c.args.c.now c.args.pages c.args.gone long
+    ∙ ap (λ cs. with_buffer cs c.args.c.now (drop c.args.gone c.args.pages)) c.self.view_is

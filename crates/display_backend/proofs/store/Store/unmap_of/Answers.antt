@@ -1,6 +1,6 @@
 use Rattle.std.proofs.Common.{◌<◌, List, arith, sym, ap, ◌∙◌, length, slice_get}
 use Rattle.std.proofs.lemmas.Option.{same_Some}
-use Rattle.grant_table.specs.Mapping.{unmap_want}
+use Rattle.pv_words.specs.Mapping.{unmap_want}
 use Rattle.display_backend.specs.Stock.{Stock, Held, pages_under}
 use Rattle.display_backend.specs.Store.{stock_of, mapped_in}
 use Rattle.display_backend.proofs.Places.{less_place, under_none, under_place}

@@ -1,10 +1,10 @@
 use Rattle.std.proofs.Common.{Some, None, ap}
 use Rattle.pv_words.specs.declared.access.Access.TheVariants as access
 use Rattle.pv_words.specs.Memory.{without}
-use Rattle.grant_table.specs.Flags.{flags_place, used}
+use Rattle.pv_words.specs.Flags.{flags_place, used}
 use Rattle.grant_table.specs.Owning.{close_plan}
 use Rattle.grant_table.specs.OwnerLeft.{end_left, no_more}
-use Rattle.grant_table.proofs.Plans.{may_from, turns_as}
+use Rattle.pv_words.proofs.Plans.{may_from, turns_as}
 use Rattle.grant_table.proofs.Owns.{check_head, check_goes_on, close_head, close_ends, no_end}
 use Rattle.grant_table.proofs.owner.OwnerStep.end_step.Goals as goal
 

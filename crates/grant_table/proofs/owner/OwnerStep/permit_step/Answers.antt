@@ -1,10 +1,10 @@
 use Rattle.std.proofs.Common.{Some, None, ap}
 use Rattle.pv_words.specs.declared.access.Access.TheVariants as access
 use Rattle.grant_table.specs.declared.owner.Owned.TheVariants.{AlreadyOpen}
-use Rattle.grant_table.specs.Flags.{flags_place, frame_place}
+use Rattle.pv_words.specs.Flags.{flags_place, frame_place}
 use Rattle.grant_table.specs.Owning.{name_plan, open_plan}
 use Rattle.grant_table.specs.OwnerLeft.{permit_left, no_more}
-use Rattle.grant_table.proofs.Plans.{may_from, turns_as}
+use Rattle.pv_words.proofs.Plans.{may_from, turns_as}
 use Rattle.grant_table.proofs.Owns.{start_head, start_refuses, start_goes_on, name_head, name_goes_on, open_head, open_ends, no_permit}
 use Rattle.grant_table.proofs.owner.OwnerStep.permit_step.Goals as goal
 

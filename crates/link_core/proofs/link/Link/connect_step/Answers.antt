@@ -1,6 +1,6 @@
 use Rattle.std.proofs.Common.{◌≡◌, inl, inr, None, sym, ap, subst, ◌∙◌}
 use Rattle.pv_words.specs.Plan.{MayGo}
-use Rattle.grant_table.specs.MapLeft.{map_left}
+use Rattle.pv_words.specs.MapLeft.{map_left}
 use Rattle.link_core.specs.Activities.{with_event, with_ring}
 use Rattle.link_core.specs.Link.{dom_of, connect_left, connect_rest, ending_of, refs_of}
 use Rattle.link_core.specs.Stage.{ring_in}

@@ -1,8 +1,8 @@
 use Rattle.link_core.specs.declared.link.Stage.{Stage}
 use Rattle.std.proofs.Common.{◌≡◌, true, Some, refl, sym, ap, subst, ◌∙◌}
 use Rattle.pv_words.specs.Plan.{MayGo}
-use Rattle.grant_table.specs.Mapping.{Advances}
-use Rattle.grant_table.specs.MapLeft.{map_left}
+use Rattle.pv_words.specs.Mapping.{Advances}
+use Rattle.pv_words.specs.MapLeft.{map_left}
 use Rattle.link_core.specs.Link.{connects, dom_of, held_of, is_in_connect, is_joined, idle, rings}
 use Rattle.link_core.specs.Stage.{agrees, has_nothing, ring_comes}
 use Rattle.link_core.proofs.Connects.{ring_goes_on, ring_holds, ring_refuses}

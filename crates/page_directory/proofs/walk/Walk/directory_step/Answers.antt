@@ -4,7 +4,7 @@ use Rattle.page_directory.specs.WalkLeft.{held_by, held_in}
 use Rattle.page_directory.proofs.Begun.{map_begun, begun_directory}
 use Rattle.page_directory.proofs.Changing.{map_keeps, map_stands, map_gains, insert_last}
 use Rattle.std.proofs.Common.{Some, Err, refl, ap, ◌∙◌, arith}
-use Rattle.grant_table.specs.MapLeft.{dom_of as map_dom}
+use Rattle.pv_words.specs.MapLeft.{dom_of as map_dom}
 use Rattle.page_directory.specs.Stages.{is_mapping, is_last}
 use Rattle.page_directory.specs.Walking.{with_map, undo_plan}
 use Rattle.page_directory.specs.WalkLeft.{left_in, walk_left, dom_of, is_over, entered}

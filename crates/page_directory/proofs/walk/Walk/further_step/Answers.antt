@@ -3,7 +3,7 @@ use Rattle.pv_words.specs.Plan.{Ends}
 use Rattle.page_directory.specs.Changes.{ChangesBy}
 use Rattle.page_directory.proofs.Changing.{changes_first, leaves_directory}
 use Rattle.std.proofs.Common.{◌<◌, length, refl, ap, arith}
-use Rattle.grant_table.specs.MapLeft.{map_left}
+use Rattle.pv_words.specs.MapLeft.{map_left}
 use Rattle.page_directory.specs.Stages.{is_turning}
 use Rattle.page_directory.specs.WalkLeft.{left_in, walk_left, dom_of, is_over, held_by, held_in}
 use Rattle.page_directory.proofs.Plans.{may_first}

@@ -1,5 +1,5 @@
 use Rattle.std.proofs.Common.{◌+◌, ◌/◌, ◌<◌, refl, arith}
-use Rattle.grant_table.specs.MapLeft.{map_left}
+use Rattle.pv_words.specs.MapLeft.{map_left}
 use Rattle.page_directory.specs.WalkLeft.{walk_left, dom_of, count_of, is_over, held_by}
 use Rattle.page_directory.proofs.Transitions.{starts}
 use Rattle.page_directory.proofs.walk.Walk.new.Goals as goal

@@ -5,7 +5,7 @@ use Rattle.page_directory.proofs.Changing.{map_keeps, map_stands, map_gains, ins
 use Rattle.std.proofs.Common.{◌++◌, ◌∷◌, [], Some, Err, refl, sym, subst, ap, ◌∙◌}
 use Rattle.std.specs.List.{insert}
 use Rattle.pv_words.specs.Plan.{IsUnfinished}
-use Rattle.grant_table.specs.MapLeft.{dom_of as map_dom}
+use Rattle.pv_words.specs.MapLeft.{dom_of as map_dom}
 use Rattle.page_directory.specs.Stages.{is_mapping, is_last}
 use Rattle.page_directory.specs.Walking.{with_map, undo_plan, rest_plan}
 use Rattle.page_directory.specs.WalkLeft.{left_in, walk_left, dom_of, is_over}

@@ -3,7 +3,7 @@ use Rattle.pv_words.specs.declared.access.Access.TheVariants as access
 use Rattle.page_directory.specs.Walking.{word_in}
 use Rattle.page_directory.proofs.Changing.{changes_first}
 use Rattle.std.proofs.Common.{◌≡◌, ◌+◌, ◌-◌, ◌≤◌, length, refl, ap, arith}
-use Rattle.grant_table.specs.MapLeft.{map_left}
+use Rattle.pv_words.specs.MapLeft.{map_left}
 use Rattle.page_directory.specs.Walking.{rest_plan}
 use Rattle.page_directory.specs.WalkLeft.{left_in, walk_left, dom_of, is_over, held_by, held_in}
 use Rattle.page_directory.proofs.Plans.{may_first}

@@ -1,0 +1,5 @@
+use Rattle.device_service.proofs.Throughout.{tells_held}
+use Rattle.device_service.proofs.laws.tells_what_is_held.Goals as goal
+
+pub returns : goal.returns
+returns g c = λ d. tells_held c.keeps_laws.ensures c.tells_held.ensures d

@@ -1,0 +1,195 @@
+//! Connecting, and closing a connection.
+
+ghost use Rattle.std.specs.Prelude.{◌≡◌, [], None, Some, false};
+ghost use Rattle.device_service.specs.Activity.{is_connected, is_open};
+
+use super::{Activity, Backend};
+use crate::reading::fault_among;
+use crate::round::Round;
+use crate::serve::Serve;
+use device_core::Step;
+use pv_words::{Reason, Said, State, Words};
+
+impl<S: Serve + Drop> Backend<S> {
+    ghost use Rattle.std.specs.Prelude.{List};
+    ghost use Rattle.pv_words.specs.declared.device.Said.TheVariants as said;
+    ghost use Rattle.pv_words.specs.declared.grant.Hold.{Hold};
+    ghost use Rattle.pv_words.specs.Plan.{Finished, MayGo, Makes, mapped};
+    ghost use Rattle.link_core.specs.Activities.{unmaps};
+    ghost use Rattle.link_core.specs.Stays.{AccessIn};
+    ghost use Rattle.device_core.specs.Order.{Between, MayChoose, Went};
+    ghost use Rattle.device_core.specs.Site.{Site};
+    ghost use Rattle.xenbus_states.specs.Connection.{action_of};
+    ghost use Rattle.xenbus_states.specs.declared.back.Action.TheVariants as action;
+    ghost use Rattle.device_service.specs.declared.backend.Activity.TheVariants as activity;
+    ghost use Rattle.device_service.specs.Goes.{Begins, GoesOut};
+    ghost use Rattle.device_service.specs.Dropping.{MayDrop};
+    ghost use Rattle.device_service.specs.Parts.{connect_left};
+    ghost use Rattle.device_service.specs.Stand.{Same, dom_of, given_up, held_of, leaving_plan, parts_of, site_at, stand_of, work_of};
+    ghost use Rattle.device_service.specs.Work.{close, connected, device, entered, shut, with_action};
+
+    // The connection is closed, once no page is held.
+    fn shut(&mut self, why: Reason) -> Said
+        requires leaving { self.old.activity ≡ activity.Leaving why }
+        requires bare { given_up self.old ≡ [] }
+        ensures said { result ≡ said.Closed why }
+        ensures stand { (site : Site) → stand_of site self.new ≡ Between (shut S.service (work_of self.old)) }
+        ensures same { Same self.old self.new }
+    {
+        self.parts.given_up();
+        self.service.drop_hand();
+        self.closing = true;
+        self.kept = None;
+        self.hand = None;
+        self.activity = Activity::Between;
+        Said::Closed(why)
+    }
+
+    // What is said after an access of a Close.
+    fn leaves(&mut self, why: Reason) -> Option<Said>
+        requires { self.old.activity ≡ activity.Leaving why }
+        ensures went { (site : Site) → Went (device S.service site) (work_of self.old) (leaving_plan why (given_up self.old)) result (stand_of site self.new) }
+        ensures same { Same self.old self.new }
+    {
+        if self.service.held() > 0 {
+            return None;
+        }
+        if !self.parts.is_bare() {
+            return None;
+        }
+        Some(self.shut(why))
+    }
+
+    // The next access of a Close.
+    pub(super) fn leave<W: Words>(&mut self, words: &mut W, why: Reason) -> Step
+        requires leaving { self.old.activity ≡ activity.Leaving why }
+        requires may { MayDrop (W.may words.old) (given_up self.old) }
+        ensures goes { (site : Site) → GoesOut S.service site (work_of self.old) (leaving_plan why (given_up self.old)) result.access result.said (stand_of site self.new) }
+        ensures made { Makes W.makes words.old result.access words.new }
+        ensures stays { (pages : List Hold) → AccessIn pages result.access }
+        ensures same { Same self.old self.new }
+    {
+        if self.service.held() > 0 {
+            let access = Some(self.service.unmap_first(words));
+            let said = self.leaves(why);
+            return Step { access, said };
+        }
+        if self.parts.is_bare() {
+            let said = Some(self.shut(why));
+            return Step { access: None, said };
+        }
+        let access = Some(self.parts.drop_step(words));
+        let said = self.leaves(why);
+        Step { access, said }
+    }
+
+    // The first step of a Close.
+    pub(super) fn close<W: Words>(&mut self, words: &mut W, why: Reason) -> Step
+        requires between { self.old.activity ≡ activity.Between }
+        requires may { MayChoose (W.may words.old) (close S.service (work_of self.old) why) }
+        ensures begins { (site : Site) → Begins S.service site (close S.service (work_of self.old) why) result.access result.said (stand_of site self.new) }
+        ensures made { Makes W.makes words.old result.access words.new }
+        ensures stays { (pages : List Hold) → AccessIn pages result.access }
+        ensures same { Same self.old self.new }
+    {
+        self.parts.give_up();
+        self.activity = Activity::Leaving(why);
+        self.leave(words, why)
+    }
+
+    // A Connect is refused for this reason, and no page is held.
+    fn refuse(&mut self, why: Reason) -> Said
+        requires between { self.old.activity ≡ activity.Between }
+        requires apart { is_open self.old.activity self.old.closing self.old.connection.back ≡ false }
+        ensures said { result ≡ said.Closed why }
+        ensures stand { (site : Site) → stand_of site self.new ≡ Between (shut S.service (work_of self.old)) }
+        ensures same { Same self.old self.new }
+    {
+        self.service.drop_hand();
+        self.closing = true;
+        self.kept = None;
+        self.hand = None;
+        self.activity = Activity::Between;
+        Said::Closed(why)
+    }
+
+    // The next access of a Connect.
+    pub(super) fn connect<W: Words>(&mut self, words: &mut W) -> Step
+        requires connecting { self.old.activity ≡ activity.Connecting }
+        requires may { MayGo (W.may words.old) (connect_left (site_at (W.frames_of words.old) (W.grants_of words.old) self.old) self.old.read self.old.parts) }
+        ensures goes { GoesOut S.service (site_at (W.frames_of words.old) (W.grants_of words.old) self.old) (work_of self.old) (mapped connected (connect_left (site_at (W.frames_of words.old) (W.grants_of words.old) self.old) self.old.read self.old.parts)) result.access result.said (stand_of (site_at (W.frames_of words.old) (W.grants_of words.old) self.old) self.new) }
+        ensures made { Makes W.makes words.old result.access words.new }
+        ensures stays { AccessIn (held_of self.old) result.access }
+        ensures same { Same self.old self.new }
+    {
+        let turn = self.parts.connect_step(words, &self.read);
+        let access = turn.access;
+        let Some(end) = turn.done else {
+            self.activity = Activity::Connecting;
+            return Step { access, said: None };
+        };
+        self.activity = Activity::Between;
+        self.kept = None;
+        self.hand = None;
+        if let Err(refusal) = end {
+            self.service.drop_hand();
+            self.closing = true;
+            let said = Some(Said::Closed(Reason::Refused(refusal)));
+            return Step { access, said };
+        }
+        self.connection.moved(State::Connected);
+        self.closing = false;
+        self.service.start(&self.read);
+        self.waiting.clear();
+        self.left = 0;
+        self.round = Round::Looks(0, false);
+        Step {
+            access,
+            said: Some(Said::State(State::Connected)),
+        }
+    }
+
+    // The first step of a Connect.
+    pub(super) fn begin_connect<W: Words>(&mut self, words: &mut W) -> Step
+        requires between { self.old.activity ≡ activity.Between }
+        requires closing { self.old.closing ≡ false }
+        requires action { action_of self.old.connection ≡ action.Connect }
+        requires may { MayChoose (W.may words.old) (with_action S.service (site_at (W.frames_of words.old) (W.grants_of words.old) self.old) (work_of self.old) action.Connect) }
+        ensures begins { Begins S.service (site_at (W.frames_of words.old) (W.grants_of words.old) self.old) (with_action S.service (site_at (W.frames_of words.old) (W.grants_of words.old) self.old) (work_of self.old) action.Connect) result.access result.said (stand_of (site_at (W.frames_of words.old) (W.grants_of words.old) self.old) self.new) }
+        ensures made { Makes W.makes words.old result.access words.new }
+        ensures stays { AccessIn (held_of self.old) result.access }
+        ensures same { Same self.old self.new }
+    {
+        self.connection.began();
+        self.read = self.seen;
+        if let Some(why) = fault_among(&self.read, self.parts.len(), S::is_ringed()) {
+            let said = Some(self.refuse(why));
+            return Step { access: None, said };
+        }
+        self.parts.begin();
+        self.activity = Activity::Connecting;
+        self.connect(words)
+    }
+
+    // The backend takes a state in which no part is connected.
+    pub(super) fn enter(&mut self, s: State) -> Step
+        requires between { self.old.activity ≡ activity.Between }
+        requires apart { is_open self.old.activity self.old.closing self.old.connection.back ≡ false }
+        requires state { is_connected s ≡ false }
+        ensures access { result.access ≡ None }
+        ensures said { result.said ≡ Some (said.State s) }
+        ensures stand { (site : Site) → stand_of site self.new ≡ Between (entered S.service (work_of self.old) s) }
+        ensures same { Same self.old self.new }
+    {
+        self.connection.moved(s);
+        self.closing = false;
+        self.hand = None;
+        self.service.start(&self.read);
+        self.waiting.clear();
+        self.activity = Activity::Between;
+        Step {
+            access: None,
+            said: Some(Said::State(s)),
+        }
+    }
+}

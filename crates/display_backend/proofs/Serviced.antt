@@ -1,0 +1,291 @@
+-- What a step of a display's service comes to.
+use Rattle.std.proofs.Common.{◌≡◌, ℕ, ℤ, ◌<◌, ◌++◌, Bool, true, false, cond, nat_lt, List, [], ◌∷◌, drop, length, Option, Some, None, slice_get, refl, sym, ap, subst, ◌∙◌, arith}
+use Rattle.std.proofs.lemmas.Bool.{true≢false}
+use Rattle.pv_words.specs.declared.access.Access.{Access}
+use Rattle.pv_words.specs.declared.device.Said.{Said}
+use Rattle.pv_words.specs.declared.device.Said.TheVariants as said
+use Rattle.pv_words.specs.declared.grant.Hold.{Hold}
+use Rattle.pv_words.specs.declared.place.Place.TheVariants.{Cell, Grant}
+use Rattle.pv_words.specs.Plan as plan
+use Rattle.pv_words.specs.Plan.{Plan, Finished, Make, Want, Load, Store, Swap, Clear, MayGo, Turns, IsUnfinished, joined, mapped, wanted}
+use Rattle.pv_words.specs.Mapping.{unmap_want}
+use Rattle.displ_wire.specs.declared.Asked.{Asked}
+use Rattle.displ_wire.specs.declared.Asked.TheVariants as asked
+use Rattle.displ_wire.specs.declared.Create.{Create}
+use Rattle.displ_wire.specs.declared.Request.{Request}
+use Rattle.display_buffers.specs.Buffers.{check_of, has_cookie}
+use Rattle.page_directory.specs.declared.walk.Walked.{Walked}
+use Rattle.page_directory.specs.declared.walk.Walked.TheVariants as walked
+use Rattle.page_directory.specs.Joins.{TurnsOrEnds}
+use Rattle.page_directory.specs.declared.walk.Walk.{Walk}
+use Rattle.page_directory.specs.WalkLeft.{PagesByAccess, walk_left, dom_of, held_by}
+use Rattle.link_core.specs.Activities.{unmaps}
+use Rattle.link_core.specs.Stays.{LiesIn, AccessIn}
+use Rattle.device_service.specs.Dropping.{Drops}
+use Rattle.device_service.specs.declared.deed.Now.{Now}
+use Rattle.device_service.specs.declared.deed.Now.TheVariants.{GoesOn, Over}
+use Rattle.device_service.specs.Operating.{Comes, Continues, Leaves}
+use Rattle.display_backend.specs.declared.course.Course.{Course}
+use Rattle.display_backend.specs.declared.course.Course.TheVariants.{Rests, Walks, Frees}
+use Rattle.display_backend.specs.declared.course.Progress.{Progress}
+use Rattle.display_backend.specs.declared.course.Progress.TheVariants as progress
+use Rattle.display_backend.specs.Course.{Goes, is_under_way, is_walk_of, pages_walked, stock_at, left_at, Creates, Destroys, ComesTo, InHand, HasDestroy, Releases, Stands}
+use Rattle.display_backend.specs.Service.{Known, Ending, Listed, Freed, after_walk, display, has_work, ready_at, ready_for, reply_for, says_at}
+use Rattle.display_backend.specs.Stock.{Stock, Held, pages_of, pages_under, with_pages, less_one, bared, stripped, first_less, without_first_in, without_first_of, without_first}
+use Rattle.display_backend.specs.Names.{numbered}
+use Rattle.display_backend.specs.Reply.{reply_to}
+use Rattle.display_backend.specs.Verdict.{status_in, verdict}
+use Rattle.display_backend.proofs.Freeing.{Clears, bare_freed}
+use Rattle.display_backend.proofs.Numbered.{AreLike, like_verdict, numbered_all_bared, numbered_bared, same_check}
+use Rattle.display_backend.proofs.Order.{buffers_stay, first_of_one, none_under, others_stay}
+use Rattle.device_service.proofs.Serving.{in_service}
+use Rattle.device_core.specs.Site.{Site}
+use Rattle.device_service.specs.Claims.{site_of}
+use Rattle.std.proofs.lemmas.Bool.{eqb-true}
+
+abbrev stock : List Hold → List Held → Stock
+stock mapped buffers = record { mapped = mapped; buffers = buffers }
+
+abbrev pub knowing : Stock → Option Request → Progress → Known
+knowing s hand p = record { stock = s; request = hand; progress = p }
+
+-- between two activities nothing is given up
+pub at_rest : (course : Course) (s : Stock) → is_under_way course ≡ false → stock_at course s ≡ s
+at_rest Rests s e = refl
+at_rest (Walks w) s e = refl
+at_rest (Frees cookie) s e = absurd (true≢false e)
+
+goes_mapped : {A B : Type 0} (f : A → B) (p : Plan A) (a : Access) (q : Plan A) → plan.Goes p a q → plan.Goes (mapped f p) a (mapped f q)
+goes_mapped f (Finished x) a q g = absurd g
+goes_mapped f (Make want note more) a q g = (g.0, ap (mapped f) g.1)
+
+-- a walk goes on
+walk_left_on : (x y : Known) (q : Plan Walked) (left : Plan Ending) → IsUnfinished q → y ≡ x → left ≡ mapped Listed q → Leaves display x (mapped Listed q) GoesOn None y left
+walk_left_on x y (Finished came) left u e l = absurd u
+walk_left_on x y (Make want note more) left u e l = (refl, refl, e, l)
+
+pub walk_goes : (x y : Known) (p q : Plan Walked) (access : Option Access) (last : Option Walked) (left : Plan Ending) → last ≡ None → y ≡ x → TurnsOrEnds p access last q → left ≡ mapped Listed q → Comes display x (mapped Listed p) access GoesOn None y left
+walk_goes x y p q None last left e same t l = absurd (subst (λ (z : Option Walked). TurnsOrEnds p None z q) e t)
+walk_goes x y p q (Some a) last left e same t l =
+    let goes : Turns p (Some a) None q = subst (λ (z : Option Walked). TurnsOrEnds p (Some a) z q) e t in
+    (mapped Listed q, goes_mapped (λ z. Listed z) p a q goes.0, walk_left_on x y q left goes.1 same l)
+
+-- it is over
+walk_refused : (x y : Known) (p : Plan Walked) (came : Walked) (told : Option Said) (left : Plan Ending) → p ≡ Finished came → PagesByAccess None (Some came) → told ≡ says_at (Listed came) → y ≡ after_walk x came → Comes display x (mapped Listed p) None Over told y left
+walk_refused x y p (walked.Pages ps) told left over h e n = absurd h
+walk_refused x y p (walked.Refused why) told left over h e n =
+    record {
+      end = Listed (walked.Refused why);
+      said = said.Denied why;
+      over = ap (λ (z : Plan Walked). mapped Listed z) over;
+      says = e;
+      said_is = refl;
+      now_is = refl;
+      left = n;
+    }
+
+pub walk_ends : (x y : Known) (p q : Plan Walked) (access : Option Access) (last : Option Walked) (came : Walked) (told : Option Said) (left : Plan Ending) → last ≡ Some came → TurnsOrEnds p access last q → PagesByAccess access last → told ≡ says_at (Listed came) → y ≡ after_walk x came → Comes display x (mapped Listed p) access Over told y left
+walk_ends x y p q None last came told left is t h e n =
+    walk_refused x y p came told left (subst (λ (z : Option Walked). TurnsOrEnds p None z q) is t) (subst (λ (z : Option Walked). PagesByAccess None z) is h) e n
+walk_ends x y p q (Some a) last came told left is t h e n =
+    let goes : Turns p (Some a) (Some came) q = subst (λ (z : Option Walked). TurnsOrEnds p (Some a) z q) is t in
+    (Finished (Listed came), goes_mapped (λ z. Listed z) p a (Finished came) goes, (refl, e, n))
+
+-- a walk that isn't over goes on by an access
+pub comes_further : (x : Known) (p : Plan Walked) (access : Option Access) (now : Now) (told : Option Said) (y : Known) (left : Plan Ending) → IsUnfinished p → Comes display x (mapped Listed p) access now told y left → Continues display x (mapped Listed p) access now told y left
+comes_further x (Finished came) None now told y left u c = absurd u
+comes_further x (Make want note more) None now told y left u c = let over = c.over in let wrong : ⊥ = cc over in absurd wrong
+comes_further x p (Some a) now told y left u c = c
+
+-- an access to no page
+lies_in_none : (want : Want) (pages : List Hold) → LiesIn [] want → LiesIn pages want
+lies_in_none (Load (Cell d f w)) pages h = absurd h
+lies_in_none (Store (Cell d f w) v) pages h = absurd h
+lies_in_none (Swap (Cell d f w) old new) pages h = absurd h
+lies_in_none (Clear (Cell d f w) mask) pages h = absurd h
+lies_in_none (Load (Grant d g half)) pages h = tt
+lies_in_none (Store (Grant d g half) v) pages h = tt
+lies_in_none (Swap (Grant d g half) old new) pages h = tt
+lies_in_none (Clear (Grant d g half) mask) pages h = tt
+
+pub in_none : (access : Option Access) (held pages : List Hold) → held ≡ [] → AccessIn held access → AccessIn pages access
+in_none None held pages e h = tt
+in_none (Some a) held pages e h = lies_in_none (wanted a) pages (subst (λ (hs : List Hold). LiesIn hs (wanted a)) e h)
+
+-- the first page of a list is unmapped
+pub may_unmap : {A : Type 0} (may : Want → Type 0) (hs : List Hold) (more : Plan A) → MayGo may (unmaps hs more) → (h : Hold) → slice_get hs 0 ≡ Some h → may (unmap_want h)
+may_unmap may [] more m h e = let wrong : ⊥ = cc in absurd wrong
+may_unmap may (x ∷ xs) more m h e =
+    let same : x ≡ h = cc in
+    subst (λ (y : Hold). may (unmap_want y)) same m
+
+pub drops_first : (hs left : List Hold) (a : Access) → 0 < length hs → Clears hs a → left ≡ drop 1 hs → Drops hs a left
+drops_first [] left a some clears e = absurd (omega (arith, some))
+drops_first (h ∷ hs) left a some clears e = (clears h refl, e)
+
+-- the Release of a DESTROY
+unmap_goes : (hs : List Hold) (more : Plan Ending) (a : Access) → 0 < length hs → Clears hs a → plan.Goes (unmaps hs more) a (unmaps (drop 1 hs) more)
+unmap_goes [] more a some clears = absurd (omega (arith, some))
+unmap_goes (h ∷ hs) more a some clears = (clears h refl, refl)
+
+free_left_on : (x y : Known) (hs : List Hold) (left : Plan Ending) → 0 < length hs → y ≡ x → left ≡ unmaps hs (Finished Freed) → Leaves display x (unmaps hs (Finished Freed)) GoesOn None y left
+free_left_on x y [] left some e l = absurd (omega (arith, some))
+free_left_on x y (h ∷ hs) left some e l = (refl, refl, e, l)
+
+-- more pages are left
+pub free_goes : (x y : Known) (p : Plan Ending) (hs rest : List Hold) (a : Access) (left : Plan Ending) → p ≡ unmaps hs (Finished Freed) → 0 < length hs → Clears hs a → rest ≡ drop 1 hs → 0 < length rest → y ≡ x → left ≡ unmaps rest (Finished Freed) → Continues display x p (Some a) GoesOn None y left
+free_goes x y p hs rest a left is some clears e more same l = (
+  unmaps rest (Finished Freed),
+  subst (λ (z : Plan Ending). plan.Goes z a (unmaps rest (Finished Freed))) (sym is) (subst (λ (z : List Hold). plan.Goes (unmaps hs (Finished Freed)) a (unmaps z (Finished Freed))) (sym e) (unmap_goes hs (Finished Freed) a some clears)),
+  free_left_on x y rest left more same l,
+)
+
+-- none is left
+pub free_ends : (x y : Known) (p : Plan Ending) (hs : List Hold) (a : Access) (left : Plan Ending) → p ≡ unmaps hs (Finished Freed) → 0 < length hs → Clears hs a → drop 1 hs ≡ [] → y ≡ record x { progress = progress.Released } → Continues display x p (Some a) Over None y left
+free_ends x y p hs a left is some clears e n = (
+  Finished Freed,
+  subst (λ (z : Plan Ending). plan.Goes z a (Finished Freed)) (sym is) (subst (λ (z : List Hold). plan.Goes (unmaps hs (Finished Freed)) a (unmaps z (Finished Freed))) e (unmap_goes hs (Finished Freed) a some clears)),
+  (refl, refl, n),
+)
+
+module _ (course : Course) (cookie : ℕ) (s t : Stock) (is : course ≡ Frees cookie) (less : t ≡ stock s.mapped (less_one cookie s.buffers)) where
+  pub left_under : pages_under cookie t.buffers ≡ drop 1 (pages_under cookie s.buffers)
+  left_under = ap (λ (x : Stock). pages_under cookie x.buffers) less ∙ first_of_one cookie s.buffers
+
+  -- what is given up stays the same
+  pub stock_less : stock_at course t ≡ stock_at course s
+  stock_less =
+      ap (λ k. stock_at k t) is
+      ∙ (ap (λ (x : Stock). stock x.mapped (bared cookie x.buffers)) less
+      ∙ (ap (stock s.mapped) (others_stay cookie s.buffers)
+      ∙ ap (λ k. stock_at k s) (sym is)))
+
+  pub stock_freed : pages_under cookie t.buffers ≡ [] → t ≡ stock_at course s
+  stock_freed bare =
+      let none : pages_under cookie (less_one cookie s.buffers) ≡ [] = sym (ap (λ (x : Stock). pages_under cookie x.buffers) less) ∙ bare in
+      less
+      ∙ (ap (stock s.mapped) (sym (bare_freed cookie (less_one cookie s.buffers) none) ∙ others_stay cookie s.buffers)
+      ∙ ap (λ k. stock_at k s) (sym is))
+
+-- what is known of a Release
+pub releases : (course : Course) (cookie : ℕ) (hand : Option Request) (p : Progress) (bs : List Held) (count : ℕ) → course ≡ Frees cookie → Stands course hand p bs count → Releases cookie hand bs
+releases course cookie hand p bs count is st = (subst (λ (k : Course). Stands k hand p bs count) is st).1
+
+-- its request is to be answered
+ready_rest : (p : Progress) → ready_at p false ≡ true
+ready_rest progress.Decided = refl
+ready_rest progress.NoMemory = refl
+ready_rest progress.Denied = refl
+ready_rest progress.Mapped = refl
+ready_rest progress.Released = refl
+
+ready_destroy : (cookie : ℕ) (hand : Option Request) (p : Progress) (s : Stock) → HasDestroy hand cookie → ready_for (knowing (stock s.mapped (bared cookie s.buffers)) hand p) hand ≡ true
+ready_destroy cookie None p s h = refl
+ready_destroy cookie (Some q) p s h =
+    ap (λ (a : Asked). ready_at p (has_work (bared cookie s.buffers) a)) h
+    ∙ (ap (λ (hs : List Hold). ready_at p (nat_lt 0 (length hs))) (none_under cookie s.buffers)
+    ∙ ready_rest p)
+
+pub ready_freeing : (course : Course) (cookie : ℕ) (hand : Option Request) (p : Progress) (s : Stock) (count : ℕ) → course ≡ Frees cookie → Stands course hand p s.buffers count → ready_for (knowing (stock_at course s) hand p) hand ≡ true
+ready_freeing course cookie hand p s count is st =
+    ap (λ k. ready_for (knowing (stock_at k s) hand p) hand) is
+    ∙ ready_destroy cookie hand p s (releases course cookie hand p s.buffers count is st).destroys
+
+-- the first of all pages is given up: what is known of the request in hand stays
+under_first : (cookie : ℕ) (bs : List Held) → pages_under cookie bs ≡ [] → pages_under cookie (without_first_in bs) ≡ []
+under_first cookie [] e = refl
+under_first cookie (b ∷ bs) e = by_pages b.pages refl (has_cookie cookie b) refl e (under_first cookie bs)
+  where
+    by_pages : (pages : List Hold) → b.pages ≡ pages → (t : Bool) → has_cookie cookie b ≡ t → cond (has_cookie cookie b) b.pages (pages_under cookie bs) ≡ [] → (pages_under cookie bs ≡ [] → pages_under cookie (without_first_in bs) ≡ []) → pages_under cookie (first_less (b ∷ without_first_in bs) pages (with_pages b (drop 1 pages) ∷ bs)) ≡ []
+    by_pages [] is true f e later =
+        ap (λ t. cond t b.pages (pages_under cookie (without_first_in bs))) f ∙ is
+    by_pages [] is false f e later =
+        ap (λ t. cond t b.pages (pages_under cookie (without_first_in bs))) f
+        ∙ later (sym (ap (λ t. cond t b.pages (pages_under cookie bs)) f) ∙ e)
+    by_pages (h ∷ hs) is true f e later =
+        let none : h ∷ hs ≡ [] = sym is ∙ (sym (ap (λ t. cond t b.pages (pages_under cookie bs)) f) ∙ e) in
+        let wrong : ⊥ = cc none in
+        absurd wrong
+    by_pages (h ∷ hs) is false f e later =
+        ap (λ t. cond t hs (pages_under cookie bs)) f
+        ∙ (sym (ap (λ t. cond t b.pages (pages_under cookie bs)) f) ∙ e)
+
+under_less : (cookie : ℕ) (mapped : List Hold) (bs : List Held) → pages_under cookie bs ≡ [] → pages_under cookie (without_first_of mapped bs).buffers ≡ []
+under_less cookie [] bs e = under_first cookie bs e
+under_less cookie (h ∷ hs) bs e = e
+
+like_less : (s : Stock) → AreLike (without_first s).buffers s.buffers
+like_less s =
+    sym (numbered_all_bared (without_first s).buffers [])
+    ∙ (ap (λ (x : Stock). numbered x.buffers []) (buffers_stay s)
+    ∙ numbered_all_bared s.buffers [])
+
+check_less : (s : Stock) (c : Create) → check_of (without_first s).buffers c ≡ check_of s.buffers c
+check_less s c =
+    sym (same_check (without_first s).buffers [] c)
+    ∙ (ap (λ x. check_of x c) (like_less s)
+    ∙ same_check s.buffers [] c)
+
+creates_less : (s : Stock) (asks : Asked) (count : ℕ) → Creates asks s.buffers count → Creates asks (without_first s).buffers count
+creates_less s (asked.Create c) count h = (check_less s c ∙ h.0, h.1)
+creates_less s (asked.Destroy cookie) count h = absurd h
+creates_less s (asked.Config c) count h = absurd h
+creates_less s asks count h = absurd h
+
+destroys_less : (s : Stock) (asks : Asked) → Destroys asks s.buffers → Destroys asks (without_first s).buffers
+destroys_less s (asked.Create c) h = absurd h
+destroys_less s (asked.Destroy cookie) h = under_less cookie s.mapped s.buffers h
+destroys_less s (asked.Config c) h = absurd h
+destroys_less s asks h = absurd h
+
+comes_less : (s : Stock) (p : Progress) (asks : Asked) (count : ℕ) → ComesTo p asks s.buffers count → ComesTo p asks (without_first s).buffers count
+comes_less s progress.Decided asks count h = tt
+comes_less s progress.NoMemory asks count h = tt
+comes_less s progress.Denied asks count h = tt
+comes_less s progress.Mapped asks count h = creates_less s asks count h
+comes_less s progress.Released asks count h = destroys_less s asks h
+
+in_hand_less : (s : Stock) (hand : Option Request) (p : Progress) (count : ℕ) → InHand hand p s.buffers count → InHand hand p (without_first s).buffers count
+in_hand_less s None p count h = tt
+in_hand_less s (Some q) p count h = comes_less s p q.asked count h
+
+pub stands_less : (course : Course) (hand : Option Request) (p : Progress) (s t : Stock) (count more : ℕ) → is_under_way course ≡ false → t ≡ without_first s → more ≡ count → Stands course hand p s.buffers count → Stands course hand p t.buffers more
+stands_less (Walks w) hand p s t count more idle e f st = absurd (true≢false idle)
+stands_less (Frees cookie) hand p s t count more idle e f st = absurd (true≢false idle)
+stands_less Rests hand p s t count more idle e f st =
+    subst (λ (x : Stock). InHand hand p x.buffers more) (sym e)
+    (subst (λ n. InHand hand p (without_first s).buffers n) (sym f) (in_hand_less s hand p count st))
+
+pub strips_less : (course : Course) (s t : Stock) → is_under_way course ≡ false → t ≡ without_first s → stripped (stock_at course t) ≡ stripped (stock_at course s)
+strips_less course s t idle e =
+    ap (λ x. stripped x) (at_rest course t idle)
+    ∙ (ap (λ x. stripped x) e
+    ∙ (buffers_stay s
+    ∙ ap (λ x. stripped x) (sym (at_rest course s idle))))
+
+-- the walk under way goes on
+pub walk_continues : (frames grants : ℕ → ℕ) (dom parts : ℕ) (course mid : Course) (w : Walk) (hand : Option Request) (p : Progress) (s : Stock) (count : ℕ) (access : Option Access) (now : Now) (told : Option Said) (y : Known) (left : Site → Plan Ending) → course ≡ Walks w → mid ≡ Rests → is_walk_of dom course ≡ true → Stands course hand p s.buffers count → ((n : ℕ) → Comes display (knowing (stock_at mid s) hand p) (mapped Listed (walk_left (frames (dom_of w)) (grants (dom_of w)) w)) access now told y (left (site_of frames grants (dom_of w) n))) → Continues display (knowing (stock_at course s) hand p) (left_at (site_of frames grants dom parts) course s) access now told y (left (site_of frames grants dom parts))
+walk_continues frames grants dom parts course mid w hand p s count access now told y left is rests of st comes =
+    let dom_is : dom_of w ≡ dom = eqb-true _ _ (subst (λ (k : Course). is_walk_of dom k ≡ true) is of) in
+    let goes : Goes w = (subst (λ (k : Course). Stands k hand p s.buffers count) is st).2 in
+    let plan = walk_left (frames (dom_of w)) (grants (dom_of w)) w in
+    let from = subst (λ (k : Course). Comes display (knowing (stock_at k s) hand p) (mapped Listed plan) access now told y (left (site_of frames grants (dom_of w) parts))) rests (comes parts) in
+    let further = comes_further (knowing s hand p) plan access now told y (left (site_of frames grants (dom_of w) parts)) (goes.further (frames (dom_of w)) (grants (dom_of w))) from in
+    let at = subst (λ n. Continues display (knowing s hand p) (mapped Listed (walk_left (frames n) (grants n) w)) access now told y (left (site_of frames grants n parts))) dom_is further in
+    subst (λ (k : Course). Continues display (knowing (stock_at k s) hand p) (left_at (site_of frames grants dom parts) k s) access now told y (left (site_of frames grants dom parts))) (sym is) at
+
+-- in a page that it holds
+pub in_walked : (access : Option Access) (course : Course) (w : Walk) (s : Stock) → course ≡ Walks w → AccessIn (held_by w) access → AccessIn (pages_walked course ++ pages_of s) access
+in_walked access course w s is h =
+    subst (λ (k : Course). AccessIn (pages_walked k ++ pages_of s) access) (sym is) (in_service (held_by w) (pages_of s) access h)
+
+-- the verdict stays while pages are given up
+verdict_at : (course : Course) (s : Stock) (asks : Asked) → verdict (stock_at course s).buffers asks ≡ verdict s.buffers asks
+verdict_at Rests s asks = refl
+verdict_at (Walks w) s asks = refl
+verdict_at (Frees cookie) s asks = like_verdict (bared cookie s.buffers) s.buffers asks (numbered_bared cookie s.buffers [])
+
+pub reply_is : (course : Course) (q : Request) (hand : Option Request) (p : Progress) (s : Stock) (status : ℤ) → hand ≡ Some q → status ≡ status_in p (verdict s.buffers q.asked) → reply_to q status ≡ reply_for (knowing (stock_at course s) hand p) hand
+reply_is course q hand p s status is e =
+    ap (reply_to q) (e ∙ ap (status_in p) (sym (verdict_at course s q.asked)))
+    ∙ ap (λ (h : Option Request). reply_for (knowing (stock_at course s) h p) h) (sym is)

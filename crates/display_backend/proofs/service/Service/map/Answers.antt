@@ -1,0 +1,6 @@
+use Rattle.page_directory.specs.WalkLeft.{held_by}
+use Rattle.display_backend.proofs.Serviced.{in_none}
+use Rattle.display_backend.proofs.service.Service.map.Goals as goal
+
+pub returns-in-Ok-clause-stays : goal.returns-in-Ok-clause-stays
+returns-in-Ok-clause-stays g c = λ pages. in_none c.walk.result.access (held_by c.in-Ok.walk) pages c.in-Ok.ensures.holds c.walk.ensures.stays

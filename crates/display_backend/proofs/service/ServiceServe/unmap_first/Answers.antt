@@ -1,0 +1,30 @@
+use Rattle.std.proofs.Common.{◌<◌, length, sym, ap, subst, ◌∙◌}
+use Rattle.device_service.specs.Dropping.{Drops}
+use Rattle.display_backend.specs.Course.{stock_at}
+use Rattle.display_backend.specs.Stock.{Stock, pages_of}
+use Rattle.display_backend.specs.Store.{stock_of, count_of}
+use Rattle.display_backend.proofs.Order.{first_goes}
+use Rattle.display_backend.proofs.Serviced.{at_rest, drops_first, knowing, stands_less, strips_less}
+use Rattle.display_backend.proofs.service.ServiceServe.unmap_first.Goals as goal
+
+pub invariant_of-self : goal.invariant_of-self
+invariant_of-self g c =
+    let d = c.args.self.now in
+    record { stands = stands_less d.course d.hand d.progress (stock_of d.store) (stock_of c.unmap_first.new.self) (count_of d.store) (count_of c.unmap_first.new.self) c.requires.idle c.unmap_first.ensures.stock c.unmap_first.ensures.count d.stands }
+
+pub returns-clause-drops : goal.returns-clause-drops
+returns-clause-drops g c =
+    let d = c.args.self.now in
+    let s = stock_of d.store in
+    let t = stock_of c.unmap_first.new.self in
+    let old = at_rest d.course s c.requires.idle in
+    let new = at_rest d.course t c.requires.idle in
+    let some : 0 < length (pages_of s) = subst (λ (x : Stock). 0 < length (pages_of x)) old c.requires.some in
+    let drops = drops_first (pages_of s) (pages_of t) c.unmap_first.result some c.unmap_first.ensures.access (ap pages_of c.unmap_first.ensures.stock ∙ first_goes s) in
+    subst (λ (x : Stock). Drops (pages_of x) c.unmap_first.result (pages_of (stock_at d.course t))) (sym old)
+    (subst (λ (x : Stock). Drops (pages_of s) c.unmap_first.result (pages_of x)) (sym new) drops)
+
+pub returns-clause-strips : goal.returns-clause-strips
+returns-clause-strips g c =
+    let d = c.args.self.now in
+    ap (λ (x : Stock). knowing x d.hand d.progress) (strips_less d.course (stock_of d.store) (stock_of c.unmap_first.new.self) c.requires.idle c.unmap_first.ensures.stock)

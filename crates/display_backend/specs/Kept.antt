@@ -1,0 +1,149 @@
+-- What is known of a display's service.
+use Rattle.std.proofs.Common.{◌≡◌, ℕ, ◌<◌, ◌++◌, pos, Bool, false, List, [], ◌∷◌, length, Option, Some, None, is_some, refl, sym, ap, ◌∙◌}
+use Rattle.std.proofs.lemmas.Bool.{true≢false}
+use Rattle.pv_words.specs.declared.grant.Hold.{Hold}
+use Rattle.pv_words.specs.declared.grant.Mode.TheVariants.{Read}
+use Rattle.pv_words.specs.Found.{Found}
+use Rattle.pv_words.specs.Plan.{Want, Note, IsUntouched}
+use Rattle.displ_wire.specs.declared.Asked.TheVariants as asked
+use Rattle.displ_wire.specs.declared.Create.{Create}
+use Rattle.displ_wire.specs.declared.Request.{Request}
+use Rattle.display_buffers.specs.Buffers.{AreSound}
+use Rattle.page_directory.specs.declared.walk.Walked.{Walked}
+use Rattle.page_directory.specs.declared.walk.Walked.TheVariants as walked
+use Rattle.page_directory.specs.Laws as walk
+use Rattle.link_core.specs.Laws.{AreOf}
+use Rattle.device_core.specs.Touched.{Touch}
+use Rattle.device_service.specs.Laws.{Facts}
+use Rattle.display_backend.specs.declared.course.Course.{Course}
+use Rattle.display_backend.specs.declared.course.Course.TheVariants.{Rests, Walks, Frees}
+use Rattle.display_backend.specs.declared.course.Progress.{Progress}
+use Rattle.display_backend.specs.declared.course.Progress.TheVariants as progress
+use Rattle.display_backend.specs.declared.waiting.Waiting.{Waiting}
+use Rattle.display_backend.specs.Course.{is_under_way, pages_walked, stock_at}
+use Rattle.display_backend.specs.Service.{Known, Ending, Listed, Freed, Served, reply_for, display}
+use Rattle.display_backend.specs.Verdict.{verdict}
+use Rattle.display_backend.specs.Stock.{Stock, Held, pages_of, buffer_pages, pages_under, with_pages, all_bared, stripped}
+
+-- the request in hand is a CREATE that is accepted, or a DESTROY of this cookie
+abbrev pub IsCreating : Stock → Request → Create → Type 0
+IsCreating stock q c = (q.asked ≡ asked.Create c) × (verdict stock.buffers q.asked ≡ pos 0)
+
+abbrev pub IsDestroying : Stock → Request → ℕ → Type 0
+IsDestroying stock q cookie = (q.asked ≡ asked.Destroy cookie) × (verdict stock.buffers q.asked ≡ pos 0)
+
+-- How far the request in hand has come: pages are mapped for an accepted CREATE alone, and those of the buffer of an accepted
+-- DESTROY are unmapped.
+abbrev pub HasComeTo : Stock → Request → Progress → Type 0
+HasComeTo stock q progress.Decided = stock.mapped ≡ []
+HasComeTo stock q progress.NoMemory = ((c : Create) × IsCreating stock q c) × (stock.mapped ≡ [])
+HasComeTo stock q progress.Denied = ((c : Create) × IsCreating stock q c) × (stock.mapped ≡ [])
+HasComeTo stock q progress.Mapped = ((c : Create) × IsCreating stock q c) × (0 < length stock.mapped)
+HasComeTo stock q progress.Released =
+    ((cookie : ℕ) × IsDestroying stock q cookie × (pages_under cookie stock.buffers ≡ [])) × (stock.mapped ≡ [])
+
+abbrev pub Come : Stock → Progress → Option Request → Type 0
+Come st p None = (p ≡ progress.Decided) × (st.mapped ≡ [])
+Come st p (Some q) = HasComeTo st q p
+
+abbrev pub HasCome : Bool → Known → Type 0
+HasCome b x = (is_some x.request ≡ b) × Come x.stock x.progress x.request
+
+abbrev pub IsNamed : Known → List ℕ → Type 0
+IsNamed x m = length m ≡ length x.stock.buffers
+
+-- an accepted CREATE that has its pages mapped; an accepted DESTROY whose buffer has its pages unmapped
+pub record IsWalking (x : Known) : Type 0 where
+  pub request : Request
+  pub create : Create
+  pub in_hand : x.request ≡ Some request
+  pub creating : IsCreating x.stock request create
+  pub decided : x.progress ≡ progress.Decided
+  pub none : x.stock.mapped ≡ []
+
+pub record IsFreeing (x : Known) : Type 0 where
+  pub request : Request
+  pub cookie : ℕ
+  pub in_hand : x.request ≡ Some request
+  pub destroying : IsDestroying x.stock request cookie
+  pub decided : x.progress ≡ progress.Decided
+  pub bare : pages_under cookie x.stock.buffers ≡ []
+  pub none : x.stock.mapped ≡ []
+
+module _ (frames grants : ℕ → ℕ) (dom parts : ℕ) where
+  abbrev pub IsSane : Known → Type 0
+  IsSane x = AreOf (grants dom) dom (pages_of x.stock) × AreSound x.stock.buffers
+
+  abbrev pub HasListed : Walked → Type 0
+  HasListed (walked.Pages ps) = AreOf (grants dom) dom ps × (0 < length ps)
+  HasListed (walked.Refused why) = Unit {0}
+
+  abbrev pub EndsHeld : Known → Ending → Type 0
+  EndsHeld x (Listed came) = IsWalking x × HasListed came
+  EndsHeld x Freed = IsFreeing x
+  EndsHeld x (Served e) = ⊥
+
+  -- why the walk of the CREATE in hand was refused, as the words show that were found last
+  abbrev pub ListedFound : Known → Found → Walked → Type 0
+  ListedFound x f (walked.Pages ps) = Unit {0}
+  ListedFound x f (walked.Refused why) =
+      (q : Request) (c : Create) → x.request ≡ Some q → q.asked ≡ asked.Create c → walk.IsReason (frames dom) (grants dom) c.gref_directory Read f why
+
+  abbrev pub EndsFound : Known → Found → Ending → Type 0
+  EndsFound x f (Listed came) = ListedFound x f came
+  EndsFound x f Freed = Unit {0}
+  EndsFound x f (Served e) = Unit {0}
+
+  abbrev pub EndsOwn : Known → Found → List Touch → Ending → Type 0
+  EndsOwn x f ts a = EndsHeld x a × EndsFound x f a
+
+  abbrev pub EndsDone : Waiting → Known → Found → List Touch → Ending → Type 0
+  EndsDone e x f ts (Served v) = v ≡ e
+  EndsDone e x f ts other = ⊥
+
+  abbrev pub Meets : Known → Want → Note → Type 0
+  Meets x want note = IsUntouched note
+
+  abbrev pub facts : Facts Known Ending Waiting (List ℕ)
+  facts = record { Sane = IsSane; Has = HasCome; Named = IsNamed; EndsOwn = EndsOwn; EndsDone = EndsDone; Meets = Meets }
+
+pub left_nil : {A : Type 0} (xs ys : List A) → xs ++ ys ≡ [] → xs ≡ []
+left_nil [] ys e = refl
+left_nil (x ∷ xs) ys e = let wrong : ⊥ = cc in absurd wrong
+
+pub right_nil : {A : Type 0} (xs ys : List A) → xs ++ ys ≡ [] → ys ≡ []
+right_nil [] ys e = e
+right_nil (x ∷ xs) ys e = let wrong : ⊥ = cc in absurd wrong
+
+-- where no page is held, giving up all of them changes nothing
+bare_buffers : (bs : List Held) → buffer_pages bs ≡ [] → all_bared bs ≡ bs
+bare_buffers [] e = refl
+bare_buffers (b ∷ bs) e =
+    ap (λ pages. with_pages b pages ∷ all_bared bs) (sym (left_nil b.pages (buffer_pages bs) e))
+    ∙ ap (λ cs. b ∷ cs) (bare_buffers bs (right_nil b.pages (buffer_pages bs) e))
+
+abbrev stock : List Hold → List Held → Stock
+stock mapped buffers = record { mapped = mapped; buffers = buffers }
+
+pub bare_stripped : (s : Stock) → pages_of s ≡ [] → stripped s ≡ s
+bare_stripped s e =
+    ap (λ hs. stock hs (all_bared s.buffers)) (sym (left_nil s.mapped (buffer_pages s.buffers) e))
+    ∙ ap (stock s.mapped) (bare_buffers s.buffers (right_nil s.mapped (buffer_pages s.buffers) e))
+
+-- between two activities just the pages of buffers are held
+pub holds_pages : (course : Course) (s : Stock) → is_under_way course ≡ false → pages_walked course ++ pages_of s ≡ pages_of (stock_at course s)
+holds_pages Rests s e = refl
+holds_pages (Walks w) s e = absurd (true≢false e)
+holds_pages (Frees cookie) s e = absurd (true≢false e)
+
+-- where none is held, none is given up
+pub stays_bare : (x : Known) → pages_of x.stock ≡ [] → display.stripped x ≡ x
+stays_bare x e = ap (λ (s : Stock). record x { stock = s }) (bare_stripped x.stock e)
+
+-- a reply has sixteen words
+whole_reply : (x : Known) (o : Option Request) → length (reply_for x o) ≡ 16
+whole_reply x None = refl
+whole_reply x (Some q) = refl
+
+pub whole_replies : (x : Known) → length (display.reply x) ≡ 16
+whole_replies x = whole_reply x x.request

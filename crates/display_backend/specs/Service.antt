@@ -1,0 +1,211 @@
+-- The display as a service of the order of work of every device.
+use Rattle.std.specs.Prelude.{◌≡◌, ℕ, ◌&&◌, nat_lt, ℤ, pos, Bool, true, false, not, List, [], length, replicate, Option, Some, None, if◌then◌else◌}
+use Rattle.pv_words.specs.declared.device.Said.{Said}
+use Rattle.pv_words.specs.declared.device.Said.TheVariants as said
+use Rattle.pv_words.specs.declared.grant.Mode.TheVariants.{Read}
+use Rattle.pv_words.specs.declared.place.Place.{Place}
+use Rattle.pv_words.specs.Plan.{Finished, mapped}
+use Rattle.displ_wire.specs.declared.Asked.{Asked}
+use Rattle.displ_wire.specs.declared.Asked.TheVariants as asked
+use Rattle.displ_wire.specs.declared.Create.{Create}
+use Rattle.displ_wire.specs.declared.Request.{Request}
+use Rattle.displ_wire.specs.Wire.{request_of}
+use Rattle.display_buffers.specs.declared.live.Live.{Live}
+use Rattle.page_directory.specs.declared.walk.Walked.{Walked}
+use Rattle.page_directory.specs.declared.walk.Walked.TheVariants as walked
+use Rattle.page_directory.specs.Laws as walk
+use Rattle.page_directory.specs.Walking.{walk_plan}
+use Rattle.page_directory.specs.Walking as walking
+use Rattle.host_events.specs.Queue.{refusal_of}
+use Rattle.link_core.specs.Activities.{unmaps}
+use Rattle.device_core.specs.Names.{cells_of}
+use Rattle.display_backend.specs.declared.course.Progress.{Progress}
+use Rattle.display_backend.specs.declared.course.Progress.TheVariants as progress
+use Rattle.display_backend.specs.declared.waiting.Waiting.{Waiting}
+use Rattle.display_backend.specs.declared.waiting.Waiting.TheVariants as waiting
+use Rattle.display_backend.specs.Waiting.{said_of, waiting_of}
+use Rattle.display_backend.specs.Stock.{Stock, Held, no_stock, pages_of, pages_under, bared}
+use Rattle.display_backend.specs.Stock as stock
+use Rattle.display_backend.specs.Names.{ids_after, live_names, names_under, numbered, numbers}
+use Rattle.display_backend.specs.Reply.{replied_to, reply_to, stock_after}
+use Rattle.display_backend.specs.Verdict.{IsStatus, is_accepted, is_creation, is_denied, status_in, verdict}
+use Rattle.device_core.specs.Site.{Site}
+use Rattle.device_service.specs.Nodes.{Ringed}
+use Rattle.device_service.specs.Service.{Job, Works, Starves, Runs, Service}
+use Rattle.device_service.specs.Rows.{Table, Evidence}
+use Rattle.device_service.specs.Reading.{Shows}
+
+-- the live buffers and the pages that are held; the request in hand, and how far it has come
+pub record Known : Type 0 where
+  pub stock : Stock
+  pub request : Option Request
+  pub progress : Progress
+
+-- how an activity of a display ends: what the walk of a CREATE came to; the pages of a buffer are unmapped; an event is done
+pub data Ending : Type 0 where
+  Listed : Walked → Ending
+  Freed : Ending
+  Served : Waiting → Ending
+
+abbrev pub status_for : Known → Option Request → ℤ
+status_for x None = pos 0
+status_for x (Some q) = status_in x.progress (verdict x.stock.buffers q.asked)
+
+abbrev pub reply_for : Known → Option Request → List ℕ
+reply_for x None = replicate 16 0
+reply_for x (Some q) = reply_to q (status_in x.progress (verdict x.stock.buffers q.asked))
+
+-- an accepted CREATE isn't answered at once, nor a DESTROY of a buffer that holds pages
+abbrev pub has_work : List Held → Asked → Bool
+has_work bs (asked.Create c) = is_accepted (verdict bs (asked.Create c))
+has_work bs (asked.Destroy cookie) = nat_lt 0 (length (pages_under cookie bs))
+has_work bs asks = false
+
+abbrev pub ready_at : Progress → Bool → Bool
+ready_at progress.Decided working = not working
+ready_at p working = true
+
+abbrev pub ready_for : Known → Option Request → Bool
+ready_for x None = true
+ready_for x (Some q) = ready_at x.progress (has_work x.stock.buffers q.asked)
+
+abbrev pub freeing : Known → ℕ → Known
+freeing x cookie = record x { stock = record { mapped = x.stock.mapped; buffers = bared cookie x.stock.buffers } }
+
+abbrev pub job_of : Site → Known → Asked → Job Known Ending
+job_of site x (asked.Create c) =
+    Starves (record x { progress = progress.NoMemory }) x (mapped Listed (walk_plan site.frames site.grants site.dom c.gref_directory Read (walking.pages_of c.buffer_sz)))
+job_of site x (asked.Destroy cookie) = Works (freeing x cookie) (unmaps (pages_under cookie x.stock.buffers) (Finished Freed))
+job_of site x asks = Works x (Finished Freed)
+
+abbrev pub job_for : Site → Known → Option Request → Job Known Ending
+job_for site x None = Works x (Finished Freed)
+job_for site x (Some q) = job_of site x q.asked
+
+-- the page that was denied, where a walk was refused
+abbrev pub denied_by : Walked → Option Said
+denied_by (walked.Pages pages) = None
+denied_by (walked.Refused why) = Some (said.Denied why)
+
+abbrev pub says_at : Ending → Option Said
+says_at (Listed came) = denied_by came
+says_at Freed = None
+says_at (Served e) = Some (said_of e)
+
+abbrev pub after_walk : Known → Walked → Known
+after_walk x (walked.Pages ps) = record x { stock = record { mapped = ps; buffers = x.stock.buffers }; progress = progress.Mapped }
+after_walk x (walked.Refused why) = record x { progress = progress.Denied }
+
+abbrev pub after_end : Known → Ending → Known
+after_end x (Listed came) = after_walk x came
+after_end x Freed = record x { progress = progress.Released }
+after_end x (Served e) = x
+
+abbrev pub answered_for : Known → Option Request → Known
+answered_for x None = x
+answered_for x (Some q) =
+    record { stock = stock_after x.stock q.asked (is_accepted (status_in x.progress (verdict x.stock.buffers q.asked))); request = None; progress = progress.Decided }
+
+abbrev pub part_of : Waiting → ℕ
+part_of (waiting.Blank part) = part
+part_of (waiting.Show part) = part
+
+abbrev pub display : Service Known Ending Waiting
+display =
+    record {
+      kind = Ringed;
+      begun = λ nodes. record { stock = no_stock; request = None; progress = progress.Decided };
+      pages = λ x. pages_of x.stock;
+      stripped = λ x. record x { stock = stock.stripped x.stock };
+      dropped = λ x. record x { request = None; progress = progress.Decided };
+      taken = λ x words. record x { request = Some (request_of words); progress = progress.Decided };
+      ready = λ x. ready_for x x.request;
+      job = λ site x. job_for site x x.request;
+      reply = λ x. reply_for x x.request;
+      status = λ x. status_for x x.request;
+      answered = λ x. answered_for x x.request;
+      at = part_of;
+      event = λ x e. Runs (Finished (Served e));
+      owes = λ x. None;
+      put = λ x e. said.Full 0;
+      after_put = λ x e. x;
+      after_full = λ x e. x;
+      says = λ x a. says_at a;
+      after = after_end;
+      waits = waiting_of;
+      refusal = λ b es e. refusal_of b es;
+    }
+
+-- the display's rows: the request in hand, whether a page was denied to it, and the live buffers with their names' numbers
+pub record Lines : Type 0 where
+  pub request : Option Request
+  pub denied : Bool
+  pub buffers : List (Live ℕ)
+
+-- A page is denied to an accepted CREATE, once.
+abbrev pub Tells : Site → Lines → Evidence → Said → Lines → Type 0
+Tells site old told (said.Denied why) new =
+    (q : Request) × (c : Create) × (old.request ≡ Some q) × (q.asked ≡ asked.Create c) × (verdict old.buffers q.asked ≡ pos 0) × (old.denied ≡ false) × walk.IsReason site.frames site.grants c.gref_directory Read told.found why × (new ≡ record old { denied = true })
+Tells site old told other new = ⊥
+
+abbrev pub Serves : Site → Lines → Waiting → Evidence → Said → Lines → Type 0
+Serves site old (waiting.Blank part) told (said.Blank k) new = (k ≡ part) × (new ≡ old)
+Serves site old (waiting.Show part) told (said.Shown k pixels mark) new = (k ≡ part) × (pixels ≡ 0) × (mark ≡ 0) × (new ≡ old)
+Serves site old e told other new = ⊥
+
+abbrev pub IsAnswer : Lines → ℤ → Type 0
+IsAnswer y status = (q : Request) × (y.request ≡ Some q) × IsStatus y.denied y.buffers q.asked status
+
+abbrev pub replied_for : Lines → Option Request → ℕ → ℤ → Lines
+replied_for y None n status = y
+replied_for y (Some q) n status = record { request = None; denied = false; buffers = replied_to y.buffers n q.asked (is_accepted status) }
+
+abbrev pub makes_for : Option Request → ℤ → Bool
+makes_for None status = false
+makes_for (Some q) status = is_creation q.asked && is_accepted status
+
+abbrev pub table : Table Lines Waiting
+table =
+    record {
+      kind = Ringed;
+      begun = λ nodes. record { request = None; denied = false; buffers = [] };
+      taken = λ y words. record y { request = Some (request_of words); denied = false };
+      dropped = λ y. record y { request = None; denied = false };
+      Tells = Tells;
+      Serves = Serves;
+      Pays = λ site old told what new. ⊥;
+      IsStatus = IsAnswer;
+      replied = λ y n status. replied_for y y.request n status;
+      makes = λ y status. makes_for y.request status;
+      waits = waiting_of;
+      refusal = λ b es e. refusal_of b es;
+    }
+
+abbrev pub named_for : Known → Option Request → ℕ → List ℕ → List ℕ
+named_for x None n m = m
+named_for x (Some q) n m = ids_after x.stock.buffers n m q.asked (is_accepted (status_in x.progress (verdict x.stock.buffers q.asked)))
+
+abbrev pub made_for : Known → Option Request → List Place
+made_for x None = []
+made_for x (Some q) =
+    if is_creation q.asked && is_accepted (status_in x.progress (verdict x.stock.buffers q.asked)) then cells_of x.stock.mapped else []
+
+abbrev pub goes_of : Known → List ℕ → Asked → List ℕ
+goes_of x m (asked.Destroy cookie) = numbers (names_under cookie x.stock.buffers m)
+goes_of x m asks = []
+
+abbrev pub goes_for : Known → List ℕ → Option Request → List ℕ
+goes_for x m None = []
+goes_for x m (Some q) = goes_of x m q.asked
+
+abbrev pub shows : Shows Known Lines (List ℕ)
+shows =
+    record {
+      rows = λ x m. record { request = x.request; denied = is_denied x.progress; buffers = numbered x.stock.buffers m };
+      names = λ x m. live_names x.stock.buffers m;
+      number = λ x m key. 0;
+      named = λ x n m. named_for x x.request n m;
+      unnamed = [];
+      made = λ x. made_for x x.request;
+      goes = λ x m. goes_for x m x.request;
+    }

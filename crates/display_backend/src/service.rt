@@ -1,0 +1,363 @@
+//! The service of a display.
+
+ghost use Rattle.std.specs.Prelude.{◌≡◌, ◌+◌, ◌<◌, ◌++◌, IfOk, false, length, slice_get, Some};
+ghost use Rattle.std.proofs.Props.{props};
+ghost use Rattle.display_backend.specs.Course.{Stands, pages_walked};
+ghost use Rattle.display_backend.specs.CourseFacts.{stands_prop};
+ghost use Rattle.display_backend.specs.Stock.{pages_of};
+ghost use Rattle.display_backend.specs.Store.{stock_of, count_of};
+
+use crate::course::{Course, Progress};
+use crate::store::Store;
+use crate::verdict::{answered, status_at};
+use crate::waiting::{Waiting, said_of, waiting_of};
+use device_service::{Deed, Now, Serve};
+use displ_wire::{Asked, Create, Request, decode, encode_reply};
+use page_directory::{Walk, Walked};
+use pv_words::{Access, DomId, GrantRef, Hold, HostEvent, Mode, Said, Words};
+use std::alloc::{AllocError, Global};
+use std::mem;
+use xenbus_states::Nodes;
+
+/// The service of a display: its live buffers, the pages that are held for buffers, and the request in hand.
+#[derive(Drop)]
+pub struct Service {
+    alloc: Global,
+    // The live buffers, and the pages that are held for buffers.
+    store: Store,
+    // The request in hand, and how far it has come.
+    hand: Option<Request>,
+    progress: Progress,
+    course: Course,
+    ghost stands: { Stands course hand progress (stock_of store).buffers (count_of store) } by { Prim.hlevel (props, stands_prop) },
+}
+
+impl Service {
+    ghost use Rattle.std.specs.Prelude.{ℕ, ◌≤◌, true, List, []};
+    ghost use Rattle.pv_words.specs.declared.grant.Hold.{Hold};
+    ghost use Rattle.pv_words.specs.Plan.{Finished, MayGo, Makes, mapped};
+    ghost use Rattle.displ_wire.specs.declared.Asked.TheVariants as asked;
+    ghost use Rattle.pv_words.specs.declared.grant.Mode.TheVariants.{Read};
+    ghost use Rattle.page_directory.specs.declared.walk.Walked.TheVariants as walked;
+    ghost use Rattle.page_directory.specs.Walking as walking;
+    ghost use Rattle.page_directory.specs.Walking.{walk_plan};
+    ghost use Rattle.page_directory.specs.WalkLeft.{walk_left, held_by, count_of as walk_count};
+    ghost use Rattle.page_directory.specs.WalkLeft.{dom_of as walked_dom, is_over as is_walked};
+    ghost use Rattle.link_core.specs.Activities.{unmaps};
+    ghost use Rattle.link_core.specs.Stays.{AccessIn};
+    ghost use Rattle.device_core.specs.Site.{Site};
+    ghost use Rattle.device_service.specs.Claims.{site_of};
+    ghost use Rattle.device_service.specs.Operating.{Begins, Comes, Continues, is_going};
+    ghost use Rattle.display_backend.specs.declared.course.Progress.TheVariants as progress;
+    ghost use Rattle.display_backend.specs.declared.course.Course.TheVariants as course;
+    ghost use Rattle.display_backend.specs.Course.{HasCreate};
+    ghost use Rattle.display_backend.specs.Known.{known_of, going_of, left_of, is_of, held_of};
+    ghost use Rattle.display_backend.specs.Service.{Freed, Listed, after_walk, display, job_of, says_at};
+    ghost use Rattle.display_backend.specs.Stock.{pages_under};
+    ghost use Rattle.xenbus_states.specs.Nodes.{no_nodes};
+
+    /// The service of a display that isn't connected.
+    pub fn new(alloc: Global) -> Result<Service, AllocError>
+        ensures knows { IfOk result (λ s. known_of s ≡ display.begun no_nodes) }
+        ensures idle { IfOk result (λ s. going_of s ≡ false) }
+        ensures bare { IfOk result (λ s. held_of s ≡ []) }
+    {
+        Ok(Service {
+            alloc,
+            store: Store::new(alloc)?,
+            hand: None,
+            progress: Progress::Decided,
+            course: Course::Rests,
+        })
+    }
+
+    // How many pages a walk holds.
+    fn walked(&self) -> u32
+        ensures count { result ≡ length (pages_walked self.now.course) }
+        ensures few { result < 8194 }
+    {
+        match &self.course {
+            Course::Walks(walk) => walk.held(),
+            Course::Rests | Course::Frees(_) => 0,
+        }
+    }
+
+    // The first access of the walk of a CREATE, where memory isn't wanting for the list of its pages.
+    fn map<W: Words>(&mut self, words: &mut W, dom: DomId, create: &Create) -> Deed
+        requires idle { self.old.course ≡ course.Rests }
+        requires decided { self.old.progress ≡ progress.Decided }
+        requires creates { (count : ℕ) → count ≡ walking.pages_of create.now.buffer_sz → HasCreate self.old.hand (stock_of self.old.store).buffers count }
+        requires size { (0 < create.now.buffer_sz) × (create.now.buffer_sz ≤ 33554432) }
+        requires may { MayGo (W.may words.old) (walk_plan (W.frames_of words.old dom.0) (W.grants_of words.old dom.0) dom.0 create.now.gref_directory Read (walking.pages_of create.now.buffer_sz)) }
+        ensures begins { (parts : ℕ) → Begins display (job_of (site_of (W.frames_of words.old) (W.grants_of words.old) dom.0 parts) (known_of self.old) (asked.Create create.now)) result.access result.now result.said (known_of self.new) (left_of (site_of (W.frames_of words.old) (W.grants_of words.old) dom.0 parts) self.new) }
+        ensures made { Makes W.makes words.old result.access words.new }
+        ensures stays { (pages : List Hold) → AccessIn pages result.access }
+        ensures going { going_of self.new ≡ is_going result.now }
+        ensures domain { is_of dom.0 self.new ≡ true }
+    {
+        let directory = GrantRef(create.gref_directory);
+        match Walk::new(self.alloc, dom, create.buffer_sz, directory, Mode::Read) {
+            Ok(walk) => self.walk(words, walk),
+            Err(_) => {
+                self.progress = Progress::NoMemory;
+                Deed {
+                    access: None,
+                    said: None,
+                    now: Now::Answers,
+                }
+            }
+        }
+    }
+
+    // The next access of this walk of a CREATE.
+    fn walk<W: Words>(&mut self, words: &mut W, walk: Walk) -> Deed
+        requires idle { self.old.course ≡ course.Rests }
+        requires decided { self.old.progress ≡ progress.Decided }
+        requires creates { HasCreate self.old.hand (stock_of self.old.store).buffers (walk_count walk) }
+        requires going { is_walked walk ≡ false }
+        requires may { MayGo (W.may words.old) (walk_left (W.frames_of words.old (walked_dom walk)) (W.grants_of words.old (walked_dom walk)) walk) }
+        ensures comes { (parts : ℕ) → Comes display (known_of self.old) (mapped Listed (walk_left (W.frames_of words.old (walked_dom walk)) (W.grants_of words.old (walked_dom walk)) walk)) result.access result.now result.said (known_of self.new) (left_of (site_of (W.frames_of words.old) (W.grants_of words.old) (walked_dom walk) parts) self.new) }
+        ensures made { Makes W.makes words.old result.access words.new }
+        ensures stays { AccessIn (held_by walk) result.access }
+        ensures going { going_of self.new ≡ is_going result.now }
+        ensures domain { is_of (walked_dom walk) self.new ≡ true }
+    {
+        let mut walk = walk;
+        let turn = walk.step(words);
+        let access = turn.access;
+        let Some(end) = turn.done else {
+            self.course = Course::Walks(walk);
+            return Deed {
+                access,
+                said: None,
+                now: Now::GoesOn,
+            };
+        };
+        let said = self.listed(end);
+        Deed {
+            access,
+            said,
+            now: Now::Over,
+        }
+    }
+
+    // What the walk of a CREATE came to.
+    fn listed(&mut self, end: Walked) -> Option<Said>
+        requires idle { self.old.course ≡ course.Rests }
+        requires creates { (pages : List Hold) → end ≡ walked.Pages pages → HasCreate self.old.hand (stock_of self.old.store).buffers (length pages) }
+        ensures says { result ≡ says_at (Listed end) }
+        ensures knows { known_of self.new ≡ after_walk (known_of self.old) end }
+        ensures rests { self.new.course ≡ course.Rests }
+    {
+        match end {
+            Walked::Pages(pages) => {
+                self.store.keep(pages);
+                self.progress = Progress::Mapped;
+                None
+            }
+            Walked::Refused(why) => {
+                self.progress = Progress::Denied;
+                Some(Said::Denied(why))
+            }
+        }
+    }
+
+    // The next access of the Release of a DESTROY.
+    fn free<W: Words>(&mut self, words: &mut W, cookie: u64) -> Deed
+        requires freeing { self.old.course ≡ course.Frees cookie }
+        requires may { MayGo (W.may words.old) (unmaps (pages_under cookie (stock_of self.old.store).buffers) (Finished Freed)) }
+        ensures goes { (site : Site) → Continues display (known_of self.old) (left_of site self.old) result.access result.now result.said (known_of self.new) (left_of site self.new) }
+        ensures made { Makes W.makes words.old result.access words.new }
+        ensures stays { (pages : List Hold) → AccessIn pages result.access }
+        ensures going { going_of self.new ≡ is_going result.now }
+        ensures domain { (dom : ℕ) → is_of dom self.new ≡ true }
+    {
+        let access = Some(self.store.unmap_of(cookie, words));
+        if self.store.held_of(cookie) > 0 {
+            return Deed {
+                access,
+                said: None,
+                now: Now::GoesOn,
+            };
+        }
+        self.progress = Progress::Released;
+        self.course = Course::Rests;
+        Deed {
+            access,
+            said: None,
+            now: Now::Over,
+        }
+    }
+}
+
+impl Serve for Service {
+    type Event = Waiting;
+
+    ghost use Rattle.std.specs.Prelude.{ℕ, List, refl};
+    ghost use Rattle.display_backend.specs.Known.{known_of, going_of, left_of, is_of, held_of};
+    ghost use Rattle.display_backend.specs.Service.{Known, Ending, Lines, display, shows, table};
+    ghost use Rattle.display_backend.specs.Kept.{facts, holds_pages, stays_bare, whole_replies};
+
+    ghost Known = { Known };
+
+    ghost End = { Ending };
+
+    ghost Rows = { Lines };
+
+    ghost Naming = { List ℕ };
+
+    ghost service = { display };
+
+    ghost table = { table };
+
+    ghost shows = { shows };
+
+    ghost known = { facts };
+
+    ghost knows = { known_of };
+
+    ghost going = { going_of };
+
+    ghost left = { left_of };
+
+    ghost is_of = { is_of };
+
+    ghost holds = { held_of };
+
+    ghost holds_pages = { λ s e. holds_pages s.course (stock_of s.store) e };
+
+    ghost begins_bare = { λ nodes. refl };
+
+    ghost stays_bare = { stays_bare };
+
+    ghost drops_bare = { λ x e. e };
+
+    ghost whole_replies = { whole_replies };
+
+    ghost refuses = { λ b es e. refl };
+
+    ghost raises_none = { λ x e. refl };
+
+    ghost owes_none = { λ x. refl };
+
+    fn keeps_laws() {}
+
+    fn tells_held() {}
+
+    fn is_ringed() -> bool {
+        true
+    }
+
+    fn event_of(e: &HostEvent) -> Option<Waiting> {
+        waiting_of(e)
+    }
+
+    fn part_of(event: Waiting) -> u8 {
+        match event {
+            Waiting::Blank(part) | Waiting::Show(part) => part,
+        }
+    }
+
+    fn start(&mut self, nodes: &Nodes) {
+        self.store.clear();
+        self.hand = None;
+        self.progress = Progress::Decided;
+    }
+
+    fn take(&mut self, words: &[u32; 16]) {
+        self.hand = Some(decode(words));
+        self.progress = Progress::Decided;
+    }
+
+    fn is_ready(&self) -> bool {
+        let Some(request) = self.hand else {
+            return true;
+        };
+        if let Course::Frees(_) = self.course {
+            return true;
+        }
+        match self.progress {
+            Progress::Decided => match request.asked {
+                Asked::Create(create) => self.store.check(&create).is_err(),
+                Asked::Destroy(cookie) => self.store.held_of(cookie) == 0,
+                _ => true,
+            },
+            _ => true,
+        }
+    }
+
+    fn begin<W: Words>(&mut self, dom: DomId, parts: u8, words: &mut W) -> Deed {
+        let Some(request) = self.hand else {
+            unreachable!();
+        };
+        match request.asked {
+            Asked::Create(create) => self.map(words, dom, &create),
+            Asked::Destroy(cookie) => {
+                self.course = Course::Frees(cookie);
+                self.free(words, cookie)
+            }
+            _ => unreachable!(),
+        }
+    }
+
+    fn serve<W: Words>(&mut self, dom: DomId, parts: u8, words: &mut W, event: Waiting) -> Deed {
+        Deed {
+            access: None,
+            said: Some(said_of(event)),
+            now: Now::Over,
+        }
+    }
+
+    fn go_on<W: Words>(&mut self, dom: DomId, parts: u8, words: &mut W) -> Deed {
+        if let Course::Frees(cookie) = self.course {
+            return self.free(words, cookie);
+        }
+        match mem::replace(&mut self.course, Course::Rests) {
+            Course::Walks(walk) => self.walk(words, walk),
+            Course::Rests | Course::Frees(_) => unreachable!(),
+        }
+    }
+
+    fn reply(&self) -> [u32; 16] {
+        let Some(request) = self.hand else {
+            return [0; 16];
+        };
+        let status = status_at(&self.store, self.progress, &request.asked);
+        encode_reply(request.id, request.op, status)
+    }
+
+    fn answered(&mut self) -> i32 {
+        let Some(request) = self.hand else {
+            return 0;
+        };
+        let status = status_at(&self.store, self.progress, &request.asked);
+        answered(&mut self.store, &request.asked, status);
+        self.hand = None;
+        self.progress = Progress::Decided;
+        status
+    }
+
+    fn held(&self) -> u32 {
+        self.walked() + self.store.held()
+    }
+
+    fn hold_at(&self, i: u32) -> Hold {
+        let walked = self.walked();
+        if i >= walked {
+            return self.store.hold_at(i - walked);
+        }
+        let Course::Walks(walk) = &self.course else {
+            unreachable!();
+        };
+        walk.hold_at(i)
+    }
+
+    fn unmap_first<W: Words>(&mut self, words: &mut W) -> Access {
+        self.store.unmap_first(words)
+    }
+
+    fn drop_hand(&mut self) {
+        self.hand = None;
+        self.progress = Progress::Decided;
+    }
+}

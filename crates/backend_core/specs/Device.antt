@@ -38,7 +38,8 @@ parts_of (Display d) = screen.parts_of d
 abbrev pub site_of : (frames grants : ℕ → ℕ) → Device → Site
 site_of frames grants d = record { dom = dom_of d; parts = parts_of d; frames = frames (dom_of d); grants = grants (dom_of d) }
 
--- the device over these words, whose members a clause names all together by `W.Words`: by the numbers of frames and grant entries that they have
+-- the device over these words, whose members a clause names all together by `W.Words`: by the numbers of frames and grant
+-- entries that they have
 abbrev pub site_over : {W : Type 0} → Words W → W → Device → Site
 site_over m words d = site_of (m.frames_of words) (m.grants_of words) d
 

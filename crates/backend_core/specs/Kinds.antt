@@ -98,7 +98,8 @@ first_snapshot =
 abbrev pub display_events : Site → List Own → List (Happening Event)
 display_events site es =
     history
-    (device display site) (reading display table shows site) (first_station display table shows site) (first_view display table shows site) es
+    (device display site) (reading display table shows site)
+    (first_station display table shows site) (first_view display table shows site) es
 
 -- what the history of a device's machine tells of what the device said, heard and refused
 abbrev pub told_after : DeviceKind → Site → List Own → List Own

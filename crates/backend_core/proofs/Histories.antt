@@ -14,7 +14,8 @@ use Rattle.pv_words.specs.Place.{InRange, same_place}
 use Rattle.pv_words.specs.Plan.{aim_of, wanted}
 use Rattle.device_core.specs.Order.{Own}
 use Rattle.backend_core.specs.Marked.{Item, entries, own, own_from, nodes_in, nodes_next}
-use Rattle.backend_core.specs.History.{IsHistory, BelongsIn, IsDirect, IsExplainedIn, IsPromptIn, site_of}
+use Rattle.backend_core.specs.History.{IsHistory, BelongsIn, IsExplainedIn, IsPromptIn, site_of}
+pub use Rattle.backend_core.specs.History.{IsDirectAt}
 use Rattle.backend_core.specs.Kinds.{Continues, IsExplained, due_after, owed_after}
 use Rattle.backend_core.proofs.Items.{entries_append, own_append}
 use Rattle.backend_core.proofs.EachKind.{along_front, continues_append, continues_front}
@@ -120,12 +121,7 @@ module _ (frames grants : ℕ → ℕ) where
   items_so_far front [] = sym (append-nil front)
   items_so_far front (i ∷ m) = items_so_far (front ++ i ∷ []) m ∙ append_assoc front (i ∷ []) m
 
-  -- what is directly behind a prompt journal
-  abbrev pub IsDirectAt : List Item → Item → DeviceSetup → Type 0
-  IsDirectAt before i s =
-      IsDirect s.dev (due_after s.kind (site_of frames grants s) (own s.dev.0 before)) (owed_after s.kind (site_of frames grants s) (own s.dev.0 before)) i
-
-  pub prompt_more : (m n : List Item) (s : DeviceSetup) → IsPromptIn frames grants m s → Along (λ before x. before ++ x ∷ []) (λ before i. IsDirectAt before i s) m n → IsPromptIn frames grants (m ++ n) s
+  pub prompt_more : (m n : List Item) (s : DeviceSetup) → IsPromptIn frames grants m s → Along (λ before x. before ++ x ∷ []) (λ before i. IsDirectAt frames grants before i s) m n → IsPromptIn frames grants (m ++ n) s
   prompt_more m n s h k =
-      Along-append (λ before x. before ++ x ∷ []) (λ before i. IsDirectAt before i s) [] m n h
-      (subst (λ x. Along (λ before x. before ++ x ∷ []) (λ before i. IsDirectAt before i s) x n) (sym (items_so_far [] m)) k)
+      Along-append (λ before x. before ++ x ∷ []) (λ before i. IsDirectAt frames grants before i s) [] m n h
+      (subst (λ x. Along (λ before x. before ++ x ∷ []) (λ before i. IsDirectAt frames grants before i s) x n) (sym (items_so_far [] m)) k)

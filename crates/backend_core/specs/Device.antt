@@ -1,12 +1,14 @@
 -- What a device stands for, by its kind, and what its calls make of that.
-use Rattle.std.specs.Prelude.{◌≡◌, ℕ, Bool, List, [], ◌∷◌, ◌++◌, Option, Some, Result, Ok, Err}
+use Rattle.std.specs.Prelude.{◌≡◌, ℕ, Bool, not, List, [], ◌∷◌, ◌++◌, Option, Some, Result, Ok, Err}
 use Rattle.pv_words.specs.declared.access.Access.{Access}
 use Rattle.pv_words.specs.declared.device.HostEvent.{HostEvent}
 use Rattle.pv_words.specs.declared.device.HostRefusal.{HostRefusal}
 use Rattle.pv_words.specs.declared.device.Said.{Said}
 use Rattle.pv_words.specs.declared.grant.Hold.{Hold}
 use Rattle.pv_words.specs.declared.setup.DeviceKind.{DeviceKind}
+use Rattle.pv_words.specs.declared.setup.DeviceSetup.{DeviceSetup}
 use Rattle.pv_words.specs.declared.setup.DeviceKind.TheVariants as kind
+use Rattle.pv_words.specs.declared.words.Words.{Ghosts as Words}
 use Rattle.pv_words.specs.Plan.{Want}
 use Rattle.device_core.specs.Order.{Own, Did, Heard, Hosts, Refused, MayStep}
 use Rattle.device_core.specs.Site.{Site}
@@ -17,7 +19,8 @@ use Rattle.display_backend.specs.Waiting.{is_for}
 use Rattle.display_backend.specs.Service.{display}
 use Rattle.backend_core.specs.declared.device.Device.{Device}
 use Rattle.backend_core.specs.declared.device.Device.TheVariants.{Display}
-use Rattle.backend_core.specs.Kinds.{Continues, IsSettled, display_station, due_after}
+use Rattle.backend_core.specs.History.{site_of as site_of_setup}
+use Rattle.backend_core.specs.Kinds.{Continues, IsSettled, display_station, due_after, rests_after}
 
 -- its number
 abbrev pub dev_of : Device → ℕ
@@ -34,6 +37,11 @@ parts_of (Display d) = screen.parts_of d
 -- the device over these numbers of frames and grant entries
 abbrev pub site_of : (frames grants : ℕ → ℕ) → Device → Site
 site_of frames grants d = record { dom = dom_of d; parts = parts_of d; frames = frames (dom_of d); grants = grants (dom_of d) }
+
+-- the device over these words, whose members a clause names all together by `W.Words`: by the numbers of frames and grant
+-- entries that they have
+abbrev pub site_over : {W : Type 0} → Words W → W → Device → Site
+site_over m words d = site_of (m.frames_of words) (m.grants_of words) d
 
 -- all pages that it holds
 abbrev pub held_of : Device → List Hold
@@ -58,6 +66,16 @@ StandsFor (kind.Display connectors) site (Display d) es = IsDisplay site connect
 abbrev pub MayMakeNext : (Want → Type 0) → Site → Device → Type 0
 MayMakeNext may site (Display d) = MayStep may (device display site) (screen.stand_of site d)
 
+-- a device as it is declared: it stands for nothing yet, however many frames and grant entries its domain has
+abbrev pub IsFresh : DeviceSetup → Device → Type 0
+IsFresh setup d = (frames grants : ℕ → ℕ) → StandsFor setup.kind (site_of_setup frames grants setup) d []
+
+-- Whatever it stands for, something is left to be done by that exactly where `more` is true.
+abbrev pub IsDue : Device → (more : Bool) → Type 0
+IsDue d more =
+    (kind : DeviceKind) (site : Site) (es : List Own) → StandsFor kind site d es → IsSettled kind site es
+    → more ≡ not (rests_after kind site es)
+
 -- it stands for what came before and for this, which is what comes next
 pub record GoesOn (kind : DeviceKind) (site : Site) (es more : List Own) (new : Device) : Type 0 where
   pub comes : Continues kind site es more
@@ -77,7 +95,8 @@ AddsAt site old more new =
 -- With an access just the event is said that rides on it.
 abbrev pub RidesAt : Site → Device → Option Access → Option Said → Type 0
 RidesAt site old access said =
-    (kind : DeviceKind) (es : List Own) (a : Access) → StandsFor kind site old es → IsSettled kind site es → access ≡ Some a → said ≡ due_after kind site (es ++ Did a ∷ [])
+    (kind : DeviceKind) (es : List Own) (a : Access) → StandsFor kind site old es → IsSettled kind site es
+    → access ≡ Some a → said ≡ due_after kind site (es ++ Did a ∷ [])
 
 -- an event of the host, and its refusal, where it is refused
 abbrev pub hosted : HostEvent → Result (Unit {0}) HostRefusal → List Own

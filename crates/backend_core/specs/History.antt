@@ -84,16 +84,23 @@ IsDirect dev (Some s) owed i = i ≡ Entered (entry_of dev s)
 IsDirect dev None (Some why) i = i ≡ Entered (entry.Refused dev why)
 IsDirect dev None None i = Unit {0}
 
+-- behind these items, of this device
+abbrev pub IsDirectAt : (frames grants : ℕ → ℕ) → List Item → Item → DeviceSetup → Type 0
+IsDirectAt frames grants before i s =
+    let site = site_of frames grants s in
+    let es = own s.dev.0 before in
+    IsDirect s.dev (kinds.due_after s.kind site es) (kinds.owed_after s.kind site es) i
+
 -- what a device says on an access directly follows it in the journal, and a refusal directly follows its event, with no
 -- entry of anybody in between, unless the journal ends there
 abbrev pub IsPromptIn : (frames grants : ℕ → ℕ) → List Item → DeviceSetup → Type 0
-IsPromptIn frames grants m s =
-    AtEach (λ before i. IsDirect s.dev (kinds.due_after s.kind (site_of frames grants s) (own s.dev.0 before)) (kinds.owed_after s.kind (site_of frames grants s) (own s.dev.0 before)) i) m
+IsPromptIn frames grants m s = AtEach (λ before i. IsDirectAt frames grants before i s) m
 
 -- the event that rides on the last access of the device of this number
 abbrev pub due_by : (frames grants : ℕ → ℕ) → List DeviceSetup → ℕ → List Item → Option Said
 due_by frames grants [] d m = None
-due_by frames grants (s ∷ ss) d m = if s.dev.0 == d then kinds.due_after s.kind (site_of frames grants s) (own d m) else due_by frames grants ss d m
+due_by frames grants (s ∷ ss) d m =
+    if s.dev.0 == d then kinds.due_after s.kind (site_of frames grants s) (own d m) else due_by frames grants ss d m
 
 -- By this item a device begins to answer that memory was wanting.
 abbrev pub wants_in : (frames grants : ℕ → ℕ) → List Item → Item → DeviceSetup → Bool

@@ -87,12 +87,19 @@ machine site = (reading display table shows site).table
 -- at the beginning it waits for its frontend, has answered no request, and has no name
 abbrev pub first_snapshot : Snapshot (Rows Lines Waiting)
 first_snapshot =
-    record { rows = record { bus = first_bus; hand = None; replies = 0; waiting = []; service = table.begun no_nodes }; names = []; touched = []; owes = None }
+    record {
+      rows = record { bus = first_bus; hand = None; replies = 0; waiting = []; service = table.begun no_nodes };
+      names = [];
+      touched = [];
+      owes = None;
+    }
 
 -- what happens to a display's machine: what it says and hears, and each write of a word of a live name, whoever writes
 abbrev pub display_events : Site → List Own → List (Happening Event)
 display_events site es =
-    history (device display site) (reading display table shows site) (first_station display table shows site) (first_view display table shows site) es
+    history
+    (device display site) (reading display table shows site)
+    (first_station display table shows site) (first_view display table shows site) es
 
 -- what the history of a device's machine tells of what the device said, heard and refused
 abbrev pub told_after : DeviceKind → Site → List Own → List Own

@@ -8,7 +8,8 @@ use Rattle.page_directory.specs.Same.{AreSame, times}
 use Rattle.device_core.specs.Order.{Own}
 use Rattle.backend_core.specs.declared.device.Device.{Device}
 use Rattle.backend_core.specs.Device.{StandsFor, MayMakeNext, held_of}
-use Rattle.backend_core.specs.History.{AnswersIn, IsHistory, IsMachineRunIn, IsPromptIn, KeepsIn, TellsIn, TellsTrulyIn, held_after, site_of}
+use Rattle.backend_core.specs.History.{AnswersIn, IsHistory, IsMachineRunIn, IsPromptIn, KeepsIn, TellsIn, TellsTrulyIn}
+use Rattle.backend_core.specs.History.{held_after, site_of}
 use Rattle.backend_core.specs.Kinds.{IsExplained}
 use Rattle.backend_core.specs.Marked.{Item}
 
@@ -23,18 +24,21 @@ HistoriesAreRuns =
 -- is the word that its Look loaded.
 abbrev pub RefusalsAreShown : Type 0
 RefusalsAreShown =
-    (frames grants : ℕ → ℕ) (devices : List DeviceSetup) (m : List Item) → IsHistory frames grants devices m → AllByRecursion (TellsTrulyIn frames grants m) devices
+    (frames grants : ℕ → ℕ) (devices : List DeviceSetup) (m : List Item) → IsHistory frames grants devices m
+    → AllByRecursion (TellsTrulyIn frames grants m) devices
 
 -- Nobody has to believe the reading of a history as a machine's: what is said, heard and refused in it is what was entered.
 abbrev pub ReadingsTellAll : Type 0
 ReadingsTellAll =
-    (frames grants : ℕ → ℕ) (devices : List DeviceSetup) (m : List Item) → IsHistory frames grants devices m → AllByRecursion (TellsIn frames grants m) devices
+    (frames grants : ℕ → ℕ) (devices : List DeviceSetup) (m : List Item) → IsHistory frames grants devices m
+    → AllByRecursion (TellsIn frames grants m) devices
 
 -- every front of a history is one, and prompt where the whole is
 abbrev pub FrontsAreHistories : Type 0
 FrontsAreHistories =
     (frames grants : ℕ → ℕ) (devices : List DeviceSetup) (m n : List Item) → IsHistory frames grants devices (m ++ n)
-    → IsHistory frames grants devices m × (AllByRecursion (IsPromptIn frames grants (m ++ n)) devices → AllByRecursion (IsPromptIn frames grants m) devices)
+    → IsHistory frames grants devices m
+    × (AllByRecursion (IsPromptIn frames grants (m ++ n)) devices → AllByRecursion (IsPromptIn frames grants m) devices)
 
 -- Over a port of a device that lists what the device holds, whatever comes next may be made.
 abbrev pub ListingSuffices : Type 0

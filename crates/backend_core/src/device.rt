@@ -1,6 +1,6 @@
 //! The kinds of device.
 
-ghost use Rattle.std.specs.Prelude.{◌≡◌, ◌<◌, ◌≤◌, [], ◌∷◌, List, IfOk, OnErr, not, true, length, slice_get, Some};
+ghost use Rattle.std.specs.Prelude.{◌≡◌, ◌<◌, ◌≤◌, [], ◌∷◌, IfOk, OnErr, true, length, slice_get, Some};
 
 use device_core::Step;
 use display_backend::Display;
@@ -20,7 +20,7 @@ impl Device {
     pub fn new(alloc: Global, setup: &DeviceSetup) -> Result<Device, AllocError>
         requires least { 1 ≤ parts_of_kind setup.now.kind }
         requires most { parts_of_kind setup.now.kind ≤ 4 }
-        ensures stands { IfOk result (λ d. (frames grants : ℕ → ℕ) → StandsFor setup.now.kind (site_of_setup frames grants setup.now) d []) }
+        ensures stands { IfOk result (λ d. IsFresh setup.now d) }
         ensures bare { IfOk result (λ d. held_of d ≡ []) }
     {
         match &setup.kind {
@@ -32,15 +32,11 @@ impl Device {
     }
 
     ghost use Rattle.pv_words.specs.Plan.{Makes};
-    ghost use Rattle.std.specs.Prelude.{ℕ};
-    ghost use Rattle.pv_words.specs.declared.setup.DeviceKind.{DeviceKind};
     ghost use Rattle.backend_core.specs.Kinds.{parts_of as parts_of_kind};
-    ghost use Rattle.backend_core.specs.History.{site_of as site_of_setup};
-    ghost use Rattle.device_core.specs.Order.{Own, Heard, Sets, steps_of};
+    ghost use Rattle.device_core.specs.Order.{Heard, Sets, steps_of};
     ghost use Rattle.link_core.specs.Stays.{AccessIn};
-    ghost use Rattle.device_core.specs.Site.{Site};
-    ghost use Rattle.backend_core.specs.Device.{Adds, AddsAt, MayMakeNext, RidesAt, StandsFor, dom_of, fits_to, held_of, hosted, parts_of, site_of};
-    ghost use Rattle.backend_core.specs.Kinds.{IsSettled, rests_after};
+    ghost use Rattle.backend_core.specs.Device.{Adds, AddsAt, IsDue, IsFresh, MayMakeNext, RidesAt};
+    ghost use Rattle.backend_core.specs.Device.{dom_of, fits_to, held_of, hosted, parts_of, site_over};
     ghost use Rattle.backend_core.specs.Laws.{HoldsAsMany, HoldsPage};
 
     /// Hears that the frontend set its state, while its nodes stand so. Whatever it stood for, it stands for that and this state.
@@ -74,9 +70,9 @@ impl Device {
     /// where the order of work has nothing left. An access to a cell lies in the frame of a page that the device holds
     /// before the step, and one that may write in a page that is held for writing.
     pub fn step<W: Words>(&mut self, words: &mut W) -> Step
-        requires { MayMakeNext (W.may words.old) (site_of (W.frames_of words.old) (W.grants_of words.old) self.old) self.old }
-        ensures steps { AddsAt (site_of (W.frames_of words.old) (W.grants_of words.old) self.old) self.old (steps_of result.access result.said) self.new }
-        ensures rides { RidesAt (site_of (W.frames_of words.old) (W.grants_of words.old) self.old) self.old result.access result.said }
+        requires { MayMakeNext (W.may words.old) (site_over W.Words words.old self.old) self.old }
+        ensures steps { AddsAt (site_over W.Words words.old self.old) self.old (steps_of result.access result.said) self.new }
+        ensures rides { RidesAt (site_over W.Words words.old self.old) self.old result.access result.said }
         ensures made { Makes W.makes words.old result.access words.new }
         ensures stays { AccessIn (held_of self.old) result.access }
         ensures dom { dom_of self.new ≡ dom_of self.old }
@@ -89,7 +85,7 @@ impl Device {
 
     /// Whether the next step isn't idle.
     pub fn due(&self) -> bool
-        ensures { (kind : DeviceKind) (site : Site) (es : List Own) → StandsFor kind site self.now es → IsSettled kind site es → result ≡ not (rests_after kind site es) }
+        ensures { IsDue self.now result }
     {
         match self {
             Device::Display(display) => display.due(),

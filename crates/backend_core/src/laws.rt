@@ -1,6 +1,7 @@
 //! What is so of every journal of devices.
 
-ghost use Rattle.backend_core.specs.Laws.{FrontsAreHistories, HistoriesAreRuns, ListingSuffices, ReadingsTellAll, RefusalsAreShown, TellsWhatIsHeld};
+ghost use Rattle.backend_core.specs.Laws.{FrontsAreHistories, HistoriesAreRuns, ListingSuffices};
+ghost use Rattle.backend_core.specs.Laws.{ReadingsTellAll, RefusalsAreShown, TellsWhatIsHeld};
 
 /// Whatever was played, what a device said and heard is a run of its machine, its accepted requests are answered, and each of
 /// its accesses lies in a page that it mapped and holds.

@@ -7,7 +7,7 @@ mod laws;
 pub use device::Device;
 pub use laws::{
     fronts_are_histories, histories_are_runs, listing_suffices, readings_tell_all,
-    tells_what_is_held,
+    refusals_are_shown, tells_what_is_held,
 };
 
 #[cfg(test)]

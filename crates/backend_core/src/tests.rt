@@ -26,7 +26,15 @@ impl Words for Domain {
 
     ghost grants_of = { λ w d. w.frames };
 
-    ghost port = { λ w. record { device = None; serves = λ dom. true; everywhere = true; keeps = λ dom. false; opens = λ dom gref. None; listed = λ d. no_listing; told = λ at. None } };
+    ghost port = { λ w. record {
+      device = None;
+      serves = λ dom. true;
+      everywhere = true;
+      keeps = λ dom. false;
+      opens = λ dom gref. None;
+      listed = λ d. no_listing;
+      told = λ at. None;
+    } };
 
     ghost may = { λ w want. Unit {0} };
 
@@ -38,9 +46,22 @@ impl Words for Domain {
 
     ghost allows = { λ w want h. tt };
 
-    ghost leaves = { λ old a new made. record { device = refl; serves = λ dom. refl; everywhere = refl; keeps = λ dom. refl; opens = λ dom gref e. absurd (false≢true e); told = λ at v range e unwritten learns. absurd (false≢true e); listed = inl (refl, λ dom. refl) } };
+    ghost leaves = { λ old a new made. record {
+      device = refl;
+      serves = λ dom. refl;
+      everywhere = refl;
+      keeps = λ dom. refl;
+      opens = λ dom gref e. absurd (false≢true e);
+      told = λ at v range e unwritten learns. absurd (false≢true e);
+      listed = inl (refl, λ dom. refl);
+    } };
 
-    ghost tells = { λ old. elim [ Load at v ↦ λ new made. (tt, tt) | Store at v ↦ λ new made. tt | Cas at from to seen ↦ λ new made. (tt, tt) | Clear at mask seen ↦ λ new made. (tt, tt) ] };
+    ghost tells = { λ old. elim [
+      | Load at v ↦ λ new made. (tt, tt)
+      | Store at v ↦ λ new made. tt
+      | Cas at from to seen ↦ λ new made. (tt, tt)
+      | Clear at mask seen ↦ λ new made. (tt, tt)
+    ] };
 
     fn load(&mut self, at: Place) -> u32 {
         match at {

@@ -5,6 +5,7 @@ pub mod Goings
 pub mod Keeps
 pub mod News
 pub mod Owners
+pub mod Seen
 pub mod Serving
 pub mod Standings
 pub mod Stepping

@@ -10,7 +10,8 @@ use Rattle.pv_words.specs.declared.journal.Stop.{Stop}
 use Rattle.pv_words.specs.declared.place.DevId.{DevId}
 use Rattle.pv_words.specs.declared.journal.Stop.TheVariants.{JournalFull, OutOfMemory}
 use Rattle.pv_words.specs.Room.{Book}
-use Rattle.backend_core.specs.Marked.{Item, Entered, entries, host_items, progress}
+use Rattle.device_core.specs.declared.step.Step.{Step}
+use Rattle.backend_core.specs.Marked.{Item, Entered, entries, host_items, items_of, progress}
 use Rattle.host_events.specs.Queue.{refusal_in}
 
 -- what a stop shows of the journal: it is at its limit, or memory was wanting below it
@@ -37,6 +38,10 @@ abbrev pub Records : List Item → Option Access → Option Said → List Entry 
 Records items a s old new (Ok did) = (new ≡ old ++ entries items) × (did ≡ progress a s)
 Records items a s old new (Err stop) = EntersFront items stop old new
 
+-- what a step of this device did was entered
+abbrev pub RecordsStep : DevId → Step → List Entry → List Entry → Result (Option Bool) Stop → Type 0
+RecordsStep dev step old new r = Records (items_of dev step.access step.said) step.access step.said old new r
+
 -- it has become longer, and wasn't at its limit
 pub record IsLonger (old new : List Entry) : Type 0 where
   pub room : length old < 8388608
@@ -52,4 +57,5 @@ Grows (Err stop) old new = Unit {0}
 abbrev pub EntersHost : DevId → HostEvent → Result (Unit {0}) HostRefusal → List Entry → List Entry → {A : Type 0} → Result A Stop → Type 0
 EntersHost dev e answer old new (Ok x) = new ≡ old ++ entries (host_items dev e (refusal_in answer))
 EntersHost dev e answer old new (Err stop) =
-    (why : HostRefusal) × (refusal_in answer ≡ Some why) × (new ≡ old ++ entry.Host dev e ∷ []) × (stop ≡ JournalFull) × (length new ≡ 8388608)
+    (why : HostRefusal) × (refusal_in answer ≡ Some why) × (new ≡ old ++ entry.Host dev e ∷ [])
+    × (stop ≡ JournalFull) × (length new ≡ 8388608)

@@ -15,6 +15,8 @@ use Rattle.pv_words.specs.declared.device.Said.{Said}
 use Rattle.pv_words.specs.declared.setup.DeviceSetup.{DeviceSetup}
 use Rattle.pv_words.specs.Memory.{memory_after, place_of}
 use Rattle.pv_words.specs.Place.{InRange, domain_of}
+use Rattle.pv_words.specs.Plan.{Want}
+use Rattle.pv_words.specs.Room.{Book}
 use Rattle.pv_words.specs.Port.{Port, IsFree, IsListed, no_listing}
 use Rattle.backend_core.specs.Device.{StandsFor}
 use Rattle.pv_world.specs.declared.world.Placed.{Placed}
@@ -35,9 +37,28 @@ pub record Sight (W : Type 0) : Type 1 where
   pub knows_device : W → ℕ → ℕ → Type 0
   pub knows_domain : W → ℕ → Type 0
 
-abbrev pub sight : {W : Type 0} → (W → Place → ℕ) → (W → ℕ → ℕ) → (W → ℕ → ℕ) → (W → Port) → (W → Type 0) → (W → ℕ → ℕ → Type 0) → (W → ℕ → Type 0) → Sight W
+abbrev pub sight : {W : Type 0} → (word : W → Place → ℕ) (frames grants : W → ℕ → ℕ) (port : W → Port) (whole : W → Type 0)
+    (knows_device : W → ℕ → ℕ → Type 0) (knows_domain : W → ℕ → Type 0) → Sight W
 sight word frames grants port whole device domain =
     record { word = word; frames = frames; grants = grants; port = port; whole = whole; knows_device = device; knows_domain = domain }
+
+-- the members of a machine, which a clause names all together by `W.Machine`
+abbrev pub Members : Type 0 → Type 1
+Members W = record {
+  frames_of : W → ℕ → ℕ;
+  grants_of : W → ℕ → ℕ;
+  port : W → Port;
+  may : W → Want → Type 0;
+  makes : W → Access → W → Type 0;
+  word : W → Place → ℕ;
+  whole : W → Type 0;
+  knows_device : W → ℕ → ℕ → Type 0;
+  knows_domain : W → ℕ → Type 0;
+}
+
+-- what a machine of these members shows of itself
+abbrev pub sight_of : {W : Type 0} → Members W → Sight W
+sight_of m = sight m.word m.frames_of m.grants_of m.port m.whole m.knows_device m.knows_domain
 
 -- the devices of a world
 abbrev pub setups : List Placed → List DeviceSetup
@@ -52,25 +73,6 @@ pub record IsPlaced {W : Type 0} (g : Sight W) (frames grants : ℕ → ℕ) (me
   pub nodes_are : p.nodes ≡ nodes_in p.setup.dev.0 m
   pub known : g.knows_device memory p.setup.dev.0 p.setup.dom.0
   pub listed : IsListed (g.port memory) p.setup.dev.0 (held_in frames grants m p.setup)
-
--- The memory is whole, knows all domains, holds what the journal's entries left, and has frames and grants of these
--- numbers; the devices, of which no two have one number, stand for their entries. What devices say and refuse stands directly
--- behind that on which it is said.
-pub record Stands {W : Type 0} (g : Sight W) (frames grants : ℕ → ℕ) (memory : W) (devices : List Placed) (m : List Item) : Type 0 where
-  pub frames_are : (d : ℕ) → g.frames memory d ≡ frames d
-  pub grants_are : (d : ℕ) → g.grants memory d ≡ grants d
-  pub words_are : (q : Place) → InRange frames grants q → g.word memory q ≡ memory_after (entries m) q
-  pub whole : g.whole memory
-  pub domains : (d : ℕ) → 0 < frames d + grants d → g.knows_domain memory d
-  pub apart : AreApart (setups devices)
-  pub placed : AllByRecursion (IsPlaced g frames grants memory m) devices
-  pub so_far : IsHistory frames grants (setups devices) m
-  pub prompt : AllByRecursion (IsPromptIn frames grants m) (setups devices)
-
--- some history of the world's has these entries
-abbrev pub Standing : {W : Type 0} → Sight W → W → List Placed → List Entry → Type 0
-Standing g memory devices es =
-    (frames : ℕ → ℕ) × (grants : ℕ → ℕ) × (m : List Item) × Stands g frames grants memory devices m × (entries m ≡ es)
 
 -- at most so many accesses, where a number is asked for
 abbrev pub AtMost : Option ℕ → ℕ → Type 0
@@ -97,30 +99,10 @@ abbrev pub Lacks : (rides : List Item → Option Said) → Stop → DevId → (h
 Lacks rides JournalFull dev here due es = (length es ≡ 8388608) × IsCutAt rides dev here due
 Lacks rides OutOfMemory dev here due es = (length es < 8388608) × (due ≡ [])
 
--- The device was stopped after some of its steps. The world stands for what was entered, and, where the journal is full, for
--- what of the last step found no room.
-pub record StopsIn {W : Type 0} (g : Sight W) (frames grants : ℕ → ℕ) (memory : W) (devices : List Placed) (dev : DevId) (most : Option ℕ) (stop : Stop) (m : List Item) (es : List Entry) : Type 0 where
-  pub here : List Item
-  pub due : List Item
-  pub steps : AreSteps dev.0 (here ++ due)
-  pub within : AtMost most (accesses_in (here ++ due))
-  pub stands : Stands g frames grants memory devices (m ++ (here ++ due))
-  pub entered : entries (m ++ here) ≡ es
-  pub cause : Lacks (λ x. due_by frames grants (setups devices) dev.0 (m ++ x)) stop dev here due es
-
 -- With an access just the event is said that rides on it.
 abbrev pub Rides : (frames grants : ℕ → ℕ) → List DeviceSetup → DevId → List Item → Option Access → Option Said → Type 0
 Rides frames grants devices dev m a s =
     (x : Access) → a ≡ Some x → s ≡ due_by frames grants devices dev.0 (m ++ Entered (entry.Back dev x) ∷ [])
-
--- One step of a device: it made an access or said something (true where it made an access), or was idle (None), or was
--- stopped.
-abbrev pub Advanced : {W : Type 0} → Sight W → (frames grants : ℕ → ℕ) (memory : W) (devices : List Placed) (dev : DevId) (es : List Entry) (m : List Item) → Result (Option Bool) Stop → Type 0
-Advanced g frames grants memory devices dev es m (Ok did) =
-    (a : Option Access) × (s : Option Said) × (did ≡ progress a s)
-    × Stands g frames grants memory devices (m ++ items_of dev a s) × (entries (m ++ items_of dev a s) ≡ es)
-    × Rides frames grants (setups devices) dev m a s
-Advanced g frames grants memory devices dev es m (Err stop) = StopsIn g frames grants memory devices dev (Some 1) stop m es
 
 -- a device's steps until it was idle, with fewer accesses than were asked for
 pub record ComesToRest (d : ℕ) (most : Option ℕ) (here : List Item) : Type 0 where
@@ -144,31 +126,6 @@ pub record MakesAll (due : List Item → Option Said) (dev : DevId) (most : Opti
 abbrev pub IsStepped : (due : List Item → Option Said) → DevId → Option ℕ → List Item → Type 0
 IsStepped due dev most here = ComesToRest dev.0 most here ⊎ MakesAll due dev most here
 
--- the device was stepped so, or was stopped before
-abbrev pub SteppedBy : {W : Type 0} → Sight W → (frames grants : ℕ → ℕ) (memory : W) (devices : List Placed) (dev : DevId) (most : Option ℕ) (es : List Entry) (m : List Item) {A : Type 0} → Result A Stop → Type 0
-SteppedBy g frames grants memory devices dev most es m (Ok x) =
-    (here : List Item) × IsStepped (λ x. due_by frames grants (setups devices) dev.0 (m ++ x)) dev most here × Stands g frames grants memory devices (m ++ here) × (entries (m ++ here) ≡ es)
-SteppedBy g frames grants memory devices dev most es m (Err stop) = StopsIn g frames grants memory devices dev most stop m es
-
--- a world's memory and its devices
-abbrev pub memory_of : {W : Type 0} → World W → W
-memory_of w = w.memory
-
-abbrev pub devices_of : {W : Type 0} → World W → List Placed
-devices_of w = w.devices.items
-
--- what a domain enters where it makes an access
-abbrev pub front_access : Access → Item
-front_access a = Entered (entry.Front (record { 0 = domain_of (place_of a) }) a)
-
--- where it stores a word
-abbrev pub front_store : Place → ℕ → Item
-front_store at v = front_access (access.Store at v)
-
--- where it exchanges one
-abbrev pub front_swap : Place → ℕ → ℕ → ℕ → Item
-front_swap at old new seen = front_access (access.Cas at old new seen)
-
 -- The memory of a new world: whole, with as many frames and grants as declared, knowing the domains and each device as one
 -- of its domain; all its words are 0, and it lists no mapping.
 pub record IsNew {W : Type 0} (g : Sight W) (frames grants : ℕ → ℕ) (memory : W) (devices : List DeviceSetup) : Type 0 where
@@ -181,33 +138,98 @@ pub record IsNew {W : Type 0} (g : Sight W) (frames grants : ℕ → ℕ) (memor
   pub listed : (d : ℕ) → IsFree (g.port memory) ⊎ ((g.port memory).listed d ≡ no_listing)
   pub apart : AreApart devices
 
--- One entry was entered; or it found no room, and the world stands for what it stood for, with which it would be a history.
-abbrev pub Enters : {W : Type 0} → Sight W → (frames grants : ℕ → ℕ) (memory : W) (devices : List Placed) (due : Item) (es : List Entry) (m : List Item) {A : Type 0} → Result A Stop → Type 0
-Enters g frames grants memory devices due es m (Ok x) =
-    Stands g frames grants memory devices (m ++ due ∷ []) × (entries (m ++ due ∷ []) ≡ es)
-Enters g frames grants memory devices due es m (Err stop) =
-    Stands g frames grants memory devices m × (entries m ≡ es) × IsHistory frames grants (setups devices) (m ++ due ∷ []) × Shows stop es
+-- what a domain enters where it makes an access
+abbrev pub front_entry : Access → Entry
+front_entry a = entry.Front (record { 0 = domain_of (place_of a) }) a
 
--- an event of the host stands in the journal, which is full, and its refusal is due
-pub record IsCut {W : Type 0} (g : Sight W) (frames grants : ℕ → ℕ) (memory : W) (devices : List Placed) (dev : DevId) (e : HostEvent) (es : List Entry) (m : List Item) (stop : Stop) : Type 0 where
-  pub why : HostRefusal
-  pub stands : Stands g frames grants memory devices (m ++ host_items dev e (Some why))
-  pub entered : entries (m ++ Entered (entry.Host dev e) ∷ []) ≡ es
-  pub full : stop ≡ JournalFull
-  pub limit : length es ≡ 8388608
+abbrev pub front_access : Access → Item
+front_access a = Entered (front_entry a)
 
--- A host told a device an event, which is refused or not: the entry, and then that of its refusal, if there is one; or there
--- was no room for the event, of which the device wasn't told, or for its refusal.
-abbrev pub Hosted : {W : Type 0} → Sight W → (frames grants : ℕ → ℕ) (memory : W) (devices : List Placed) (dev : DevId) (e : HostEvent) (es : List Entry) (m : List Item) {A : Type 0} → Result A Stop → Type 0
-Hosted g frames grants memory devices dev e es m (Ok x) =
-    (answer : Option HostRefusal) × Stands g frames grants memory devices (m ++ host_items dev e answer) × (entries (m ++ host_items dev e answer) ≡ es)
-Hosted g frames grants memory devices dev e es m (Err stop) =
-    Enters g frames grants memory devices (Entered (entry.Host dev e)) es m {A = Unit {0}} (Err stop) ⊎ IsCut g frames grants memory devices dev e es m stop
+-- where it stores a word
+abbrev pub store_entry : Place → ℕ → Entry
+store_entry at v = front_entry (access.Store at v)
 
--- a word was exchanged where it was `old`, or there was no room for the entry
-abbrev pub Exchanged : {W : Type 0} → Sight W → (frames grants : ℕ → ℕ) (memory : W) (devices : List Placed) (at : Place) (old new : ℕ) (es : List Entry) (m : List Item) {A : Type 0} → Result A Stop → Type 0
-Exchanged g frames grants memory devices at old new es m r =
-    (seen : ℕ) × Enters g frames grants memory devices (front_swap at old new seen) es m r
+abbrev pub front_store : Place → ℕ → Item
+front_store at v = Entered (store_entry at v)
+
+-- where it exchanges one
+abbrev pub front_swap : Place → ℕ → ℕ → ℕ → Item
+front_swap at old new seen = front_access (access.Cas at old new seen)
+
+-- Over a machine of this sight and domains of so many frames and grant entries: the world of this memory and these devices.
+module _ {W : Type 0} (g : Sight W) (frames grants : ℕ → ℕ) (memory : W) (devices : List Placed) where
+  -- The memory is whole, knows all domains, holds what the journal's entries left, and has frames and grants of these
+  -- numbers; the devices, of which no two have one number, stand for their entries. What devices say and refuse stands directly
+  -- behind that on which it is said.
+  pub record Stands (m : List Item) : Type 0 where
+    pub frames_are : (d : ℕ) → g.frames memory d ≡ frames d
+    pub grants_are : (d : ℕ) → g.grants memory d ≡ grants d
+    pub words_are : (q : Place) → InRange frames grants q → g.word memory q ≡ memory_after (entries m) q
+    pub whole : g.whole memory
+    pub domains : (d : ℕ) → 0 < frames d + grants d → g.knows_domain memory d
+    pub apart : AreApart (setups devices)
+    pub placed : AllByRecursion (IsPlaced g frames grants memory m) devices
+    pub so_far : IsHistory frames grants (setups devices) m
+    pub prompt : AllByRecursion (IsPromptIn frames grants m) (setups devices)
+
+  -- What a call made of the world that stood for the items `m`, where the journal has the entries `es` then. One entry was entered;
+  -- or it found no room, and the world stands for what it stood for, with which it would be a history.
+  abbrev pub Enters : (due : Item) (es : List Entry) (m : List Item) {A : Type 0} → Result A Stop → Type 0
+  Enters due es m (Ok x) = Stands (m ++ due ∷ []) × (entries (m ++ due ∷ []) ≡ es)
+  Enters due es m (Err stop) =
+      Stands m × (entries m ≡ es) × IsHistory frames grants (setups devices) (m ++ due ∷ []) × Shows stop es
+
+  -- a word was exchanged where it was `old`, or there was no room for the entry
+  abbrev pub Exchanged : (at : Place) (old new : ℕ) (es : List Entry) (m : List Item) {A : Type 0} → Result A Stop → Type 0
+  Exchanged at old new es m r = (seen : ℕ) × Enters (front_swap at old new seen) es m r
+
+  -- an event of the host stands in the journal, which is full, and its refusal is due
+  pub record IsCut (dev : DevId) (e : HostEvent) (es : List Entry) (m : List Item) (stop : Stop) : Type 0 where
+    pub why : HostRefusal
+    pub stands : Stands (m ++ host_items dev e (Some why))
+    pub entered : entries (m ++ Entered (entry.Host dev e) ∷ []) ≡ es
+    pub full : stop ≡ JournalFull
+    pub limit : length es ≡ 8388608
+
+  -- A host told a device an event, which is refused or not: the entry, and then that of its refusal, if there is one; or there
+  -- was no room for the event, of which the device wasn't told, or for its refusal.
+  abbrev pub Hosted : (dev : DevId) (e : HostEvent) (es : List Entry) (m : List Item) {A : Type 0} → Result A Stop → Type 0
+  Hosted dev e es m (Ok x) =
+      (answer : Option HostRefusal) × Stands (m ++ host_items dev e answer) × (entries (m ++ host_items dev e answer) ≡ es)
+  Hosted dev e es m (Err stop) =
+      Enters (Entered (entry.Host dev e)) es m {A = Unit {0}} (Err stop) ⊎ IsCut dev e es m stop
+
+  -- The device was stopped after some of its steps. The world stands for what was entered, and, where the journal is full, for
+  -- what of the last step found no room.
+  pub record StopsIn (dev : DevId) (most : Option ℕ) (stop : Stop) (m : List Item) (es : List Entry) : Type 0 where
+    pub here : List Item
+    pub due : List Item
+    pub steps : AreSteps dev.0 (here ++ due)
+    pub within : AtMost most (accesses_in (here ++ due))
+    pub stands : Stands (m ++ (here ++ due))
+    pub entered : entries (m ++ here) ≡ es
+    pub cause : Lacks (λ x. due_by frames grants (setups devices) dev.0 (m ++ x)) stop dev here due es
+
+  -- One step of a device: it made an access or said something (true where it made an access), or was idle (None), or was
+  -- stopped.
+  abbrev pub Advanced : (dev : DevId) (es : List Entry) (m : List Item) → Result (Option Bool) Stop → Type 0
+  Advanced dev es m (Ok did) =
+      (a : Option Access) × (s : Option Said) × (did ≡ progress a s)
+      × Stands (m ++ items_of dev a s) × (entries (m ++ items_of dev a s) ≡ es)
+      × Rides frames grants (setups devices) dev m a s
+  Advanced dev es m (Err stop) = StopsIn dev (Some 1) stop m es
+
+  -- the device was stepped so, or was stopped before
+  abbrev pub SteppedBy : (dev : DevId) (most : Option ℕ) (es : List Entry) (m : List Item) {A : Type 0} → Result A Stop → Type 0
+  SteppedBy dev most es m (Ok x) =
+      (here : List Item) × IsStepped (λ x. due_by frames grants (setups devices) dev.0 (m ++ x)) dev most here
+      × Stands (m ++ here) × (entries (m ++ here) ≡ es)
+  SteppedBy dev most es m (Err stop) = StopsIn dev most stop m es
+
+-- some history of the world's has these entries
+abbrev pub Standing : {W : Type 0} → Sight W → W → List Placed → List Entry → Type 0
+Standing g memory devices es =
+    (frames : ℕ → ℕ) × (grants : ℕ → ℕ) × (m : List Item) × Stands g frames grants memory devices m × (entries m ≡ es)
 
 -- a device that was just declared: it stands for nothing yet
 pub record IsDeclaredAs (s : DeviceSetup) (p : Placed) : Type 0 where
@@ -229,6 +251,18 @@ HasParts s = (1 ≤ parts_of s.kind) × (parts_of s.kind ≤ 4)
 abbrev pub IsAt : List Placed → ℕ → DevId → Type 0
 IsAt devices i dev = (p : Placed) × (slice_get devices i ≡ Some p) × (p.setup.dev ≡ dev)
 
+-- a world's memory and its devices
+abbrev pub memory_of : {W : Type 0} → World W → W
+memory_of w = w.memory
+
+abbrev pub devices_of : {W : Type 0} → World W → List Placed
+devices_of w = w.devices.items
+
+-- a world that was just made over a new memory stands for nothing yet
+abbrev pub StandsForNothing : {W : Type 0} → Sight W → (memory : W) → List DeviceSetup → World W → Type 0
+StandsForNothing g memory devices w =
+    (frames grants : ℕ → ℕ) → IsNew g frames grants memory devices → Stands g frames grants (memory_of w) (devices_of w) []
+
 -- some history of this world's has these entries
 abbrev pub StandingAt : {W : Type 0} → Sight W → World W → List Entry → Type 0
 StandingAt g w es = Standing g (memory_of w) (devices_of w) es
@@ -236,21 +270,35 @@ StandingAt g w es = Standing g (memory_of w) (devices_of w) es
 -- so it is from each history of the old world's that has these entries
 abbrev pub FromEach : {W : Type 0} → Sight W → World W → List Entry → ((frames grants : ℕ → ℕ) → List Item → Type 0) → Type 0
 FromEach g old es leads =
-    (frames grants : ℕ → ℕ) (m : List Item) → Stands g frames grants (memory_of old) (devices_of old) m → entries m ≡ es → leads frames grants m
+    (frames grants : ℕ → ℕ) (m : List Item)
+    → Stands g frames grants (memory_of old) (devices_of old) m → entries m ≡ es → leads frames grants m
 
--- What a call made of a world and its journal, from each of its histories: one entry was entered, a word was exchanged, an event
--- was told by the host, one step was made, or a device was stepped.
-abbrev pub EntersFrom : {W : Type 0} → Sight W → World W → List Entry → Item → World W → List Entry → {A : Type 0} → Result A Stop → Type 0
-EntersFrom g old es due new fs r = FromEach g old es (λ frames grants m. Enters g frames grants (memory_of new) (devices_of new) due fs m r)
+-- What a call made of a world and its journal, from each of its histories.
+module _ {W : Type 0} (g : Sight W) (old : World W) (before : Book) where
+  -- one entry was entered
+  abbrev pub EntersFrom : Entry → World W → Book → {A : Type 0} → Result A Stop → Type 0
+  EntersFrom due new behind r =
+      FromEach g old before.entries (λ frames grants m.
+      Enters g frames grants (memory_of new) (devices_of new) (Entered due) behind.entries m r)
 
-abbrev pub ExchangesFrom : {W : Type 0} → Sight W → World W → List Entry → Place → (from to : ℕ) → World W → List Entry → {A : Type 0} → Result A Stop → Type 0
-ExchangesFrom g old es at from to new fs r = FromEach g old es (λ frames grants m. Exchanged g frames grants (memory_of new) (devices_of new) at from to fs m r)
+  -- a word was exchanged
+  abbrev pub ExchangesFrom : Place → (from to : ℕ) → World W → Book → {A : Type 0} → Result A Stop → Type 0
+  ExchangesFrom at from to new behind r =
+      FromEach g old before.entries (λ frames grants m.
+      Exchanged g frames grants (memory_of new) (devices_of new) at from to behind.entries m r)
 
-abbrev pub HostsFrom : {W : Type 0} → Sight W → World W → List Entry → DevId → HostEvent → World W → List Entry → {A : Type 0} → Result A Stop → Type 0
-HostsFrom g old es dev e new fs r = FromEach g old es (λ frames grants m. Hosted g frames grants (memory_of new) (devices_of new) dev e fs m r)
+  -- an event was told by the host
+  abbrev pub HostsFrom : DevId → HostEvent → World W → Book → {A : Type 0} → Result A Stop → Type 0
+  HostsFrom dev e new behind r =
+      FromEach g old before.entries (λ frames grants m. Hosted g frames grants (memory_of new) (devices_of new) dev e behind.entries m r)
 
-abbrev pub AdvancesFrom : {W : Type 0} → Sight W → World W → List Entry → DevId → World W → List Entry → Result (Option Bool) Stop → Type 0
-AdvancesFrom g old es dev new fs r = FromEach g old es (λ frames grants m. Advanced g frames grants (memory_of new) (devices_of new) dev fs m r)
+  -- one step was made
+  abbrev pub AdvancesFrom : DevId → World W → Book → Result (Option Bool) Stop → Type 0
+  AdvancesFrom dev new behind r =
+      FromEach g old before.entries (λ frames grants m. Advanced g frames grants (memory_of new) (devices_of new) dev behind.entries m r)
 
-abbrev pub StepsFrom : {W : Type 0} → Sight W → World W → List Entry → DevId → Option ℕ → World W → List Entry → {A : Type 0} → Result A Stop → Type 0
-StepsFrom g old es dev most new fs r = FromEach g old es (λ frames grants m. SteppedBy g frames grants (memory_of new) (devices_of new) dev most fs m r)
+  -- a device was stepped
+  abbrev pub StepsFrom : DevId → Option ℕ → World W → Book → {A : Type 0} → Result A Stop → Type 0
+  StepsFrom dev most new behind r =
+      FromEach g old before.entries (λ frames grants m.
+      SteppedBy g frames grants (memory_of new) (devices_of new) dev most behind.entries m r)

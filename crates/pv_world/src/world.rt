@@ -1,14 +1,14 @@
 //! The world of a scenario.
 
-ghost use Rattle.std.specs.Prelude.{◌≡◌, ◌++◌, ◌∷◌, [], ◌<◌, ◌≤◌, ◌+◌, OnOk, OnErr, IfErr, IfOk, IsSome, Ok, Some, true, length, slice_get};
+ghost use Rattle.std.specs.Prelude.{◌≡◌, ◌++◌, ◌∷◌, [], ◌<◌, ◌≤◌, IfErr, IfOk, IsSome, Ok, OnErr, OnOk, Some, length, true};
 ghost use Rattle.std.specs.List.{AllByRecursion};
-ghost use Rattle.backend_core.specs.Marked.{entry_of, items_of, Entered};
+ghost use Rattle.backend_core.specs.Marked.{entry_of};
 ghost use Rattle.pv_words.specs.declared.entry.Entry.TheVariants as entry;
 ghost use Rattle.pv_words.specs.declared.entry.End.TheVariants as end;
 ghost use Rattle.pv_words.specs.Place.{domain_of};
 ghost use Rattle.backend_core.specs.Kinds.{parts_of};
 ghost use Rattle.pv_words.specs.declared.journal.Stop.TheVariants as stop;
-ghost use Rattle.pv_world.specs.Record.{EntersHost, Records, Grows, HasRoom, Shows, IsLonger};
+ghost use Rattle.pv_world.specs.Record.{EntersHost, RecordsStep, Grows, HasRoom, Shows, IsLonger};
 ghost use Rattle.pv_world.specs.World.{AreDeclaredAs, HasParts, IsDeclaredAs};
 ghost use Rattle.pv_world.specs.Owner.{EntersTurn};
 
@@ -95,7 +95,7 @@ fn said_entry(dev: DevId, said: Said) -> Entry
 // idle.
 fn record(journal: &mut Journal, dev: DevId, step: &Step) -> Result<Option<bool>, Stop>
     requires { HasRoom 2 journal.old }
-    ensures records { Records (items_of dev step.now.access step.now.said) step.now.access step.now.said journal.old.entries journal.new.entries result }
+    ensures records { RecordsStep dev step.now journal.old.entries journal.new.entries result }
     ensures grows { Grows result journal.old.entries journal.new.entries }
 {
     if let Some(access) = step.access {
@@ -192,14 +192,13 @@ fn declare_all(alloc: Global, setups: &[DeviceSetup]) -> Result<Vec<Placed>, All
 
 impl<W: Machine + Drop> World<W> {
     ghost use Rattle.std.specs.Prelude.{ℕ};
-    ghost use Rattle.pv_world.specs.World.{IsNew, Stands, devices_of, memory_of, setups, sight};
+    ghost use Rattle.pv_world.specs.World.{StandsForNothing, devices_of, setups, sight_of};
 
     /// The world of these domains and devices, each of 1 to 4 parts, over a memory of zeros. Where memory is refused, it
     /// is dropped.
     pub fn new(alloc: Global, memory: W, setup: &Setup) -> Result<World<W>, AllocError>
         requires parts { AllByRecursion HasParts setup.now.devices }
-        ensures stands { IfOk result (λ w. (frames grants : ℕ → ℕ) → IsNew (sight W.word W.frames_of W.grants_of W.port W.whole W.knows_device W.knows_domain) frames grants memory setup.now.devices →
-            Stands (sight W.word W.frames_of W.grants_of W.port W.whole W.knows_device W.knows_domain) frames grants (memory_of w) (devices_of w) []) }
+        ensures stands { IfOk result (λ w. StandsForNothing (sight_of W.Machine) memory setup.now.devices w) }
         ensures devices { IfOk result (λ w. setups (devices_of w) ≡ setup.now.devices) }
     {
         let devices = declare_all(alloc, setup.devices.as_slice())?;
@@ -211,12 +210,12 @@ impl<W: Machine> World<W> {
     ghost use Rattle.std.specs.Prelude.{ℕ};
     ghost use Rattle.pv_words.specs.Plan.{IsUnfinished};
     ghost use Rattle.pv_words.specs.Place.{InRange};
-    ghost use Rattle.grant_table.specs.Owning.{end_plan, permit_plan};
     ghost use Rattle.backend_core.specs.History.{is_declared, parts_by, takes_by};
     ghost use Rattle.pv_words.specs.Keeping.{MayGoOn};
     ghost use Rattle.pv_words.specs.Port.{IsUnkept, KeepsSame};
-    ghost use Rattle.pv_world.specs.Owner.{OwnsFrom, OwnsOnFrom, left_of};
-    ghost use Rattle.pv_world.specs.World.{AdvancesFrom, EntersFrom, ExchangesFrom, HostsFrom, IsAt, StandingAt, StepsFrom, devices_of, front_store, memory_of, setups, sight};
+    ghost use Rattle.pv_world.specs.Owner.{EndsFrom, MayOwnOn, OwnsFrom, OwnsOnFrom, PermitsFrom, left_of};
+    ghost use Rattle.pv_world.specs.World.{AdvancesFrom, EntersFrom, ExchangesFrom, HostsFrom, IsAt, StandingAt, StepsFrom};
+    ghost use Rattle.pv_world.specs.World.{devices_of, memory_of, setups, sight_of, store_entry};
 
     // Where a device stands among the devices.
     fn position(&self, dev: DevId) -> usize
@@ -233,10 +232,10 @@ impl<W: Machine> World<W> {
     /// A domain stores a word, but none of a grant entry that the memory keeps. Where the entry finds no room, nothing
     /// changes.
     pub fn put(&mut self, place: Place, v: u32, journal: &mut Journal) -> Result<(), Stop>
-        requires standing { StandingAt (sight W.word W.frames_of W.grants_of W.port W.whole W.knows_device W.knows_domain) self.old journal.old.entries }
+        requires standing { StandingAt (sight_of W.Machine) self.old journal.old.entries }
         requires range { InRange (W.frames_of (memory_of self.old)) (W.grants_of (memory_of self.old)) place }
         requires unkept { IsUnkept (W.port (memory_of self.old)) place }
-        ensures stored { EntersFrom (sight W.word W.frames_of W.grants_of W.port W.whole W.knows_device W.knows_domain) self.old journal.old.entries (front_store place v) self.new journal.new.entries result }
+        ensures stored { EntersFrom (sight_of W.Machine) self.old journal.old (store_entry place v) self.new journal.new result }
         ensures err { OnErr result (self.new ≡ self.old) }
         ensures devices { setups (devices_of self.new) ≡ setups (devices_of self.old) }
         ensures keeps { KeepsSame (W.port (memory_of self.old)) (W.port (memory_of self.new)) }
@@ -259,10 +258,10 @@ impl<W: Machine> World<W> {
         new: u32,
         journal: &mut Journal,
     ) -> Result<(), Stop>
-        requires standing { StandingAt (sight W.word W.frames_of W.grants_of W.port W.whole W.knows_device W.knows_domain) self.old journal.old.entries }
+        requires standing { StandingAt (sight_of W.Machine) self.old journal.old.entries }
         requires range { InRange (W.frames_of (memory_of self.old)) (W.grants_of (memory_of self.old)) place }
         requires unkept { IsUnkept (W.port (memory_of self.old)) place }
-        ensures exchanged { ExchangesFrom (sight W.word W.frames_of W.grants_of W.port W.whole W.knows_device W.knows_domain) self.old journal.old.entries place old new self.new journal.new.entries result }
+        ensures exchanged { ExchangesFrom (sight_of W.Machine) self.old journal.old place old new self.new journal.new result }
         ensures err { OnErr result (self.new ≡ self.old) }
         ensures devices { setups (devices_of self.new) ≡ setups (devices_of self.old) }
         ensures keeps { KeepsSame (W.port (memory_of self.old)) (W.port (memory_of self.new)) }
@@ -283,12 +282,12 @@ impl<W: Machine> World<W> {
         gref: GrantRef,
         journal: &mut Journal,
     ) -> Result<bool, Stop>
-        requires standing { StandingAt (sight W.word W.frames_of W.grants_of W.port W.whole W.knows_device W.knows_domain) self.old journal.old.entries }
+        requires standing { StandingAt (sight_of W.Machine) self.old journal.old.entries }
         requires live { IsUnfinished (left_of owning.old) }
         requires goes { MayGoOn (W.port (memory_of self.old)) dom.0 gref.0 (left_of owning.old) }
         requires range { gref.0 < W.grants_of (memory_of self.old) dom.0 }
-        ensures owns { OwnsOnFrom (sight W.word W.frames_of W.grants_of W.port W.whole W.knows_device W.knows_domain) self.old journal.old.entries dom gref (left_of owning.old) (left_of owning.new) self.new journal.new.entries result }
-        ensures live { result ≡ Ok true → IsUnfinished (left_of owning.new) × MayGoOn (W.port (memory_of self.new)) dom.0 gref.0 (left_of owning.new) }
+        ensures owns { OwnsOnFrom (sight_of W.Machine) self.old journal.old dom gref owning.old owning.new self.new journal.new result }
+        ensures live { result ≡ Ok true → MayOwnOn (W.port (memory_of self.new)) dom gref owning.new }
         ensures range { W.grants_of (memory_of self.new) dom.0 ≡ W.grants_of (memory_of self.old) dom.0 }
         ensures same { devices_of self.new ≡ devices_of self.old }
         ensures keeps { KeepsSame (W.port (memory_of self.old)) (W.port (memory_of self.new)) }
@@ -308,11 +307,11 @@ impl<W: Machine> World<W> {
         gref: GrantRef,
         journal: &mut Journal,
     ) -> Result<(), Stop>
-        requires standing { StandingAt (sight W.word W.frames_of W.grants_of W.port W.whole W.knows_device W.knows_domain) self.old journal.old.entries }
+        requires standing { StandingAt (sight_of W.Machine) self.old journal.old.entries }
         requires live { IsUnfinished (left_of owning) }
         requires goes { MayGoOn (W.port (memory_of self.old)) dom.0 gref.0 (left_of owning) }
         requires range { gref.0 < W.grants_of (memory_of self.old) dom.0 }
-        ensures owns { OwnsFrom (sight W.word W.frames_of W.grants_of W.port W.whole W.knows_device W.knows_domain) self.old journal.old.entries dom gref (left_of owning) self.new journal.new.entries result }
+        ensures owns { OwnsFrom (sight_of W.Machine) self.old journal.old dom gref (left_of owning) self.new journal.new result }
         ensures grants { W.grants_of (memory_of self.new) dom.0 ≡ W.grants_of (memory_of self.old) dom.0 }
         ensures same { devices_of self.new ≡ devices_of self.old }
         ensures keeps { KeepsSame (W.port (memory_of self.old)) (W.port (memory_of self.new)) }
@@ -332,9 +331,9 @@ impl<W: Machine> World<W> {
         mode: Mode,
         journal: &mut Journal,
     ) -> Result<(), Stop>
-        requires standing { StandingAt (sight W.word W.frames_of W.grants_of W.port W.whole W.knows_device W.knows_domain) self.old journal.old.entries }
+        requires standing { StandingAt (sight_of W.Machine) self.old journal.old.entries }
         requires range { gref.0 < W.grants_of (memory_of self.old) dom.0 }
-        ensures owns { OwnsFrom (sight W.word W.frames_of W.grants_of W.port W.whole W.knows_device W.knows_domain) self.old journal.old.entries dom gref (permit_plan dom.0 gref.0 frame.0 mode) self.new journal.new.entries result }
+        ensures owns { PermitsFrom (sight_of W.Machine) self.old journal.old dom gref frame mode self.new journal.new result }
         ensures grants { W.grants_of (memory_of self.new) dom.0 ≡ W.grants_of (memory_of self.old) dom.0 }
         ensures devices { setups (devices_of self.new) ≡ setups (devices_of self.old) }
         ensures keeps { KeepsSame (W.port (memory_of self.old)) (W.port (memory_of self.new)) }
@@ -350,9 +349,9 @@ impl<W: Machine> World<W> {
         gref: GrantRef,
         journal: &mut Journal,
     ) -> Result<(), Stop>
-        requires standing { StandingAt (sight W.word W.frames_of W.grants_of W.port W.whole W.knows_device W.knows_domain) self.old journal.old.entries }
+        requires standing { StandingAt (sight_of W.Machine) self.old journal.old.entries }
         requires range { gref.0 < W.grants_of (memory_of self.old) dom.0 }
-        ensures owns { OwnsFrom (sight W.word W.frames_of W.grants_of W.port W.whole W.knows_device W.knows_domain) self.old journal.old.entries dom gref (end_plan dom.0 gref.0) self.new journal.new.entries result }
+        ensures owns { EndsFrom (sight_of W.Machine) self.old journal.old dom gref self.new journal.new result }
         ensures grants { W.grants_of (memory_of self.new) dom.0 ≡ W.grants_of (memory_of self.old) dom.0 }
         ensures devices { setups (devices_of self.new) ≡ setups (devices_of self.old) }
         ensures keeps { KeepsSame (W.port (memory_of self.old)) (W.port (memory_of self.new)) }
@@ -374,7 +373,7 @@ impl<W: Machine> World<W> {
         requires part { part < parts_by (setups (devices_of self.old)) dev.0 }
         requires parts { part < 4 }
         requires key { key < 4 }
-        ensures set { EntersFrom (sight W.word W.frames_of W.grants_of W.port W.whole W.knows_device W.knows_domain) self.old journal.old.entries (Entered (entry.Node dev part key v)) self.new journal.new.entries result }
+        ensures set { EntersFrom (sight_of W.Machine) self.old journal.old (entry.Node dev part key v) self.new journal.new result }
         ensures devices { setups (devices_of self.new) ≡ setups (devices_of self.old) }
         ensures err { OnErr result (self.new ≡ self.old) }
         ensures memory { memory_of self.new ≡ memory_of self.old }
@@ -389,7 +388,7 @@ impl<W: Machine> World<W> {
     /// A frontend sets its state, and its device hears it, with the nodes as they are set by then.
     pub fn bus(&mut self, dev: DevId, s: State, journal: &mut Journal) -> Result<(), Stop>
         requires declared { is_declared (setups (devices_of self.old)) dev.0 ≡ true }
-        ensures heard { EntersFrom (sight W.word W.frames_of W.grants_of W.port W.whole W.knows_device W.knows_domain) self.old journal.old.entries (Entered (entry.Bus dev end.Front s)) self.new journal.new.entries result }
+        ensures heard { EntersFrom (sight_of W.Machine) self.old journal.old (entry.Bus dev end.Front s) self.new journal.new result }
         ensures devices { setups (devices_of self.new) ≡ setups (devices_of self.old) }
         ensures err { OnErr result (self.new ≡ self.old) }
         ensures memory { memory_of self.new ≡ memory_of self.old }
@@ -405,10 +404,10 @@ impl<W: Machine> World<W> {
     /// A host tells a device an event of its kind and of a part that it has, and the device takes it or refuses it. After a
     /// Stop the entries so far stand; where the event's own entry found no room, the device wasn't told.
     pub fn host(&mut self, dev: DevId, e: HostEvent, journal: &mut Journal) -> Result<(), Stop>
-        requires standing { StandingAt (sight W.word W.frames_of W.grants_of W.port W.whole W.knows_device W.knows_domain) self.old journal.old.entries }
+        requires standing { StandingAt (sight_of W.Machine) self.old journal.old.entries }
         requires declared { is_declared (setups (devices_of self.old)) dev.0 ≡ true }
         requires fits { takes_by (setups (devices_of self.old)) dev.0 e ≡ true }
-        ensures hosted { HostsFrom (sight W.word W.frames_of W.grants_of W.port W.whole W.knows_device W.knows_domain) self.old journal.old.entries dev e self.new journal.new.entries result }
+        ensures hosted { HostsFrom (sight_of W.Machine) self.old journal.old dev e self.new journal.new result }
         ensures devices { setups (devices_of self.new) ≡ setups (devices_of self.old) }
         ensures memory { memory_of self.new ≡ memory_of self.old }
     {
@@ -421,7 +420,7 @@ impl<W: Machine> World<W> {
     /// A frontend raises its device's pending word.
     pub fn wake(&mut self, dev: DevId, journal: &mut Journal) -> Result<(), Stop>
         requires declared { is_declared (setups (devices_of self.old)) dev.0 ≡ true }
-        ensures woken { EntersFrom (sight W.word W.frames_of W.grants_of W.port W.whole W.knows_device W.knows_domain) self.old journal.old.entries (Entered (entry.Wake dev)) self.new journal.new.entries result }
+        ensures woken { EntersFrom (sight_of W.Machine) self.old journal.old (entry.Wake dev) self.new journal.new result }
         ensures same { self.new ≡ self.old }
     {
         admit(journal, 1)?;
@@ -431,9 +430,9 @@ impl<W: Machine> World<W> {
 
     // Makes one step of a device and enters it. Tells whether it made an access, or was idle.
     fn advance(&mut self, i: usize, dev: DevId, journal: &mut Journal) -> Result<Option<bool>, Stop>
-        requires standing { StandingAt (sight W.word W.frames_of W.grants_of W.port W.whole W.knows_device W.knows_domain) self.old journal.old.entries }
+        requires standing { StandingAt (sight_of W.Machine) self.old journal.old.entries }
         requires at { IsAt (devices_of self.old) i dev }
-        ensures advanced { AdvancesFrom (sight W.word W.frames_of W.grants_of W.port W.whole W.knows_device W.knows_domain) self.old journal.old.entries dev self.new journal.new.entries result }
+        ensures advanced { AdvancesFrom (sight_of W.Machine) self.old journal.old dev self.new journal.new result }
         ensures at { IsAt (devices_of self.new) i dev }
         ensures devices { setups (devices_of self.new) ≡ setups (devices_of self.old) }
         ensures keeps { KeepsSame (W.port (memory_of self.old)) (W.port (memory_of self.new)) }
@@ -448,10 +447,10 @@ impl<W: Machine> World<W> {
     /// Steps a device until it is idle, or, where a number is given, until it has made so many accesses. After a Stop the
     /// entries so far stand; at a full journal the device has gone no further than the one step that found no room.
     pub fn back(&mut self, dev: DevId, most: Option<u32>, journal: &mut Journal) -> Result<(), Stop>
-        requires standing { StandingAt (sight W.word W.frames_of W.grants_of W.port W.whole W.knows_device W.knows_domain) self.old journal.old.entries }
+        requires standing { StandingAt (sight_of W.Machine) self.old journal.old.entries }
         requires declared { is_declared (setups (devices_of self.old)) dev.0 ≡ true }
         requires least { (n : ℕ) → most ≡ Some n → 1 ≤ n }
-        ensures stepped { StepsFrom (sight W.word W.frames_of W.grants_of W.port W.whole W.knows_device W.knows_domain) self.old journal.old.entries dev most self.new journal.new.entries result }
+        ensures stepped { StepsFrom (sight_of W.Machine) self.old journal.old dev most self.new journal.new result }
         ensures devices { setups (devices_of self.new) ≡ setups (devices_of self.old) }
         ensures keeps { KeepsSame (W.port (memory_of self.old)) (W.port (memory_of self.new)) }
     {

@@ -1,5 +1,6 @@
 -- What the words of the command line ask for.
-use Rattle.std.specs.Prelude.{ℕ, Bool, true, false, ◌&&◌, if◌then◌else◌, List, [], ◌∷◌, codes, Option, Some, None, String, string_bytes, bytes_eq}
+use Rattle.std.specs.Prelude.{ℕ, Bool, true, false, ◌&&◌, if◌then◌else◌, List, []}
+use Rattle.std.specs.Prelude.{◌∷◌, codes, Option, Some, None, String, string_bytes, bytes_eq}
 use Rattle.scenario_cli.specs.declared.command.Command.{Command}
 use Rattle.scenario_cli.specs.declared.command.Command.TheVariants.{Run}
 

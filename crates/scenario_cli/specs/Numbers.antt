@@ -3,7 +3,8 @@ use Rattle.std.specs.Prelude.{ℕ, Bool, true, false, ◌&&◌, not, if◌then�
 use Rattle.std.specs.Fmt.{decimal}
 use Rattle.scenario_text.specs.Texts.{kind_text}
 use Rattle.scenario_cli.specs.declared.status.Status.{Status}
-use Rattle.scenario_cli.specs.declared.status.Status.TheVariants.{Ok, Usage, Script, ReadFault, WriteFault, OutOfMemory, JournalFull, TooLong, NotLegal}
+use Rattle.scenario_cli.specs.declared.status.Status.TheVariants.{Ok, Usage, Script, ReadFault}
+use Rattle.scenario_cli.specs.declared.status.Status.TheVariants.{WriteFault, OutOfMemory, JournalFull, TooLong, NotLegal}
 
 abbrev pub number_of : Status → ℕ
 number_of Ok = 0

@@ -5,7 +5,8 @@ use Rattle.pv_words.specs.declared.setup.DeviceSetup.{DeviceSetup}
 use Rattle.pv_words.specs.declared.place.Who.TheVariants.{Dev}
 use Rattle.std.proofs.lemmas.Result.{err_from_is_err_and}
 use Rattle.pv_world.specs.declared.world.Placed.{Placed}
-use Rattle.pv_world.specs.World.{IsPlaced, Rides, Stands, setups, sight}
+use Rattle.pv_world.specs.World.{IsPlaced, Rides, Stands, setups}
+use Rattle.pv_world.proofs.Seen.{seen}
 use Rattle.pv_world.proofs.Devices.{at_index, is_at_set, read_is, setups_set}
 use Rattle.pv_world.proofs.Serving.{recorded, wanting}
 use Rattle.pv_world.proofs.Standings.{Behaves, Hands, turned_stands}
@@ -15,14 +16,14 @@ use Rattle.pv_world.proofs.world.World.advance.Goals as goal
 
 pub returns-in_err-make_room-clause-advanced : goal.returns-in_err-make_room-clause-advanced
 returns-in_err-make_room-clause-advanced g c = λ frames grants m st e.
-    let sees = sight g.W.Machine.word g.W.Words.frames_of g.W.Words.grants_of g.W.Words.port g.W.Machine.whole g.W.Machine.knows_device g.W.Machine.knows_domain in
+    let sees = seen g.W.Words g.W.Machine in
     let w = c.args.self.now in
     let p = err_from_is_err_and c.from_residual.result c.from_residual.ensures.1 in
     rw (p.1, p.2) (wanting sees frames grants w.memory w.devices.items c.args.dev c.in_err-make_room.field-0.0 c.args.journal.now.entries c.make_room.new.journal.entries m st e c.make_room.ensures.same c.in_err-make_room.ensures.err.0 c.in_err-make_room.ensures.err.1)
 
 pub step-step-requires : goal.step-step-requires
 step-step-requires g c =
-    let sees = sight g.W.Machine.word g.W.Words.frames_of g.W.Words.grants_of g.W.Words.port g.W.Machine.whole g.W.Machine.knows_device g.W.Machine.knows_domain in
+    let sees = seen g.W.Words g.W.Machine in
     let w = c.args.self.now in
     let hands : Hands sees (Dev c.args.dev) w.memory c.turn.new.self = record { turned = c.turn.ensures.turned; words = c.turn.ensures.words; frames = c.turn.ensures.frames; grants = c.turn.ensures.grants; whole = c.turn.ensures.whole; devices = c.turn.ensures.devices; domains = c.turn.ensures.domains } in
     let s = c.requires.standing in
@@ -36,7 +37,7 @@ step-step-requires g c =
 
 pub returns-clause-advanced : goal.returns-clause-advanced
 returns-clause-advanced g c = λ frames grants m st e.
-    let sees = sight g.W.Machine.word g.W.Words.frames_of g.W.Words.grants_of g.W.Words.port g.W.Machine.whole g.W.Machine.knows_device g.W.Machine.knows_domain in
+    let sees = seen g.W.Words g.W.Machine in
     let behaves : Behaves sees g.W.Words.makes = record { frames = g.met.W.Words.keeps_frames; grants = g.met.W.Words.keeps_grants; remembers = g.met.W.Machine.remembers; leaves = g.met.W.Words.leaves; whole = g.met.W.Machine.keeps_whole; devices = g.met.W.Machine.keeps_devices; domains = g.met.W.Machine.keeps_domains } in
     let w = c.args.self.now in
     let hands : Hands sees (Dev c.args.dev) w.memory c.turn.new.self = record { turned = c.turn.ensures.turned; words = c.turn.ensures.words; frames = c.turn.ensures.frames; grants = c.turn.ensures.grants; whole = c.turn.ensures.whole; devices = c.turn.ensures.devices; domains = c.turn.ensures.domains } in

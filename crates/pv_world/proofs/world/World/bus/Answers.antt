@@ -8,7 +8,8 @@ use Rattle.pv_world.specs.declared.world.Placed.{Placed}
 use Rattle.backend_core.specs.Marked.{Entered}
 use Rattle.pv_words.specs.declared.entry.End.TheVariants as end
 use Rattle.backend_core.specs.History.{IsHistory}
-use Rattle.pv_world.specs.World.{Stands, setups, sight}
+use Rattle.pv_world.specs.World.{Stands, setups}
+use Rattle.pv_world.proofs.Seen.{seen}
 use Rattle.pv_world.proofs.Entering.{entered_one, refused_one}
 use Rattle.pv_world.proofs.News.{bus_history, bus_stands}
 use Rattle.backend_core.proofs.Items.{dev_same}
@@ -17,7 +18,7 @@ use Rattle.pv_world.proofs.world.World.bus.Goals as goal
 
 pub returns-in_err-admit-clause-heard : goal.returns-in_err-admit-clause-heard
 returns-in_err-admit-clause-heard g c = λ frames grants m st e.
-    let sees = sight g.W.Machine.word g.W.Words.frames_of g.W.Words.grants_of g.W.Words.port g.W.Machine.whole g.W.Machine.knows_device g.W.Machine.knows_domain in
+    let sees = seen g.W.Words g.W.Machine in
     let w = c.args.self.now in
     let p = err_from_is_err_and c.from_residual.result c.from_residual.ensures.1 in
     let x = declared_found w.devices.items c.args.dev.0 c.requires.declared in
@@ -29,7 +30,7 @@ index_mut-placed-requires g c = let x = c.position-i.ensures in let within = sli
 
 pub returns-clause-heard : goal.returns-clause-heard
 returns-clause-heard g c = λ frames grants m st e.
-    let sees = sight g.W.Machine.word g.W.Words.frames_of g.W.Words.grants_of g.W.Words.port g.W.Machine.whole g.W.Machine.knows_device g.W.Machine.knows_domain in
+    let sees = seen g.W.Words g.W.Machine in
     let w = c.args.self.now in
     let x = c.position-i.ensures in
     let i = c.position-i.result in

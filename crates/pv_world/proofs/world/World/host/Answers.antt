@@ -12,7 +12,8 @@ use Rattle.backend_core.specs.Marked.{own}
 use Rattle.backend_core.proofs.EachKind.{fits_one}
 use Rattle.host_events.specs.Queue.{refusal_in}
 use Rattle.pv_world.specs.Record.{EntersHost}
-use Rattle.pv_world.specs.World.{IsPlaced, Stands, setups, sight}
+use Rattle.pv_world.specs.World.{IsPlaced, Stands, setups}
+use Rattle.pv_world.proofs.Seen.{seen}
 use Rattle.pv_world.proofs.Entering.{refused_one}
 use Rattle.pv_world.proofs.News.{event_history, host_stands, hosted_as}
 use Rattle.backend_core.proofs.Items.{dev_same}
@@ -21,7 +22,7 @@ use Rattle.pv_world.proofs.world.World.host.Goals as goal
 
 pub returns-in_err-admit-clause-hosted : goal.returns-in_err-admit-clause-hosted
 returns-in_err-admit-clause-hosted g c = λ frames grants m st e.
-    let sees = sight g.W.Machine.word g.W.Words.frames_of g.W.Words.grants_of g.W.Words.port g.W.Machine.whole g.W.Machine.knows_device g.W.Machine.knows_domain in
+    let sees = seen g.W.Words g.W.Machine in
     let w = c.args.self.now in
     let p = err_from_is_err_and c.from_residual.result c.from_residual.ensures.1 in
     let x = declared_found w.devices.items c.args.dev.0 c.requires.declared in
@@ -35,7 +36,7 @@ index_mut-requires g c = let x = c.position-i.ensures in let within = slice_get_
 
 pub host-answer-requires : goal.host-answer-requires
 host-answer-requires g c =
-    let sees = sight g.W.Machine.word g.W.Words.frames_of g.W.Words.grants_of g.W.Words.port g.W.Machine.whole g.W.Machine.knows_device g.W.Machine.knows_domain in
+    let sees = seen g.W.Words g.W.Machine in
     let w = c.args.self.now in
     let x = c.position-i.ensures in
     let i = c.position-i.result in
@@ -50,7 +51,7 @@ host-answer-requires g c =
 
 pub returns-clause-hosted : goal.returns-clause-hosted
 returns-clause-hosted g c = λ frames grants m st e.
-    let sees = sight g.W.Machine.word g.W.Words.frames_of g.W.Words.grants_of g.W.Words.port g.W.Machine.whole g.W.Machine.knows_device g.W.Machine.knows_domain in
+    let sees = seen g.W.Words g.W.Machine in
     let w = c.args.self.now in
     let x = c.position-i.ensures in
     let i = c.position-i.result in

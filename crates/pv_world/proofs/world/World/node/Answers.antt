@@ -7,7 +7,8 @@ use Rattle.pv_words.specs.declared.place.DevId.{DevId}
 use Rattle.pv_world.specs.declared.world.Placed.{Placed}
 use Rattle.backend_core.specs.Marked.{Entered}
 use Rattle.backend_core.specs.History.{Belongs}
-use Rattle.pv_world.specs.World.{Stands, setups, sight}
+use Rattle.pv_world.specs.World.{Stands, setups}
+use Rattle.pv_world.proofs.Seen.{seen}
 use Rattle.pv_world.proofs.Entering.{entered_one, refused_one}
 use Rattle.pv_world.proofs.News.{node_history, node_stands}
 use Rattle.pv_world.proofs.Devices.{read_is, setups_set}
@@ -15,7 +16,7 @@ use Rattle.pv_world.proofs.world.World.node.Goals as goal
 
 pub returns-in_err-admit-clause-set : goal.returns-in_err-admit-clause-set
 returns-in_err-admit-clause-set g c = λ frames grants m st e.
-    let sees = sight g.W.Machine.word g.W.Words.frames_of g.W.Words.grants_of g.W.Words.port g.W.Machine.whole g.W.Machine.knows_device g.W.Machine.knows_domain in
+    let sees = seen g.W.Words g.W.Machine in
     let w = c.args.self.now in
     let p = err_from_is_err_and c.from_residual.result c.from_residual.ensures.1 in
     rw (p.1, p.2) (refused_one (Unit {0}) sees frames grants w.memory w.devices.items (Entered (entry.Node c.args.dev c.args.part c.args.key c.args.v)) m c.args.journal.now.entries c.admit.new.journal.entries c.in_err-admit.field-0.0 st e (node_history sees frames grants w.memory w.devices.items m c.args.dev c.args.part c.args.key c.args.v (c.requires.declared, c.requires.part, c.requires.key) st) c.admit.ensures.same c.in_err-admit.ensures.cause)
@@ -25,7 +26,7 @@ index_mut-requires g c = let x = c.position-i.ensures in let within = slice_get_
 
 pub returns-clause-set : goal.returns-clause-set
 returns-clause-set g c = λ frames grants m st e.
-    let sees = sight g.W.Machine.word g.W.Words.frames_of g.W.Words.grants_of g.W.Words.port g.W.Machine.whole g.W.Machine.knows_device g.W.Machine.knows_domain in
+    let sees = seen g.W.Words g.W.Machine in
     let w = c.args.self.now in
     let x = c.position-i.ensures in
     let i = c.position-i.result in

@@ -1,7 +1,7 @@
 use Rattle.std.proofs.Common.{◌<◌, refl, sym, subst, ◌∙◌}
 use Rattle.std.proofs.lemmas.Result.{err_from_is_err_and}
 use Rattle.pv_words.specs.declared.place.Who.TheVariants.{Dom}
-use Rattle.pv_world.specs.World.{sight}
+use Rattle.pv_world.proofs.Seen.{seen}
 use Rattle.pv_world.proofs.Standings.{Behaves, Hands, turned_stands}
 use Rattle.pv_world.specs.Owner.{left_of}
 use Rattle.pv_words.proofs.Keeping.{IsOwning, may_go_on, goes_on_turned, owning_next}
@@ -11,7 +11,7 @@ use Rattle.pv_world.proofs.world.World.own_turn.Goals as goal
 
 pub returns-in_err-admit-clause-owns : goal.returns-in_err-admit-clause-owns
 returns-in_err-admit-clause-owns g c = λ frames grants m st e.
-    let sees = sight g.W.Machine.word g.W.Words.frames_of g.W.Words.grants_of g.W.Words.port g.W.Machine.whole g.W.Machine.knows_device g.W.Machine.knows_domain in
+    let sees = seen g.W.Words g.W.Machine in
     let w = c.args.self.now in
     let p = err_from_is_err_and c.from_residual.result c.from_residual.ensures.1 in
     rw (p.1, p.2) (owns_nothing sees frames grants w.memory w.devices.items c.args.dom c.args.gref (left_of c.args.owning.now) (g.W.Words.port w.memory) c.in_err-admit.field-0.0 m c.args.journal.now.entries c.admit.new.journal.entries c.requires.goes (subst (λ n. c.args.gref.0 < n) (st.grants_are c.args.dom.0) c.requires.range) c.requires.live st e c.admit.ensures.same c.in_err-admit.ensures.cause)
@@ -22,7 +22,7 @@ step-turn-requires-clause-may g c =
 
 pub returns-clause-owns : goal.returns-clause-owns
 returns-clause-owns g c = λ frames grants m st e.
-    let sees = sight g.W.Machine.word g.W.Words.frames_of g.W.Words.grants_of g.W.Words.port g.W.Machine.whole g.W.Machine.knows_device g.W.Machine.knows_domain in
+    let sees = seen g.W.Words g.W.Machine in
     let behaves : Behaves sees g.W.Words.makes = record { frames = g.met.W.Words.keeps_frames; grants = g.met.W.Words.keeps_grants; remembers = g.met.W.Machine.remembers; leaves = g.met.W.Words.leaves; whole = g.met.W.Machine.keeps_whole; devices = g.met.W.Machine.keeps_devices; domains = g.met.W.Machine.keeps_domains } in
     let w = c.args.self.now in
     let hands : Hands sees (Dom c.args.dom) w.memory c.turn.new.self = record { turned = c.turn.ensures.turned; words = c.turn.ensures.words; frames = c.turn.ensures.frames; grants = c.turn.ensures.grants; whole = c.turn.ensures.whole; devices = c.turn.ensures.devices; domains = c.turn.ensures.domains } in

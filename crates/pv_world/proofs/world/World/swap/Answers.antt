@@ -8,7 +8,8 @@ use Rattle.pv_words.proofs.Listing.{port_may_own, owns_swap, unkept_turned}
 use Rattle.backend_core.specs.Marked.{Entered, entries}
 use Rattle.pv_words.specs.Memory.{memory_after}
 use Rattle.pv_words.specs.declared.entry.Entry.{Entry}
-use Rattle.pv_world.specs.World.{Enters, Stands, front_swap, sight}
+use Rattle.pv_world.specs.World.{Enters, Stands, front_swap}
+use Rattle.pv_world.proofs.Seen.{seen}
 use Rattle.backend_core.proofs.Histories.{in_range_from}
 use Rattle.pv_world.proofs.Standings.{Behaves, Hands, front_history, front_stands, turned_stands}
 use Rattle.std.proofs.lemmas.Result.{err_from_is_err_and}
@@ -18,7 +19,7 @@ use Rattle.pv_world.proofs.world.World.swap.Goals as goal
 
 pub returns-in_err-admit-clause-exchanged : goal.returns-in_err-admit-clause-exchanged
 returns-in_err-admit-clause-exchanged g c = λ frames grants m st e.
-    let sees = sight g.W.Machine.word g.W.Words.frames_of g.W.Words.grants_of g.W.Words.port g.W.Machine.whole g.W.Machine.knows_device g.W.Machine.knows_domain in
+    let sees = seen g.W.Words g.W.Machine in
     let w = c.args.self.now in
     let p = err_from_is_err_and c.from_residual.result c.from_residual.ensures.1 in
     let range = in_range_from (g.W.Words.frames_of w.memory) frames (g.W.Words.grants_of w.memory) grants st.frames_are st.grants_are c.args.place c.requires.range in
@@ -34,7 +35,7 @@ swap_if-seen-requires g c =
 
 pub returns-clause-exchanged : goal.returns-clause-exchanged
 returns-clause-exchanged g c = λ frames grants m st e.
-    let sees = sight g.W.Machine.word g.W.Words.frames_of g.W.Words.grants_of g.W.Words.port g.W.Machine.whole g.W.Machine.knows_device g.W.Machine.knows_domain in
+    let sees = seen g.W.Words g.W.Machine in
     let behaves : Behaves sees g.W.Words.makes = record { frames = g.met.W.Words.keeps_frames; grants = g.met.W.Words.keeps_grants; remembers = g.met.W.Machine.remembers; leaves = g.met.W.Words.leaves; whole = g.met.W.Machine.keeps_whole; devices = g.met.W.Machine.keeps_devices; domains = g.met.W.Machine.keeps_domains } in
     let w = c.args.self.now in
     let hands : Hands sees (Dom c.domain-dom.result) w.memory c.turn.new.self = record { turned = c.turn.ensures.turned; words = c.turn.ensures.words; frames = c.turn.ensures.frames; grants = c.turn.ensures.grants; whole = c.turn.ensures.whole; devices = c.turn.ensures.devices; domains = c.turn.ensures.domains } in

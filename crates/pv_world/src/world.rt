@@ -39,11 +39,15 @@ pub struct World<W> {
 }
 
 // Makes room for so many further entries, as far as the journal may have them. It fails below the journal's limit alone.
+#[inline(always)]
 fn make_room(journal: &mut Journal, n: u32) -> Result<(), Stop>
     ensures same { journal.new.entries ≡ journal.old.entries }
     ensures ok { OnOk result (HasRoom n journal.new) }
     ensures err { IfErr result (λ why. (why ≡ stop.OutOfMemory) × (length journal.new.entries < JOURNAL_LIMIT)) }
 {
+    if journal.spare() >= n {
+        return Ok(());
+    }
     let wanted = n.min(JOURNAL_LIMIT - journal.len());
     if journal.spare() < wanted && journal.reserve(wanted).is_err() {
         return Err(Stop::OutOfMemory);
@@ -231,6 +235,7 @@ impl<W: Machine> World<W> {
 
     /// A domain stores a word, but none of a grant entry that the memory keeps. Where the entry finds no room, nothing
     /// changes.
+    #[inline(always)]
     pub fn put(&mut self, place: Place, v: u32, journal: &mut Journal) -> Result<(), Stop>
         requires standing { StandingAt (sight_of W.Machine) self.old journal.old.entries }
         requires range { InRange (W.frames_of (memory_of self.old)) (W.grants_of (memory_of self.old)) place }

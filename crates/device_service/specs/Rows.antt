@@ -21,7 +21,7 @@ use Rattle.device_core.specs.Site.{Site}
 use Rattle.device_core.specs.Touched.{Touch}
 use Rattle.device_service.specs.Nodes.{Kind, IsAskedFor, needs_of}
 pub use Rattle.device_service.specs.declared.round.Hand.{Hand}
-use Rattle.device_service.specs.Raise.{limit, slots}
+use Rattle.link_core.specs.Raise.{limit, slots}
 
 -- the request of these words, by this part
 abbrev pub hand_in : ℕ → List ℕ → Hand

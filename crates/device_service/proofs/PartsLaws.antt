@@ -181,6 +181,7 @@ doing_told frames grants nodes held now kind parts dom ringed doing.Bare ls w c 
 doing_told frames grants nodes held now kind parts dom ringed doing.Open ls w c f = absurd (false≢true c)
 doing_told frames grants nodes held now kind parts dom ringed (doing.Taking part) ls w c f = absurd (false≢true c)
 doing_told frames grants nodes held now kind parts dom ringed (doing.Answering part) ls w c f = absurd (false≢true c)
+doing_told frames grants nodes held now kind parts dom ringed (doing.Raising part) ls w c f = absurd (false≢true c)
 doing_told frames grants nodes held now kind parts dom ringed (doing.Sleeping part) ls w c f = absurd (false≢true c)
 doing_told frames grants nodes held now kind parts dom ringed doing.Dropping ls w c f = absurd (false≢true c)
 

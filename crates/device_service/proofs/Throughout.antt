@@ -57,6 +57,7 @@ open_asleep (doing.Undoing why) e = let wrong : ⊥ = cc in absurd wrong
 open_asleep doing.Open e = let wrong : ⊥ = cc in absurd wrong
 open_asleep (doing.Taking part) e = let wrong : ⊥ = cc in absurd wrong
 open_asleep (doing.Answering part) e = let wrong : ⊥ = cc in absurd wrong
+open_asleep (doing.Raising part) e = let wrong : ⊥ = cc in absurd wrong
 open_asleep doing.Dropping e = let wrong : ⊥ = cc in absurd wrong
 
 module _ {X A V Y M : Type 0} (D : Lawful X A V Y M) (w : Work X V) (k : Carried Learned) where

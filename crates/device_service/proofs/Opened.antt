@@ -8,11 +8,12 @@ use Rattle.link_core.specs.Activities.{Joined, Page, answer_plan, hold_list, loo
 use Rattle.link_core.specs.declared.link.Put.{Put}
 use Rattle.link_core.specs.declared.link.Put.TheVariants as put
 use Rattle.link_core.specs.Link.{Leads, answered_of, held_of, idle, joined_of, page_of, raised_of, rsp_of, raised_if as link_raised}
+use Rattle.link_core.proofs.Raises.{begins_raise}
 use Rattle.link_core.proofs.Links.{rsp_joined, whole_answer, whole_take}
 use Rattle.device_service.specs.declared.parts.Doing.{Doing}
 use Rattle.device_service.specs.Doing.{is_open}
 use Rattle.device_service.specs.Nodes.{Ringed}
-use Rattle.device_service.specs.Parts.{answer_from, answer_of, answered_if, joined_in, kind_in, look_of, raised_if, take_from, take_of}
+use Rattle.device_service.specs.Parts.{answer_from, answer_of, answered_if, joined_in, kind_in, look_of, raise_from, raise_of, raised_if, take_from, take_of}
 use Rattle.device_service.specs.Work.{counted, with_event}
 use Rattle.device_service.proofs.Held.{page_shown}
 use Rattle.device_service.proofs.Lists.{get_map, get_set, map_set, map_set_same, within}
@@ -104,6 +105,11 @@ pub leads_at : {A : Type 0} (from : Option Link → Plan A) (ls : List Link) (k 
 leads_at from ls k l new access end g t =
     subst (λ (x : Option Link). Leads (from x) access end (from (slice_get (slice_set ls k new) k))) (sym g)
     (subst (λ (x : Option Link). Leads (from (Some l)) access end (from x)) (sym (get_set ls k new (within ls k l g))) t)
+
+pub raises_is : (d : Doing) (ls : List Link) (k : ℕ) (l : Link) (words : List ℕ) → is_open d ≡ true → slice_get ls k ≡ Some l → idle l ≡ true → raise_of words (slice_get (joined_in (is_open d) ls) k) ≡ raise_from words (slice_get ls k)
+raises_is d ls k l words o g rest =
+    ap (raise_of words) (ap (λ b. slice_get (joined_in b ls) k) o ∙ get_map joined_of ls k l g)
+    ∙ (sym (begins_raise l words rest) ∙ ap (raise_from words) (sym g))
 
 -- one that is Done counts an event more
 pub pages_raised : (o : Option Put) (old new : Link) → joined_of new ≡ link_raised o (joined_of old) → pages_of (joined_of new) ≡ pages_of (joined_of old)

@@ -64,6 +64,7 @@ keeps_laws frames grants dom parts =
       raises_shows = λ x e part m q has i n. absurd (none_raised x e part i);
       put_told = λ x e part m told q has i n. absurd (none_raised x e part i);
       full_told = λ x e part m told q has i n. absurd (none_raised x e part i);
+      full_ends = λ x o q owes. refl;
       meets_plain = λ x want note u. u;
       meets = λ x m want note q n u. meets x m want note u;
     }

@@ -210,6 +210,8 @@ pub record Laws {X A V Y M : Type 0} (s : Service X A V) (t : Table Y V) (r : Sh
   pub full_told :
       (x : X) (e : Option V) (part : ℕ) (m : M) (told : Evidence) → known.Sane x → known.Has false x → IsRaise s x e part
       → known.Named x m → IsTold t site e (r.rows x m) told (said.Full part) (r.rows (s.after_full x e) m)
+  -- one that is owed and finds no room is owed no longer, so that the order of work goes on
+  pub full_ends : (x : X) (o : Owed) → known.Sane x → s.owes x ≡ Some o → s.owes (s.after_full x None) ≡ None
   -- 11. words of names: what touches none may be done, and what touches one is a word of a live name
   pub meets_plain : (x : X) (want : Want) (note : Note) → IsUntouched note → known.Meets x want note
   pub meets :

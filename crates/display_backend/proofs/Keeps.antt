@@ -500,6 +500,7 @@ module _ (frames grants : ℕ → ℕ) (dom parts : ℕ) where
         raises_shows = λ x e part m s h i named. absurd (no_raise x e part i);
         put_told = λ x e part m told s h i named. absurd (no_raise x e part i);
         full_told = λ x e part m told s h i named. absurd (no_raise x e part i);
+        full_ends = λ x o s owes. refl;
         meets_plain = λ x want note u. u;
         meets = λ x m want note s named u. meets x m want note u;
       }

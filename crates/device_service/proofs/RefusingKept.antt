@@ -1,5 +1,5 @@
 -- The least service keeps its laws.
-use Rattle.std.proofs.Common.{◌≡◌, ℕ, ◌≤◌, length, Option, Some, None, is_some, refl, ap}
+use Rattle.std.proofs.Common.{ℕ, ◌≤◌, length, Option, Some, None, is_some, refl, ap}
 use Rattle.std.proofs.lemmas.Bool.{true≢false, false≢true}
 use Rattle.std.proofs.Math.Nat.{le-add_left}
 use Rattle.pv_words.specs.Plan.{Want, Note, Plain, Begins, Frames, Undoes, Ends, Takes, Puts, IsUntouched}

@@ -265,6 +265,7 @@ impl Parts {
     /// The one access of a Look at this part's ring.
     pub fn look_step<W: Words>(&mut self, words: &mut W, part: u8) -> Turn<Looked>
         requires opened { IsOpen part self.old }
+        requires rests { doing_of self.old ≡ doing.Open }
         requires ringed { kind_of self.old ≡ Ringed }
         requires may { MayGo (W.may words.old) (look_of (slice_get (joined_of self.old) part)) }
         ensures turns { (new : Plan Looked) → Turns (look_of (slice_get (joined_of self.old) part)) result.access result.done new }

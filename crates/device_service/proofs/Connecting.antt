@@ -59,6 +59,7 @@ connects_apart (doing.Undoing why) e = refl
 connects_apart doing.Open e = absurd (false≢true e)
 connects_apart (doing.Taking part) e = absurd (false≢true e)
 connects_apart (doing.Answering part) e = absurd (false≢true e)
+connects_apart (doing.Raising part) e = absurd (false≢true e)
 connects_apart (doing.Sleeping part) e = absurd (false≢true e)
 connects_apart doing.Dropping e = refl
 

@@ -249,5 +249,6 @@ never_connects (doing.Undoing why) c n m = m why refl
 never_connects doing.Open c n m = false≢true c
 never_connects (doing.Taking part) c n m = false≢true c
 never_connects (doing.Answering part) c n m = false≢true c
+never_connects (doing.Raising part) c n m = false≢true c
 never_connects (doing.Sleeping part) c n m = false≢true c
 never_connects doing.Dropping c n m = false≢true c

@@ -5,13 +5,16 @@ use Rattle.pv_words.specs.declared.grant.Hold.{Hold}
 use Rattle.pv_words.specs.Plan.{MayGo, Plan, Turns, Want}
 use Rattle.link_core.specs.declared.link.Link.{Link}
 use Rattle.link_core.specs.Activities.{Joined, Page, answer_plan, hold_list, look_plan, pages_of, take_plan}
-use Rattle.link_core.specs.Link.{answered_of, held_of, idle, joined_of, page_of, rsp_of}
+use Rattle.link_core.specs.declared.link.Put.{Put}
+use Rattle.link_core.specs.declared.link.Put.TheVariants as put
+use Rattle.link_core.specs.Link.{Leads, answered_of, held_of, idle, joined_of, page_of, raised_of, rsp_of, raised_if as link_raised}
+use Rattle.link_core.proofs.Raises.{begins_raise}
 use Rattle.link_core.proofs.Links.{rsp_joined, whole_answer, whole_take}
 use Rattle.device_service.specs.declared.parts.Doing.{Doing}
 use Rattle.device_service.specs.Doing.{is_open}
 use Rattle.device_service.specs.Nodes.{Ringed}
-use Rattle.device_service.specs.Parts.{answer_from, answer_of, answered_if, joined_in, kind_in, look_of, take_from, take_of}
-use Rattle.device_service.specs.Work.{counted}
+use Rattle.device_service.specs.Parts.{answer_from, answer_of, answered_if, joined_in, kind_in, look_of, raise_from, raise_of, raised_if, take_from, take_of}
+use Rattle.device_service.specs.Work.{counted, with_event}
 use Rattle.device_service.proofs.Held.{page_shown}
 use Rattle.device_service.proofs.Lists.{get_map, get_set, map_set, map_set_same, within}
 
@@ -96,3 +99,34 @@ module _ {A : Type 0} where
       ap (λ y. joined_in y (slice_set ls k new)) q
       ∙ (map_set joined_of ls k new
       ∙ (ap (slice_set (map joined_of ls) k) e ∙ (sym is ∙ ap (λ y. answered_if (Some x) k (joined_in y ls)) (sym p))))
+
+-- a step of a Raise at a part is one at its link
+pub leads_at : {A : Type 0} (from : Option Link → Plan A) (ls : List Link) (k : ℕ) (l new : Link) (access : Option Access) (end : Option A) → slice_get ls k ≡ Some l → Leads (from (Some l)) access end (from (Some new)) → Leads (from (slice_get ls k)) access end (from (slice_get (slice_set ls k new) k))
+leads_at from ls k l new access end g t =
+    subst (λ (x : Option Link). Leads (from x) access end (from (slice_get (slice_set ls k new) k))) (sym g)
+    (subst (λ (x : Option Link). Leads (from (Some l)) access end (from x)) (sym (get_set ls k new (within ls k l g))) t)
+
+pub raises_is : (d : Doing) (ls : List Link) (k : ℕ) (l : Link) (words : List ℕ) → is_open d ≡ true → slice_get ls k ≡ Some l → idle l ≡ true → raise_of words (slice_get (joined_in (is_open d) ls) k) ≡ raise_from words (slice_get ls k)
+raises_is d ls k l words o g rest =
+    ap (raise_of words) (ap (λ b. slice_get (joined_in b ls) k) o ∙ get_map joined_of ls k l g)
+    ∙ (sym (begins_raise l words rest) ∙ ap (raise_from words) (sym g))
+
+-- one that is Done counts an event more
+pub pages_raised : (o : Option Put) (old new : Link) → joined_of new ≡ link_raised o (joined_of old) → pages_of (joined_of new) ≡ pages_of (joined_of old)
+pages_raised None old new e = ap pages_of e
+pages_raised (Some put.Done) old new e = ap pages_of e
+pages_raised (Some put.Full) old new e = ap pages_of e
+pages_raised (Some (put.BadCons prod cons)) old new e = ap pages_of e
+pages_raised (Some (put.Spent prod)) old new e = ap pages_of e
+
+pub raised_set : (o : Option Put) (b c : Bool) (ls : List Link) (k : ℕ) (old new : Link) → b ≡ true → c ≡ true → slice_get ls k ≡ Some old → joined_of new ≡ link_raised o (joined_of old) → joined_in c (slice_set ls k new) ≡ raised_if o k (joined_in b ls)
+raised_set None b c ls k old new p q g e = joined_set b c ls k old new p q g e
+raised_set (Some put.Full) b c ls k old new p q g e = joined_set b c ls k old new p q g e
+raised_set (Some (put.BadCons prod cons)) b c ls k old new p q g e = joined_set b c ls k old new p q g e
+raised_set (Some (put.Spent prod)) b c ls k old new p q g e = joined_set b c ls k old new p q g e
+raised_set (Some put.Done) b c ls k old new p q g e =
+    let is : raised_if (Some put.Done) k (map joined_of ls) ≡ slice_set (map joined_of ls) k (raised_of (joined_of old)) =
+    ap (with_event (map joined_of ls) k) (get_map joined_of ls k old g) in
+    ap (λ y. joined_in y (slice_set ls k new)) q
+    ∙ (map_set joined_of ls k new
+    ∙ (ap (slice_set (map joined_of ls) k) e ∙ (sym is ∙ ap (λ y. raised_if (Some put.Done) k (joined_in y ls)) (sym p))))

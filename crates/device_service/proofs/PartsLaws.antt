@@ -24,12 +24,12 @@ use Rattle.device_service.specs.declared.parts.Parts.{Parts}
 use Rattle.device_service.specs.Doing.{Whole, all_held, busy_in, is_open}
 use Rattle.device_service.specs.Claims.{site_of}
 use Rattle.device_service.specs.Nodes.{Kind, Ringed, Refs, refs_at, refs_from}
-use Rattle.device_service.specs.Parts.{answer_left, answer_of, connect_from, connect_in, connect_left, connects, count_of, doing_of, dom_of, held_of, joined_in, joined_of, kept_by, kind_of, later, met_links, site_in, sleep_left, sleeping, slept_to, take_left, take_of}
+use Rattle.device_service.specs.Parts.{answer_left, answer_of, connect_from, connect_in, connect_left, connects, count_of, doing_of, dom_of, held_of, joined_in, joined_of, kept_by, kind_of, later, met_links, raise_left, raise_of, site_in, sleep_left, sleeping, slept_to, take_left, take_of}
 use Rattle.device_service.specs.Work.{all_pages, after_part, connect_parts, sleep_all}
 use Rattle.device_service.proofs.Connects.{Ending}
 use Rattle.device_service.proofs.Held.{bare_held, held_so_far, joined_held, nil_of}
 use Rattle.device_service.proofs.Lists.{got}
-use Rattle.device_service.proofs.Opened.{answers_is, rung_by, takes_is}
+use Rattle.device_service.proofs.Opened.{answers_is, raises_is, rung_by, takes_is}
 use Rattle.device_service.proofs.Sleeps.{sleeping_at}
 use Rattle.device_service.proofs.SoundParts.{pages_last}
 use Rattle.device_service.proofs.Wholes.{all_idle, all_met, bare_rest, connecting_fits, connecting_in}
@@ -64,6 +64,18 @@ module _ (p : Parts) (rests : doing_of p ≡ doing.Open) (rung : kind_of p ≡ R
       let l = link_at 0 p.whole.some in
       ap (λ d. sleeping (slept_to d) ls) rests
       ∙ (sleeping_at ls 0 l.0 l.1 l.3 l.2 ∙ ap (λ b. sleep_all (joined_in b ls)) (sym (ap is_open rests)))
+
+-- and where a Raise begins, also at a part without a ring
+module _ (p : Parts) (rests : doing_of p ≡ doing.Open) where
+  pub raise_begins : (part : ℕ) (words : List ℕ) → part < count_of p → raise_left part words p ≡ raise_of words (slice_get (joined_of p) part)
+  unfolding count_of doing_of joined_of raise_left
+  raise_begins part words lt =
+      let ls = p.links.items in
+      let n = length ls in
+      let g = got ls part lt in
+      let opened = ap is_open rests in
+      let idle = all_idle p.dom.0 p.ringed p.doing ls p.whole opened n (inl (ap (λ d. busy_in d n) rests)) part g.0 g.1 (λ e. absurd (omega (arith, e, lt))) in
+      sym (raises_is p.doing ls part g.0 words opened g.1 idle)
 
 -- what they are joined to, and hold
 length_map : (ls : List Link) → length (map link.joined_of ls) ≡ length ls
@@ -181,6 +193,7 @@ doing_told frames grants nodes held now kind parts dom ringed doing.Bare ls w c 
 doing_told frames grants nodes held now kind parts dom ringed doing.Open ls w c f = absurd (false≢true c)
 doing_told frames grants nodes held now kind parts dom ringed (doing.Taking part) ls w c f = absurd (false≢true c)
 doing_told frames grants nodes held now kind parts dom ringed (doing.Answering part) ls w c f = absurd (false≢true c)
+doing_told frames grants nodes held now kind parts dom ringed (doing.Raising part) ls w c f = absurd (false≢true c)
 doing_told frames grants nodes held now kind parts dom ringed (doing.Sleeping part) ls w c f = absurd (false≢true c)
 doing_told frames grants nodes held now kind parts dom ringed doing.Dropping ls w c f = absurd (false≢true c)
 

@@ -1,5 +1,5 @@
 -- The least service keeps its laws.
-use Rattle.std.proofs.Common.{◌≡◌, ℕ, ◌≤◌, length, Option, Some, None, is_some, refl, ap}
+use Rattle.std.proofs.Common.{ℕ, ◌≤◌, length, Option, Some, None, is_some, refl, ap}
 use Rattle.std.proofs.lemmas.Bool.{true≢false, false≢true}
 use Rattle.std.proofs.Math.Nat.{le-add_left}
 use Rattle.pv_words.specs.Plan.{Want, Note, Plain, Begins, Frames, Undoes, Ends, Takes, Puts, IsUntouched}
@@ -40,9 +40,9 @@ keeps_laws frames grants dom parts =
       drops = λ x q. (tt, refl);
       drops_shows = λ x m n. (tt, refl, refl);
       bare = λ x m n e. refl;
-      takes = λ x words q has. (tt, refl);
-      takes_pages = λ x words. refl;
-      takes_shows = λ x words m n. (tt, refl, refl);
+      takes = λ x part words q has. (tt, refl);
+      takes_pages = λ x part words. refl;
+      takes_shows = λ x part words m n. (tt, refl, refl);
       begins = λ x y p q has apart leads. absurd (true≢false apart);
       begins_shows = λ x y p m q has apart leads n. absurd (true≢false apart);
       begins_names = λ x y p m sight q has apart leads n. absurd (true≢false apart);
@@ -64,6 +64,7 @@ keeps_laws frames grants dom parts =
       raises_shows = λ x e part m q has i n. absurd (none_raised x e part i);
       put_told = λ x e part m told q has i n. absurd (none_raised x e part i);
       full_told = λ x e part m told q has i n. absurd (none_raised x e part i);
+      full_ends = λ x o q owes. refl;
       meets_plain = λ x want note u. u;
       meets = λ x m want note q n u. meets x m want note u;
     }

@@ -11,7 +11,7 @@ use Rattle.device_core.specs.Order.{Rest}
 use Rattle.device_core.specs.Site.{Site}
 use Rattle.device_service.specs.Claims.{RestsAsleep}
 use Rattle.device_service.specs.Nodes.{Kind, Ringed, Ringless}
-use Rattle.device_service.specs.Raise.{limit}
+use Rattle.link_core.specs.Raise.{limit}
 use Rattle.device_service.specs.Rows.{Hand}
 use Rattle.device_service.specs.Service.{Service, Job, Works, Starves, Owed, Deed, Runs, Raises}
 use Rattle.device_service.specs.Work.{Work, Round, Looks, Sleeps, Idles, raises_if, does_event, pays, with_owed, looks_at, in_round, takes_from, with_left, with_rings, does, decides, decides_by, part_of, serves_by, with_waiting, with_hand, with_state, with_action, with_kept, with_closing, choice}

@@ -89,6 +89,7 @@ pub rings_asleep : (d : Doing) → is_asleep d ≡ true → uses_ring d ≡ true
 rings_asleep (doing.Sleeping part) e = refl
 rings_asleep (doing.Taking part) e = refl
 rings_asleep (doing.Answering part) e = refl
+rings_asleep (doing.Raising part) e = absurd (false≢true e)
 rings_asleep doing.Bare e = absurd (false≢true e)
 rings_asleep (doing.Connecting part) e = absurd (false≢true e)
 rings_asleep (doing.Undoing why) e = absurd (false≢true e)

@@ -22,6 +22,7 @@ none_slept (doing.Undoing why) n = refl
 none_slept doing.Open n = refl
 none_slept (doing.Taking part) n = refl
 none_slept (doing.Answering part) n = refl
+none_slept (doing.Raising part) n = refl
 none_slept (doing.Sleeping part) n = absurd (n part refl)
 none_slept doing.Dropping n = refl
 

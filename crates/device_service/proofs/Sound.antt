@@ -21,7 +21,7 @@ use Rattle.device_core.proofs.MachineRun.{IsGood}
 use Rattle.device_service.specs.Laws.{IsTouching}
 use Rattle.xenbus_states.specs.Needs.{first_fault}
 use Rattle.device_service.specs.Nodes.{Kind, needs_of, refs_from}
-use Rattle.device_service.specs.Raise.{limit}
+use Rattle.link_core.specs.Raise.{limit}
 use Rattle.device_service.specs.Reading.{Naming, begins_by, begins_of, begins_owed, begins_pays, begins_state, begins_with, first_naming}
 use Rattle.device_service.specs.Service.{Owed}
 use Rattle.device_service.specs.Work.{Work, End, Left, Renewed, all_pages, beginning, choice, connect_all, device, entered, first_work, pays, settled, told, with_action, with_closing, with_kept, with_owed, with_state}

@@ -5,7 +5,9 @@ use Rattle.pv_words.specs.Held.{Holds, IsProper, holding, holds_of}
 use Rattle.pv_words.specs.Plan.{Plan, Finished}
 use Rattle.ring_words.specs.declared.Looked.{Looked}
 use Rattle.ring_words.specs.Ring.{next_index, looked_of, slot_of, since}
-use Rattle.device_service.specs.Raise.{Put, Stored, Full, BadCons, slots, event_place, publish_plan, raise_plan}
+use Rattle.link_core.specs.declared.link.Put.{Put}
+use Rattle.link_core.specs.declared.link.Put.TheVariants as put
+use Rattle.link_core.specs.Raise.{slots, event_place, publish_event, put_plan}
 use Rattle.std.proofs.lemmas.Bool.Decides.{nat_tests}
 use Rattle.link_core.specs.Activities.{Joined, page_at, stores, slot_place, pages_of, hold_list, look_plan, take_plan, answer_plan}
 use Rattle.link_core.specs.Activities as link
@@ -99,15 +101,15 @@ module _ (frames grants : ℕ → ℕ) (dom : ℕ) (held : List Hold) where
 
   -- an event is raised
   module _ (event : Hold) (own : IsOwn frames grants dom event) (at : IsIn event held) where
-    raises_so : (Q : Holds → Put → Type 0) (prod cons n : ℕ) (words : List ℕ) (full bad : Bool) → length words ≤ 16 → Q (holds_of held) Stored → Q (holds_of held) Full → (bad ≡ true → Q (holds_of held) (BadCons prod cons)) → Fit frames grants dom Q (holds_of held) (cond bad (Finished (BadCons prod cons)) (cond full (Finished Full) (stores (event_place (page_at event) prod) (publish_plan (page_at event) prod) 0 words)))
+    raises_so : (Q : Holds → Put → Type 0) (prod cons n : ℕ) (words : List ℕ) (full bad : Bool) → length words ≤ 16 → Q (holds_of held) put.Done → Q (holds_of held) put.Full → (bad ≡ true → Q (holds_of held) (put.BadCons prod cons)) → Fit frames grants dom Q (holds_of held) (cond bad (Finished (put.BadCons prod cons)) (cond full (Finished put.Full) (stores (event_place (page_at event) prod) (publish_event (page_at event) prod) 0 words)))
     raises_so Q prod cons n words full true short a b c = c refl
     raises_so Q prod cons n words true false short a b c = b
     raises_so Q prod cons n words false false short a b c =
-        fits_stores (IsProper frames grants dom) (holding frames) Q (holds_of held) (event_place (page_at event) prod) (publish_plan (page_at event) prod) 16
+        fits_stores (IsProper frames grants dom) (holding frames) Q (holds_of held) (event_place (page_at event) prod) (publish_event (page_at event) prod) 16
         (λ i v small. may_store frames grants dom event held (16 + 16 * (prod % slots) + i) v own at (omega arith))
         (λ i v. refl) (may_store frames grants dom event held 1 (next_index prod) own at (omega arith), λ v. a) 0 words (omega (arith, short))
 
-    pub fits_raise : (Q : Holds → Put → Type 0) (prod : ℕ) (words : List ℕ) → length words ≤ 16 → Q (holds_of held) Stored → Q (holds_of held) Full → ((cons : ℕ) → slots < since cons prod → Q (holds_of held) (BadCons prod cons)) → Fit frames grants dom Q (holds_of held) (raise_plan (page_at event) prod words)
+    pub fits_raise : (Q : Holds → Put → Type 0) (prod : ℕ) (words : List ℕ) → length words ≤ 16 → Q (holds_of held) put.Done → Q (holds_of held) put.Full → ((cons : ℕ) → slots < since cons prod → Q (holds_of held) (put.BadCons prod cons)) → Fit frames grants dom Q (holds_of held) (put_plan (page_at event) prod words)
     fits_raise Q prod words short a b c =
         (may_load frames grants dom event held 0 own at (omega arith), λ cons. raises_so Q prod cons (since cons prod) words (since cons prod == slots) (nat_lt slots (since cons prod)) short a b (λ h. c cons (grind (arith, nat_tests, h))))
 

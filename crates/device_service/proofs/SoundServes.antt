@@ -23,7 +23,9 @@ use Rattle.device_core.specs.Order.{Offers}
 use Rattle.device_core.specs.Touched.{Carried, carrying}
 use Rattle.device_service.specs.Laws.{AreHeld, Leads, WantsFor}
 use Rattle.device_service.specs.Nodes.{Kind, Ringed, Ringless}
-use Rattle.device_service.specs.Raise.{Put, Stored, Full, BadCons, raise_plan, limit}
+use Rattle.link_core.specs.declared.link.Put.{Put}
+use Rattle.link_core.specs.declared.link.Put.TheVariants as put
+use Rattle.link_core.specs.Raise.{put_plan, limit}
 use Rattle.device_service.specs.Reading.{all_gone, rows_of, begins_event, begins_part, begins_raise, begins_ready, begins_serve, begins_waiting, begins_hand}
 use Rattle.device_service.specs.Rows.{Hand, Rows}
 use Rattle.device_service.specs.Service.{Job, Works, Starves, Deed, Runs, Raises}
@@ -52,11 +54,12 @@ module _ {X A V Y M : Type 0} (D : Lawful X A V Y M) where
 
   -- the pages after a Raise are the same
   raise_pages : (w : Work X V) (part : ℕ) (e : Option V) (p : Put) → IsSane D w → IsRaising D w part e → held_pages s (after_raise s w part e p) ≡ held_pages s w
-  raise_pages w part e Stored q i =
+  raise_pages w part e put.Done q i =
       let k = (l.raises w.service e part q.sane i.has i.raise).0 in
       ap (λ hs. hs ++ all_pages (with_event w.parts part (slice_get w.parts part))) k.2 ∙ ap (λ hs. s.pages w.service ++ hs) (evented_pages w.parts part (slice_get w.parts part) refl)
-  raise_pages w part e Full q i = ap (λ hs. hs ++ all_pages w.parts) (l.raises w.service e part q.sane i.has i.raise).1.2
-  raise_pages w part e (BadCons prod cons) q i = refl
+  raise_pages w part e put.Full q i = ap (λ hs. hs ++ all_pages w.parts) (l.raises w.service e part q.sane i.has i.raise).1.2
+  raise_pages w part e (put.BadCons prod cons) q i = refl
+  raise_pages w part e (put.Spent prod) q i = refl
 
   module _ (w v : Work X V) (p : Plan (End A V)) (q : IsSane D w) (none : w.kept ≡ None) where
     begins_look : (k : ℕ) (x : Option Joined) → IsServing w → slice_get w.parts k ≡ x → Offers (looks_at s w x) v p → BeginsSo D w v p (λ n. [])
@@ -97,7 +100,7 @@ module _ {X A V Y M : Type 0} (D : Lawful X A V Y M) where
         let plan = take_plan (ring_page j) j.rsp in
         let fits = λ (c : Carried Learned) (e : Tells s w c). mapped_fits D w c (λ x. Took x) plan e.0.0
         (fits_take frames grants dom c.own.holds.held j (ring_own D w w.at j q at) (ring_held D w w.at j c.own.holds e.0 at) (λ x words. EndsSo D w x (Took words))
-        (λ words. ((refl, subst (λ y. AreSame c.own.holds.held (y ++ all_pages w.parts)) (sym (l.takes_pages w.service words)) e.0.1), (serving, empty, small, has_none w.at j empty at))))
+        (λ words. ((refl, subst (λ y. AreSame c.own.holds.held (y ++ all_pages w.parts)) (sym (l.takes_pages w.service w.at words)) e.0.1), (serving, empty, small, has_none w.at j empty at))))
         (found_any (λ f words. EndsFoundSo D w f (Took words)) (λ f words. ((λ why h. absurd (no_reason w.kept why none h)), λ ts. tt)) c.own.found plan (take_none (ring_page j) j.rsp)) in
         chosen D w v w p (mapped (λ x. Took x) plan) (λ n. []) (same_work D w v p q (mapped (λ x. Took x) plan) fits) o
 
@@ -167,12 +170,12 @@ module _ {X A V Y M : Type 0} (D : Lawful X A V Y M) where
     pub begins_raising : (e : Option V) (part : ℕ) (words : ℕ → List ℕ) (j : Joined) (b : Bool) → IsRaising D w part e → slice_get w.parts part ≡ Some j → ((n : ℕ) → length (words n) ≤ 16) → nat_lt j.prod limit ≡ b → Offers (raises_if s w e part words j b) v p → BeginsSo D w v p (λ n. begins_raise s t r w n b)
     unfolding settled
     begins_raising e part words j true i at short is o =
-        let plan = raise_plan (link.page_at j.event) j.prod (words j.prod) in
+        let plan = put_plan (link.page_at j.event) j.prod (words j.prod) in
         let own = own_in frames grants dom j.event (all_pages w.parts) q.own (event_in w.parts part j at) in
         let fits = λ (c : Carried Learned) (x : Tells s w c). mapped_fits D w c (λ y. Raised part e y) plan x.0.0
         (fits_raise frames grants dom c.own.holds.held j.event own (page_held D w c.own.holds j.event x.0 (event_in w.parts part j at)) (λ z y. EndsSo D w z (Raised part e y)) j.prod (words j.prod) (short j.prod)
-        ((refl, subst (λ y. AreSame c.own.holds.held y) (sym (raise_pages w part e Stored q i)) x.0.1), (i, tt))
-        ((refl, subst (λ y. AreSame c.own.holds.held y) (sym (raise_pages w part e Full q i)) x.0.1), (i, tt))
+        ((refl, subst (λ y. AreSame c.own.holds.held y) (sym (raise_pages w part e put.Done q i)) x.0.1), (i, tt))
+        ((refl, subst (λ y. AreSame c.own.holds.held y) (sym (raise_pages w part e put.Full q i)) x.0.1), (i, tt))
         (λ cons bad. ((refl, x.0.1), (i, bad))))
         (raise_shows (λ f y. EndsFoundSo D w f (Raised part e y)) (λ f. ((λ why h. absurd (no_reason w.kept why none h)), λ ts. tt)) (λ f. ((λ why h. absurd (no_reason w.kept why none h)), λ ts. tt)) (link.page_at j.event) j.prod (words j.prod) c.own.found
         (λ f cons word bad. ((λ why h. let same : reason.BadCons j.prod cons ≡ why = cc in subst (λ z. IsFoundIn f z) same word), λ ts. word))) in

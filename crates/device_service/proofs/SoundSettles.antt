@@ -20,7 +20,9 @@ use Rattle.device_core.specs.Order.{Order, Rest}
 use Rattle.device_core.specs.Site.{Site}
 use Rattle.device_core.specs.Touched.{Carried}
 use Rattle.device_service.specs.Nodes.{Kind, Ringed, Ringless}
-use Rattle.device_service.specs.Raise.{Put, Stored, Full, BadCons, limit}
+use Rattle.link_core.specs.declared.link.Put.{Put}
+use Rattle.link_core.specs.declared.link.Put.TheVariants as put
+use Rattle.link_core.specs.Raise.{limit}
 use Rattle.device_service.specs.Reading.{Naming}
 use Rattle.device_service.specs.Rows.{Hand}
 use Rattle.device_service.specs.Service.{Service, Job, Works, Starves, Owed, Deed, Runs, Raises}
@@ -99,7 +101,7 @@ module _ {X A V Y M : Type 0} (D : Lawful X A V Y M) where
   take_sane : (w : Work X V) (words : List ℕ) → IsSane D w → IsServing w → known.Has false w.service → IsSane D (settled s (site D) w (Took words))
   unfolding settled
   take_sane w words q serving has =
-      let k = l.takes w.service words q.sane has in
+      let k = l.takes w.service w.at words q.sane has in
       record { own = q.own; whole = q.whole; sane = k.0; opened = inr (serving, k.1); kept = q.kept }
 
   own_sane : (w : Work X V) (k : Carried Learned) (a : A) → IsSane D w → EndsWell D w k (Own a) → IsSane D (settled s (site D) w (Own a))
@@ -115,7 +117,7 @@ module _ {X A V Y M : Type 0} (D : Lawful X A V Y M) where
       record { own = q.own; whole = q.whole; sane = b.0; opened = inr (e.0.0, subst (λ (x : Option Hand). known.Has (is_some x) (s.after w.service a)) (sym e.0.1) b.1); kept = q.kept }
 
   raise_sane : (w : Work X V) (part : ℕ) (e : Option V) (p : Put) → IsSane D w → IsRaising D w part e → IsPut p → IsSane D (after_raise s w part e p)
-  raise_sane w part e Stored q i put =
+  raise_sane w part e put.Done q i put =
       let k = (l.raises w.service e part q.sane i.has i.raise).0 in
       record {
         own = subst (λ hs. AllOwn frames grants dom hs) (sym (evented_pages w.parts part (slice_get w.parts part) refl)) q.own;
@@ -124,10 +126,11 @@ module _ {X A V Y M : Type 0} (D : Lawful X A V Y M) where
         opened = inr (i.serving, subst (λ (x : Option Hand). known.Has (is_some x) (s.after_put w.service e)) (sym i.none) k.1);
         kept = q.kept;
       }
-  raise_sane w part e Full q i put =
+  raise_sane w part e put.Full q i put =
       let k = (l.raises w.service e part q.sane i.has i.raise).1 in
       record { own = q.own; whole = q.whole; sane = k.0; opened = inr (i.serving, subst (λ (x : Option Hand). known.Has (is_some x) (s.after_full w.service e)) (sym i.none) k.1); kept = q.kept }
-  raise_sane w part e (BadCons prod cons) q i put =
+  raise_sane w part e (put.Spent prod) q i found = absurd found
+  raise_sane w part e (put.BadCons prod cons) q i put =
       record {
         own = q.own;
         whole = q.whole;

@@ -20,7 +20,8 @@ use Rattle.device_core.specs.Names.{Sight, all_drawn, with_name, words_in}
 use Rattle.device_core.specs.Site.{Site}
 use Rattle.device_core.specs.Touched.{Carried, Touch, Took as Taken, Put as Wrote, numbered}
 use Rattle.device_service.specs.Laws.{IsOfService, IsTold, evidence}
-use Rattle.device_service.specs.Raise.{Put, Stored, Full, BadCons}
+use Rattle.link_core.specs.declared.link.Put.{Put}
+use Rattle.link_core.specs.declared.link.Put.TheVariants as put
 use Rattle.device_service.specs.Reading.{Naming, rows_of, names_of, unnamed, named_by, named_after, made_by, made_at, taken_at}
 use Rattle.device_service.specs.Rows.{Table, Rows, Hand, Evidence, Says, Enters, hand_in, makes}
 use Rattle.device_service.specs.Rows as rows
@@ -95,9 +96,10 @@ module _ {X A V Y M : Type 0} (D : Lawful X A V Y M) where
       (b.named, record { rows = ap (λ (y : Y). let x : Rows Y V = record (row w n) { service = y } in x) b.rows; names = b.names; numbers = numbers_same (λ key. r.number (s.after w.service a) n.service key) (λ key. r.number w.service n.service key) b.numbers k.touched })
 
   raise_keeps : (w : Work X V) (n : Naming M) (ts : List Touch) (part : ℕ) (e : Option V) (p : Put) → IsNamed D w n → raise_said s w part e p ≡ None → Keeps w (after_raise s w part e p) n ts
-  raise_keeps w n ts part e Stored named f = let wrong : ⊥ = cc in absurd wrong
-  raise_keeps w n ts part e Full named f = let wrong : ⊥ = cc in absurd wrong
-  raise_keeps w n ts part e (BadCons prod cons) named f = (named, record { rows = refl; names = refl; numbers = refl })
+  raise_keeps w n ts part e put.Done named f = let wrong : ⊥ = cc in absurd wrong
+  raise_keeps w n ts part e put.Full named f = let wrong : ⊥ = cc in absurd wrong
+  raise_keeps w n ts part e (put.BadCons prod cons) named f = (named, record { rows = refl; names = refl; numbers = refl })
+  raise_keeps w n ts part e (put.Spent prod) named f = (named, record { rows = refl; names = refl; numbers = refl })
 
   always_replies : (w : Work X V) (x : Option Hand) (b : Bool) (h : Hand) → x ≡ Some h → replied_in s w x b ≡ None → ⊥
   always_replies w None b h e n = cc
@@ -134,7 +136,7 @@ module _ {X A V Y M : Type 0} (D : Lawful X A V Y M) where
   tells_request : (w : Work X V) (k : Carried Learned) (words : List ℕ) (n : Naming M) → EndsWell D w k (Took words) → IsNamed D w n → TellsSo w k n (said.Request w.at (hand_in w.at words).id (hand_in w.at words).op) words [] (settled s (site D) w (Took words)) n
   unfolding settled
   tells_request w k words n e named =
-      let b = l.takes_shows w.service words n.service named in (
+      let b = l.takes_shows w.service w.at words n.service named in (
         b.0,
         record {
           move = record { serving = e.0.0; part_is = e.0.2; id_is = refl; op_is = refl; none = e.0.1; taken = ap (λ (y : Y). let x : Rows Y V = record (row w n) { hand = Some (hand_in w.at words); service = y } in x) b.1 };
@@ -188,19 +190,20 @@ module _ {X A V Y M : Type 0} (D : Lawful X A V Y M) where
       inr (inl (record { serving = i.serving; none = i.none; event = e; later = i.oldest.0; oldest = i.oldest.1; service = r.rows y n.service; serves = told; done = ap (λ (xs : List V). let x : Rows Y V = record (row w n) { waiting = behind xs; service = r.rows y n.service } in x) i.oldest.1 }))
 
   tells_raise : (w : Work X V) (k : Carried Learned) (part : ℕ) (e : Option V) (p : Put) (n : Naming M) (what : Said) → IsSane D w → IsRaising D w part e → IsNamed D w n → raise_said s w part e p ≡ Some what → TellsSo w k n what [] [] (after_raise s w part e p) n
-  tells_raise w k part e Stored n what q i named f =
+  tells_raise w k part e put.Done n what q i named f =
       let b = l.put_told w.service e part n.service (told_by w k n) q.sane i.has i.raise named in
       let shows = (l.raises_shows w.service e part n.service q.sane i.has i.raise named).0 in
       let js = with_event w.parts part (slice_get w.parts part) in
-      let v : Work X V = after_raise s w part e Stored in
+      let v : Work X V = after_raise s w part e put.Done in
       tells_as w k n (s.put w.service e) what [] [] v n f
       (shows.0, record { move = own_moves t (site D) (row w n) (row v n) (told_by w k n) (s.put w.service e) b.0 (tells_event w k part e (s.after_put w.service e) js n (s.put w.service e) i b.1); names = none_named w v n k.own.found (s.put w.service e) b.0 shows.1 })
-  tells_raise w k part e Full n what q i named f =
+  tells_raise w k part e put.Full n what q i named f =
       let b = l.full_told w.service e part n.service (told_by w k n) q.sane i.has i.raise named in
       let shows = (l.raises_shows w.service e part n.service q.sane i.has i.raise named).1 in
-      tells_as w k n (said.Full part) what [] [] (after_raise s w part e Full) n f
+      tells_as w k n (said.Full part) what [] [] (after_raise s w part e put.Full) n f
       (shows.0, record { move = tells_event w k part e (s.after_full w.service e) w.parts n (said.Full part) i b; names = λ sight. ap (all_drawn sight) shows.1 })
-  tells_raise w k part e (BadCons prod cons) n what q i named f = let wrong : ⊥ = cc in absurd wrong
+  tells_raise w k part e (put.BadCons prod cons) n what q i named f = let wrong : ⊥ = cc in absurd wrong
+  tells_raise w k part e (put.Spent prod) n what q i named f = let wrong : ⊥ = cc in absurd wrong
 
   tells_reply : (w : Work X V) (k : Carried Learned) (h : Hand) (b : Bool) (n : Naming M) → IsSane D w → EndsWell D w k (Answered b) → w.hand ≡ Some h → IsNamed D w n → TellsSo w k n (said.Replied h.part h.id (s.status w.service) b) [] (made_by s t r w (Some h)) (after_answer s w (Some h)) (named_by s t r w (Some h) n)
   tells_reply w k h b n q e has named =

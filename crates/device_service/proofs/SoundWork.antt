@@ -27,7 +27,9 @@ use Rattle.device_core.specs.Touched.{Carried, Touch}
 use Rattle.device_service.specs.Claims.{site_of}
 use Rattle.device_service.specs.Laws.{Facts, Laws, AreHeld, IsRaise}
 use Rattle.device_service.specs.Nodes.{Kind, needs_of}
-use Rattle.device_service.specs.Raise.{Put, Stored, Full, BadCons, slots}
+use Rattle.link_core.specs.declared.link.Put.{Put}
+use Rattle.link_core.specs.declared.link.Put.TheVariants as put
+use Rattle.link_core.specs.Raise.{slots}
 use Rattle.device_service.specs.Reading.{Naming, Shows, reading, rows_of}
 use Rattle.device_service.specs.Rows.{Table, Rows, Hand, Event, Hears, IsOwnCause, IsReason, owes}
 use Rattle.device_service.specs.Service.{Service}
@@ -88,12 +90,13 @@ IsOldest (Some e) vs = (later : List _) × (vs ≡ e ∷ later)
 
 -- an index that is false is more than an event page away
 abbrev pub IsPut : Put → Type 0
-IsPut Stored = Unit {0}
-IsPut Full = Unit {0}
-IsPut (BadCons prod cons) = slots < since cons prod
+IsPut put.Done = Unit {0}
+IsPut put.Full = Unit {0}
+IsPut (put.BadCons prod cons) = slots < since cons prod
+IsPut (put.Spent prod) = ⊥
 
 abbrev pub PutFound : Found → Put → Type 0
-PutFound f (BadCons prod cons) = f.word ≡ Some cons
+PutFound f (put.BadCons prod cons) = f.word ≡ Some cons
 PutFound f other = Unit {0}
 
 stays_oldest : {V : Type 0} (why : Option HostRefusal) (xs : List V) (y : Option V) (x : V) (later : List V) → xs ≡ x ∷ later → (rest : List V) × (unless why xs y ≡ x ∷ rest)
@@ -234,9 +237,10 @@ module _ {X A V Y M : Type 0} (D : Lawful X A V Y M) where
     replied_now (Some x) = refl
 
     raise_now : (part : ℕ) (e : Option V) (p : Put) → held_pages s (after_raise s now part e p) ≡ held_pages s (after_raise s w part e p)
-    raise_now part e Stored = refl
-    raise_now part e Full = refl
-    raise_now part e (BadCons prod cons) = refl
+    raise_now part e put.Done = refl
+    raise_now part e put.Full = refl
+    raise_now part e (put.BadCons prod cons) = refl
+    raise_now part e (put.Spent prod) = refl
 
     pages_now : (o : End A V) → held_pages s (settled s site now o) ≡ held_pages s (settled s site w o)
     unfolding settled
@@ -274,9 +278,10 @@ module _ {X A V Y M : Type 0} (D : Lawful X A V Y M) where
     kept_now (Denied why) = refl
     kept_now (Lacked problem) = refl
     kept_now (Shut why) = refl
-    kept_now (Raised part e Stored) = refl
-    kept_now (Raised part e Full) = refl
-    kept_now (Raised part e (BadCons prod cons)) = refl
+    kept_now (Raised part e put.Done) = refl
+    kept_now (Raised part e put.Full) = refl
+    kept_now (Raised part e (put.BadCons prod cons)) = refl
+    kept_now (Raised part e (put.Spent prod)) = refl
     kept_now Left = refl
     kept_now Renewed = refl
 
@@ -290,9 +295,10 @@ module _ {X A V Y M : Type 0} (D : Lawful X A V Y M) where
     said_answer (Some h) notified = refl
 
     said_raise : (part : ℕ) (e : Option V) (p : Put) → raise_said s now part e p ≡ raise_said s w part e p
-    said_raise part e Stored = refl
-    said_raise part e Full = refl
-    said_raise part e (BadCons prod cons) = refl
+    said_raise part e put.Done = refl
+    said_raise part e put.Full = refl
+    said_raise part e (put.BadCons prod cons) = refl
+    said_raise part e (put.Spent prod) = refl
 
     said_now : (o : End A V) → said_at s now o ≡ said_at s w o
     unfolding said_at

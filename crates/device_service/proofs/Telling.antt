@@ -9,7 +9,7 @@ use Rattle.xenbus_states.specs.Connection.{action_of}
 use Rattle.link_core.specs.Activities.{Joined}
 use Rattle.device_core.specs.Told.{told_by}
 use Rattle.device_service.specs.Claims.{Tells}
-use Rattle.device_service.specs.Raise.{limit}
+use Rattle.link_core.specs.Raise.{limit}
 use Rattle.device_service.specs.Reading.{Naming, Shows, all_gone, begins_by, begins_close, begins_event, begins_hand, begins_of, begins_owed, begins_part, begins_pays, begins_raise, begins_ready, begins_serve, begins_state, begins_waiting, begins_with, names_of, numbers, told_of}
 use Rattle.device_service.specs.Rows.{Hand, Table}
 use Rattle.device_service.specs.Service.{Deed, Owed, Raises, Runs, Service}

@@ -107,6 +107,7 @@ met_open (doing.Undoing why) n h = absurd (false≢true h)
 met_open doing.Open n h = refl
 met_open (doing.Taking part) n h = refl
 met_open (doing.Answering part) n h = refl
+met_open (doing.Raising part) n h = refl
 met_open (doing.Sleeping part) n h = refl
 met_open doing.Dropping n h = absurd (false≢true h)
 
@@ -117,6 +118,7 @@ bare_open (doing.Undoing why) n h = refl
 bare_open doing.Open n h = refl
 bare_open (doing.Taking part) n h = refl
 bare_open (doing.Answering part) n h = refl
+bare_open (doing.Raising part) n h = refl
 bare_open (doing.Sleeping part) n h = refl
 bare_open doing.Dropping n h = refl
 
@@ -127,6 +129,7 @@ maps_open (doing.Undoing why) h = refl
 maps_open doing.Open h = refl
 maps_open (doing.Taking part) h = refl
 maps_open (doing.Answering part) h = refl
+maps_open (doing.Raising part) h = refl
 maps_open (doing.Sleeping part) h = refl
 maps_open doing.Dropping h = refl
 
@@ -208,6 +211,7 @@ sleeping_open (doing.Undoing why) (inr e) = absurd (false≢true e)
 sleeping_open doing.Open (inr e) = absurd (false≢true e)
 sleeping_open (doing.Taking part) (inr e) = absurd (false≢true e)
 sleeping_open (doing.Answering part) (inr e) = absurd (false≢true e)
+sleeping_open (doing.Raising part) (inr e) = absurd (false≢true e)
 sleeping_open doing.Dropping (inr e) = absurd (false≢true e)
 
 pub sleeping_busy : (d : Doing) (n : ℕ) → MaySleep d → (busy_in d n ≡ n) ⊎ (busy_in d n ≡ slept_to d)
@@ -219,6 +223,7 @@ sleeping_busy (doing.Undoing why) n (inr e) = absurd (false≢true e)
 sleeping_busy doing.Open n (inr e) = absurd (false≢true e)
 sleeping_busy (doing.Taking part) n (inr e) = absurd (false≢true e)
 sleeping_busy (doing.Answering part) n (inr e) = absurd (false≢true e)
+sleeping_busy (doing.Raising part) n (inr e) = absurd (false≢true e)
 sleeping_busy doing.Dropping n (inr e) = absurd (false≢true e)
 
 pub sleeping_in : (d : Doing) (n : ℕ) → MaySleep d → 0 < n → part_in d < n → slept_to d < n
@@ -230,6 +235,7 @@ sleeping_in (doing.Undoing why) n (inr e) some come_to = some
 sleeping_in doing.Open n (inr e) some come_to = some
 sleeping_in (doing.Taking part) n (inr e) some come_to = some
 sleeping_in (doing.Answering part) n (inr e) some come_to = some
+sleeping_in (doing.Raising part) n (inr e) some come_to = some
 sleeping_in doing.Dropping n (inr e) some come_to = some
 
 -- it goes on, or is over
@@ -254,10 +260,14 @@ module _ {A : Type 0} where
   in_after None t n some lt = lt
   in_after (Some y) t n some lt = some
 
-  pub whole_served : (dom : ℕ) (ringed : Bool) (d t : Doing) (ls : List Link) (k : ℕ) (old new : Link) (o : Option A) → Whole dom ringed d ls → is_open t ≡ true → busy_in t (length ls) ≡ k → part_in t < length ls → ringed ≡ true → MayServe d t → slice_get ls k ≡ Some old → dom_of new ≡ dom_of old → held_of new ≡ held_of old → pages_of (joined_of new) ≡ pages_of (joined_of old) → OnSome o (idle new ≡ true) → Whole dom ringed (open_or o t) (slice_set ls k new)
+  rung_after : (o : Option A) (t : Doing) (ringed : Bool) → (uses_ring t ≡ true → ringed ≡ true) → uses_ring (open_or o t) ≡ true → ringed ≡ true
+  rung_after None t ringed rung h = rung h
+  rung_after (Some x) t ringed rung h = absurd (false≢true h)
+
+  pub whole_served : (dom : ℕ) (ringed : Bool) (d t : Doing) (ls : List Link) (k : ℕ) (old new : Link) (o : Option A) → Whole dom ringed d ls → is_open t ≡ true → busy_in t (length ls) ≡ k → part_in t < length ls → (uses_ring t ≡ true → ringed ≡ true) → MayServe d t → slice_get ls k ≡ Some old → dom_of new ≡ dom_of old → held_of new ≡ held_of old → pages_of (joined_of new) ≡ pages_of (joined_of old) → OnSome o (idle new ≡ true) → Whole dom ringed (open_or o t) (slice_set ls k new)
   whole_served dom ringed d t ls k old new o w opened busy come_to rung serving g same held pages rests =
       served dom ringed d ls w (serving_open d t opened serving) (open_or o t) k old new (open_after o t opened) g (serving_busy d t (length ls) k busy serving) same held pages
-      (rests_after o t (length ls) k new busy rests) (in_after o t (length ls) w.some come_to) (λ _. rung)
+      (rests_after o t (length ls) k new busy rests) (in_after o t (length ls) w.some come_to) (rung_after o t ringed rung)
 
 -- while a Connect has come to a part
 module _ (dom : ℕ) (ringed : Bool) (d : Doing) (ls : List Link) (part : ℕ) (e : d ≡ doing.Connecting part) (w : Whole dom ringed d ls) where

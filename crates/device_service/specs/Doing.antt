@@ -20,6 +20,7 @@ is_open (doing.Undoing why) = false
 is_open doing.Open = true
 is_open (doing.Taking part) = true
 is_open (doing.Answering part) = true
+is_open (doing.Raising part) = true
 is_open (doing.Sleeping part) = true
 is_open doing.Dropping = false
 
@@ -31,6 +32,7 @@ met_in (doing.Undoing why) n = 0
 met_in doing.Open n = n
 met_in (doing.Taking part) n = n
 met_in (doing.Answering part) n = n
+met_in (doing.Raising part) n = n
 met_in (doing.Sleeping part) n = n
 met_in doing.Dropping n = 0
 
@@ -45,6 +47,7 @@ abbrev pub busy_in : Doing → ℕ → ℕ
 busy_in (doing.Connecting part) n = part
 busy_in (doing.Taking part) n = part
 busy_in (doing.Answering part) n = part
+busy_in (doing.Raising part) n = part
 busy_in (doing.Sleeping part) n = part
 busy_in other n = n
 
@@ -53,6 +56,7 @@ abbrev pub part_in : Doing → ℕ
 part_in (doing.Connecting part) = part
 part_in (doing.Taking part) = part
 part_in (doing.Answering part) = part
+part_in (doing.Raising part) = part
 part_in (doing.Sleeping part) = part
 part_in other = 0
 

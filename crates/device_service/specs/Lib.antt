@@ -10,7 +10,6 @@ pub mod Moves
 pub mod Nodes
 pub mod Operating
 pub mod Parts
-pub mod Raise
 pub mod Reading
 pub mod Refusing
 pub mod Rows

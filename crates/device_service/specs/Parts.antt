@@ -8,7 +8,10 @@ use Rattle.pv_words.specs.Plan.{Plan, Finished, joined}
 use Rattle.ring_words.specs.declared.Looked.{Looked}
 use Rattle.ring_words.specs.declared.Looked.TheVariants as looked
 use Rattle.link_core.specs.declared.link.Link.{Link}
-use Rattle.link_core.specs.Activities.{Joined, answer_plan, look_plan, take_plan, unmaps}
+use Rattle.link_core.specs.declared.link.Put.{Put}
+use Rattle.link_core.specs.declared.link.Put.TheVariants as put
+use Rattle.link_core.specs.Raise.{raise_plan}
+use Rattle.link_core.specs.Activities.{Joined, answer_plan, look_plan, page_at, take_plan, unmaps}
 use Rattle.link_core.specs.Link as link
 use Rattle.link_core.specs.Link.{Leads}
 use Rattle.device_core.specs.Site.{Site}
@@ -19,7 +22,7 @@ pub use Rattle.device_service.specs.Nodes.{kind_in}
 use Rattle.device_service.specs.Nodes.{Kind, refs_at, refs_from}
 pub use Rattle.device_service.specs.Dropping.{Drops, MayDrop}
 use Rattle.device_service.specs.Claims.{site_of}
-use Rattle.device_service.specs.Work.{after_part, all_pages, connect_parts, counted, ring_page, sleep_all, sleeps_on}
+use Rattle.device_service.specs.Work.{after_part, all_pages, connect_parts, counted, ring_page, sleep_all, sleeps_on, with_event}
 pub use Rattle.device_service.specs.Doing.{all_held, is_open}
 pub use Rattle.device_service.specs.Moves.{connects, is_asleep}
 
@@ -78,6 +81,18 @@ answer_from reply (Some l) = link.answer_left l reply
 
 unfoldable pub answer_left : ℕ → List ℕ → Parts → Plan Bool
 answer_left part reply p = answer_from reply (slice_get p.links.items part)
+
+-- A Raise of these words at a part, and what is left of one: there is no room in one that isn't there.
+abbrev pub raise_of : List ℕ → Option Joined → Plan Put
+raise_of words None = Finished put.Full
+raise_of words (Some j) = raise_plan (page_at j.event) j.prod words
+
+abbrev pub raise_from : List ℕ → Option Link → Plan Put
+raise_from words None = Finished put.Full
+raise_from words (Some l) = link.raise_left l words
+
+unfoldable pub raise_left : ℕ → List ℕ → Parts → Plan Put
+raise_left part words p = raise_from words (slice_get p.links.items part)
 
 -- what is left of a Sleep that came to this part
 abbrev pub sleep_from : List Link → Option Link → Plan Bool
@@ -180,6 +195,11 @@ IsOpen part p = (part < count_of p) × (is_open (doing_of p) ≡ true)
 abbrev pub answered_if : {A : Type 0} → Option A → ℕ → List Joined → List Joined
 answered_if None part js = js
 answered_if (Some x) part js = counted js part (slice_get js part)
+
+-- the part has one event more, once its Raise is Done
+abbrev pub raised_if : Option Put → ℕ → List Joined → List Joined
+raised_if (Some put.Done) part js = with_event js part (slice_get js part)
+raised_if other part js = js
 
 -- what their domain has, and how many they are
 abbrev pub site_in : (frames grants : ℕ → ℕ) → Parts → Site

@@ -13,7 +13,7 @@ use Rattle.device_core.specs.Names.{Name}
 use Rattle.device_core.specs.Order.{Own, Spoke, Heard}
 use Rattle.device_core.specs.Site.{Site}
 use Rattle.link_core.specs.Activities.{Joined}
-use Rattle.device_service.specs.Raise.{limit}
+use Rattle.link_core.specs.Raise.{limit}
 use Rattle.device_service.specs.Rows.{Table, Rows, Hand, Event, Says, Hears, Begins, Moves, makes, owes}
 use Rattle.device_service.specs.Service.{Service, Owed, Deed, Runs, Raises}
 use Rattle.device_service.specs.Work.{Work, bus_of, End, Took, Answered, Met, Left, Renewed, part_of}

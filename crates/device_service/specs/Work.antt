@@ -27,7 +27,9 @@ use Rattle.device_core.specs.Site.{Site}
 use Rattle.xenbus_states.specs.Bus.{Bus}
 use Rattle.xenbus_states.specs.Needs.{Problem, first_fault}
 use Rattle.device_service.specs.Nodes.{Kind, Ringed, Ringless, Refs, needs_of, refs_from}
-use Rattle.device_service.specs.Raise.{Put, Stored, Full, BadCons, raise_plan, limit}
+use Rattle.link_core.specs.declared.link.Put.{Put}
+use Rattle.link_core.specs.declared.link.Put.TheVariants as put
+use Rattle.link_core.specs.Raise.{put_plan, limit}
 use Rattle.device_service.specs.Rows.{Hand, hand_in}
 pub use Rattle.device_service.specs.declared.round.Round.{Round}
 pub use Rattle.device_service.specs.declared.round.Round.TheVariants.{Looks, Sleeps, Idles}
@@ -214,7 +216,7 @@ module _ {X A V : Type 0} (s : Service X A V) where
 
   -- Raise: a spent in_prod closes the connection
   abbrev pub raises_if : Work X V → Option V → ℕ → (ℕ → List ℕ) → Joined → Bool → Order (Work X V) (End A V)
-  raises_if w e part words j true = Act w (mapped (Raised part e) (raise_plan (page_at j.event) j.prod (words j.prod)))
+  raises_if w e part words j true = Act w (mapped (Raised part e) (put_plan (page_at j.event) j.prod (words j.prod)))
   raises_if w e part words j false = close w (reason.Spent j.prod)
 
   abbrev pub raises : Work X V → Option V → ℕ → (ℕ → List ℕ) → Joined → Order (Work X V) (End A V)
@@ -296,18 +298,20 @@ module _ {X A V : Type 0} (s : Service X A V) where
       record w { connection = moved_to w.connection b; connecting = false; closing = false; hand = None; waiting = []; service = s.begun w.read }
 
   abbrev pub after_raise : Work X V → ℕ → Option V → Put → Work X V
-  after_raise w part e Stored = record w { parts = with_event w.parts part (slice_get w.parts part); waiting = waits_after e w.waiting; service = s.after_put w.service e }
-  after_raise w part e Full = record w { waiting = waits_after e w.waiting; service = s.after_full w.service e }
-  after_raise w part e (BadCons prod cons) = record w { kept = Some (reason.BadCons prod cons) }
+  after_raise w part e put.Done = record w { parts = with_event w.parts part (slice_get w.parts part); waiting = waits_after e w.waiting; service = s.after_put w.service e }
+  after_raise w part e put.Full = record w { waiting = waits_after e w.waiting; service = s.after_full w.service e }
+  after_raise w part e (put.BadCons prod cons) = record w { kept = Some (reason.BadCons prod cons) }
+  after_raise w part e (put.Spent prod) = record w { kept = Some (reason.Spent prod) }
 
   abbrev pub raise_said : Work X V → ℕ → Option V → Put → Option Said
-  raise_said w part e Stored = Some (s.put w.service e)
-  raise_said w part e Full = Some (said.Full part)
-  raise_said w part e (BadCons prod cons) = None
+  raise_said w part e put.Done = Some (s.put w.service e)
+  raise_said w part e put.Full = Some (said.Full part)
+  raise_said w part e (put.BadCons prod cons) = None
+  raise_said w part e (put.Spent prod) = None
 
   unfoldable pub settled : Site → Work X V → End A V → Work X V
   settled site w (Saw l) = after_look site w l
-  settled site w (Took words) = record w { hand = Some (hand_in w.at words); left = w.left - 1; service = s.taken w.service words }
+  settled site w (Took words) = record w { hand = Some (hand_in w.at words); left = w.left - 1; service = s.taken w.service w.at words }
   settled site w (Own a) = record w { service = s.after w.service a }
   settled site w (Done a) = record w { waiting = behind w.waiting; service = s.after w.service a }
   settled site w (Answered notified) = after_answer w w.hand

@@ -4,7 +4,7 @@ ghost use Rattle.std.specs.Prelude.{◌≡◌, ◌<◌, ◌≤◌, ◌==◌, [],
 ghost use Rattle.device_service.specs.Doing.{Whole};
 
 use crate::reading::{event_ref, ring_ref};
-use link_core::Link;
+use link_core::{Link, Put};
 use pv_words::{Access, DomId, GrantRefusal, Hold, Turn, Words};
 use ring_words::Looked;
 use std::alloc::{AllocError, Global};
@@ -25,6 +25,8 @@ pub enum Doing {
     Taking(u8),
     /// A request is answered in this part's ring.
     Answering(u8),
+    /// An event is put into this part's event page.
+    Raising(u8),
     /// A Sleep has come to this part.
     Sleeping(u8),
     /// The pages are given up, one after another.
@@ -51,13 +53,14 @@ impl Parts {
     ghost use Rattle.link_core.specs.declared.link.Link.{Link};
     ghost use Rattle.link_core.specs.Activities.{Joined};
     ghost use Rattle.link_core.specs.Link as link;
+    ghost use Rattle.link_core.specs.Link.{Leads};
     ghost use Rattle.link_core.specs.Stays.{AccessIn};
     ghost use Rattle.device_core.specs.Site.{Site};
     ghost use Rattle.ring_words.specs.declared.Looked.{Looked};
     ghost use Rattle.device_service.specs.declared.parts.Doing.TheVariants as doing;
     ghost use Rattle.device_service.specs.Nodes.{Ringed};
     ghost use Rattle.device_service.specs.Parts.{answer_left, answered_if, connect_of, connects, count_of, doing_of, dom_of, held_of};
-    ghost use Rattle.device_service.specs.Parts.{joined_of, kind_in, kind_of, look_of, open_or, sleep_left, slept_to, take_left};
+    ghost use Rattle.device_service.specs.Parts.{joined_of, kind_in, kind_of, look_of, open_or, raise_left, raised_if, sleep_left, slept_to, take_left};
     ghost use Rattle.device_service.specs.Parts.{Begins, ConnectLeads, ConnectSteps, Connected, Drops, IsOpen, JoinsByAccess, Keeps};
     ghost use Rattle.device_service.specs.Parts.{LeftBy, MayDrop, MayServe, MaySleep, Rests, Same, Slept, UndoneAs};
 
@@ -262,6 +265,7 @@ impl Parts {
     /// The one access of a Look at this part's ring.
     pub fn look_step<W: Words>(&mut self, words: &mut W, part: u8) -> Turn<Looked>
         requires opened { IsOpen part self.old }
+        requires rests { doing_of self.old ≡ doing.Open }
         requires ringed { kind_of self.old ≡ Ringed }
         requires may { MayGo (W.may words.old) (look_of (slice_get (joined_of self.old) part)) }
         ensures turns { (new : Plan Looked) → Turns (look_of (slice_get (joined_of self.old) part)) result.access result.done new }
@@ -319,6 +323,28 @@ impl Parts {
             Doing::Open
         } else {
             Doing::Answering(part)
+        };
+        turn
+    }
+
+    /// The next access of a Raise of these words in this part's event page. Where it is Done, the part has one event more.
+    pub fn raise_step<W: Words>(&mut self, words: &mut W, part: u8, w: &[u32; 16]) -> Turn<Put>
+        requires part { part < count_of self.old }
+        requires serving { MayServe (doing_of self.old) (doing.Raising part) }
+        requires may { MayGo (W.may words.old) (raise_left part w.now self.old) }
+        ensures leads { Leads (raise_left part w.now self.old) result.access result.done (raise_left part w.now self.new) }
+        ensures made { Makes W.makes words.old result.access words.new }
+        ensures stays { AccessIn (held_of self.old) result.access }
+        ensures doing { doing_of self.new ≡ open_or result.done (doing.Raising part) }
+        ensures held { held_of self.new ≡ held_of self.old }
+        ensures joined { joined_of self.new ≡ raised_if result.done part (joined_of self.old) }
+        ensures same { Same self.old self.new }
+    {
+        let turn = self.links[part as usize].raise_step(words, w);
+        self.doing = if turn.done.is_some() {
+            Doing::Open
+        } else {
+            Doing::Raising(part)
         };
         turn
     }

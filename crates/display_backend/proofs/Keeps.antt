@@ -457,9 +457,9 @@ module _ (frames grants : ℕ → ℕ) (dom parts : ℕ) where
   short x None = omega arith
   short x (Some q) = omega (arith, length-replicate {A = ℕ} 14 0)
 
-  takes : (st : Stock) (o : Option Request) (p : Progress) (words : List ℕ) → IsSane (known st o p) → HasCome false (known st o p) → IsSane (display.taken (known st o p) words) × HasCome true (display.taken (known st o p) words)
-  takes st None p words s h = (s, (refl, h.1.1))
-  takes st (Some q) p words s h = absurd (true≢false h.0)
+  takes : (st : Stock) (o : Option Request) (p : Progress) (part : ℕ) (words : List ℕ) → IsSane (known st o p) → HasCome false (known st o p) → IsSane (display.taken (known st o p) part words) × HasCome true (display.taken (known st o p) part words)
+  takes st None p part words s h = (s, (refl, h.1.1))
+  takes st (Some q) p part words s h = absurd (true≢false h.0)
 
   pub laws : Laws display table shows (facts frames grants dom parts) site frames grants
   laws =
@@ -476,9 +476,9 @@ module _ (frames grants : ℕ → ℕ) (dom parts : ℕ) where
         drops = λ x s. (s, refl);
         drops_shows = λ x m named. (named, refl, refl);
         bare = λ x m named none. names_none x.stock.buffers m (all_behind x.stock.mapped (buffer_pages x.stock.buffers) none);
-        takes = λ x words s h. takes x.stock x.request x.progress words s h;
-        takes_pages = λ x words. refl;
-        takes_shows = λ x words m named. (named, refl, refl);
+        takes = λ x part words s h. takes x.stock x.request x.progress part words s h;
+        takes_pages = λ x part words. refl;
+        takes_shows = λ x part words m named. (named, refl, refl);
         begins = λ x y pl s h r leads. begins x.stock x.request x.progress y pl s h r leads;
         begins_shows = λ x y pl m s h r leads named. let b = begins_shows x.stock x.request x.progress y pl m r leads named in (b.0, b.1, λ key. refl);
         begins_names = λ x y pl m sight s h r leads named. begins_names x.stock x.request x.progress y pl m sight r leads;
@@ -500,6 +500,7 @@ module _ (frames grants : ℕ → ℕ) (dom parts : ℕ) where
         raises_shows = λ x e part m s h i named. absurd (no_raise x e part i);
         put_told = λ x e part m told s h i named. absurd (no_raise x e part i);
         full_told = λ x e part m told s h i named. absurd (no_raise x e part i);
+        full_ends = λ x o s owes. refl;
         meets_plain = λ x want note u. u;
         meets = λ x m want note s named u. meets x m want note u;
       }

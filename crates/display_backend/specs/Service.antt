@@ -118,7 +118,7 @@ display =
       pages = λ x. pages_of x.stock;
       stripped = λ x. record x { stock = stock.stripped x.stock };
       dropped = λ x. record x { request = None; progress = progress.Decided };
-      taken = λ x words. record x { request = Some (request_of words); progress = progress.Decided };
+      taken = λ x part words. record x { request = Some (request_of words); progress = progress.Decided };
       ready = λ x. ready_for x x.request;
       job = λ site x. job_for site x x.request;
       reply = λ x. reply_for x x.request;
@@ -169,7 +169,7 @@ table =
     record {
       kind = Ringed;
       begun = λ nodes. record { request = None; denied = false; buffers = [] };
-      taken = λ y words. record y { request = Some (request_of words); denied = false };
+      taken = λ y part words. record y { request = Some (request_of words); denied = false };
       dropped = λ y. record y { request = None; denied = false };
       Tells = Tells;
       Serves = Serves;

@@ -145,14 +145,15 @@ module _ (frames grants : ℕ) (l n : Link) where
 
 -- a link that is in no Connect
 abbrev pub IsApart : Stage → Type 0
-IsApart s = (s ≡ stage.Rest) ⊎ ((s ≡ stage.Take) ⊎ ((s ≡ stage.Answer) ⊎ (s ≡ stage.Sleep)))
+IsApart s = (s ≡ stage.Rest) ⊎ ((s ≡ stage.Take) ⊎ ((s ≡ stage.Answer) ⊎ ((s ≡ stage.Sleep) ⊎ (s ≡ stage.Raise))))
 
 module _ (frames grants : ℕ) (ring : Option ℕ) (event : ℕ) (l : Link) where
   apart_head : (s : Stage) → IsApart s → connect_rest frames grants ring event l s ≡ connect_plan frames grants l.dom.0 ring event
   apart_head s (inl e) = ap (connect_rest frames grants ring event l) e
   apart_head s (inr (inl e)) = ap (connect_rest frames grants ring event l) e
   apart_head s (inr (inr (inl e))) = ap (connect_rest frames grants ring event l) e
-  apart_head s (inr (inr (inr e))) = ap (connect_rest frames grants ring event l) e
+  apart_head s (inr (inr (inr (inl e)))) = ap (connect_rest frames grants ring event l) e
+  apart_head s (inr (inr (inr (inr e)))) = ap (connect_rest frames grants ring event l) e
 
 -- what is left where a Connect begins
 module _ (frames grants : ℕ) (l b : Link) (apart : IsApart l.stage) (dom : b.dom ≡ l.dom) where

@@ -33,6 +33,7 @@ module _ (frames grants : ℕ → ℕ) (May : Holds → Want → Note → Type 0
   stage_comes l stage.Take ring event s is a h = absurd (false≢true is)
   stage_comes l stage.Answer ring event s is a h = absurd (false≢true is)
   stage_comes l stage.Sleep ring event s is a h = absurd (false≢true is)
+  stage_comes l stage.Raise ring event s is a h = absurd (false≢true is)
   stage_comes l stage.Ring ring event s is a h =
       let F = frames l.dom.0 in
       let G = grants l.dom.0 in

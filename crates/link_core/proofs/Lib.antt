@@ -6,3 +6,4 @@ pub mod Ports
 pub mod Stays
 pub mod Transitions
 pub mod Shown
+pub mod Raises

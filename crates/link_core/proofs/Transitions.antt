@@ -24,19 +24,19 @@ unfolding loads
 loads_none at more zero i taken e = refl
 loads_none at more (suc n) i taken e = absurd (omega arith)
 
-stores_one : {A : Type 0} (at : ℕ → Place) (more : Plan A) (i : ℕ) (vs ws : List ℕ) (v : ℕ) → vs ≡ v ∷ ws → stores at more i vs ≡ Make (Store (at i) v) Plain (λ _. stores at more (i + 1) ws)
+pub stores_one : {A : Type 0} (at : ℕ → Place) (more : Plan A) (i : ℕ) (vs ws : List ℕ) (v : ℕ) → vs ≡ v ∷ ws → stores at more i vs ≡ Make (Store (at i) v) Plain (λ _. stores at more (i + 1) ws)
 unfolding stores
 stores_one at more i vs ws v e = rw e refl
 
-stores_none : {A : Type 0} (at : ℕ → Place) (more : Plan A) (i : ℕ) (vs : List ℕ) → vs ≡ [] → stores at more i vs ≡ more
+pub stores_none : {A : Type 0} (at : ℕ → Place) (more : Plan A) (i : ℕ) (vs : List ℕ) → vs ≡ [] → stores at more i vs ≡ more
 unfolding stores
 stores_none at more i vs e = rw e refl
 
 -- a plan that is this one makes its access
-goes_from : {A : Type 0} (p : Plan A) (want : Want) (k : ℕ → Plan A) (a : Access) (new : Plan A) → p ≡ Make want Plain k → Goes (Make want Plain k) a new → Goes p a new
+pub goes_from : {A : Type 0} (p : Plan A) (want : Want) (k : ℕ → Plan A) (a : Access) (new : Plan A) → p ≡ Make want Plain k → Goes (Make want Plain k) a new → Goes p a new
 goes_from {A} p want k a new e h = subst (λ (x : Plan A). Goes x a new) (sym e) h
 
-unfinished_from : {A : Type 0} (p : Plan A) (want : Want) (k : ℕ → Plan A) → p ≡ Make want Plain k → IsUnfinished p
+pub unfinished_from : {A : Type 0} (p : Plan A) (want : Want) (k : ℕ → Plan A) → p ≡ Make want Plain k → IsUnfinished p
 unfinished_from {A} p want k e = subst (λ (x : Plan A). IsUnfinished x) (sym e) tt
 
 pub may_from : {A : Type 0} (may : Want → Type 0) (p : Plan A) (want : Want) (k : ℕ → Plan A) → p ≡ Make want Plain k → MayGo may p → may want

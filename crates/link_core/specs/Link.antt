@@ -12,6 +12,9 @@ use Rattle.link_core.specs.declared.link.Link.{Link}
 use Rattle.link_core.specs.declared.link.Stage.{Stage}
 use Rattle.link_core.specs.declared.link.Stage.TheVariants as stage
 use Rattle.link_core.specs.Activities.{Page, Joined, Connected, Joins, Refuses, page_at, slot_place, loads, stores, publish_plan, event_plan, check_plan, sleep_plan, prod_plan, with_event, rsp_plan, with_ring, connect_plan, unmaps, pages_of}
+use Rattle.link_core.specs.declared.link.Put.{Put}
+use Rattle.link_core.specs.declared.link.Put.TheVariants as put
+use Rattle.link_core.specs.Raise.{event_place, publish_event, raise_plan}
 use Rattle.link_core.specs.Stage.{taken_in, answered_in, slept_in, held_in, ring_in, ring_comes}
 
 -- the domain of its pages
@@ -70,6 +73,7 @@ rests stage.Rest = true
 rests stage.Take = false
 rests stage.Answer = false
 rests stage.Sleep = false
+rests stage.Raise = false
 rests stage.Ring = false
 rests stage.Index = false
 rests stage.Event = false
@@ -84,6 +88,7 @@ is_in_connect stage.Rest = false
 is_in_connect stage.Take = false
 is_in_connect stage.Answer = false
 is_in_connect stage.Sleep = false
+is_in_connect stage.Raise = false
 is_in_connect stage.Ring = true
 is_in_connect stage.Index = true
 is_in_connect stage.Event = true
@@ -111,6 +116,7 @@ connect_rest frames grants ring event l stage.Rest = connect_plan frames grants 
 connect_rest frames grants ring event l stage.Take = connect_plan frames grants l.dom.0 ring event
 connect_rest frames grants ring event l stage.Answer = connect_plan frames grants l.dom.0 ring event
 connect_rest frames grants ring event l stage.Sleep = connect_plan frames grants l.dom.0 ring event
+connect_rest frames grants ring event l stage.Raise = connect_plan frames grants l.dom.0 ring event
 connect_rest frames grants ring event l stage.Ring = joined (map_left frames grants l.map) (with_ring frames grants l.dom.0 event)
 connect_rest frames grants ring event l stage.Index = rsp_plan frames grants l.dom.0 event l.ring_page
 connect_rest frames grants ring event l stage.Event = joined (map_left frames grants l.map) (with_event (ring_in l.kept l.ring_page) l.ring)
@@ -195,3 +201,19 @@ Came (Some (Err r)) new = Unit {0}
 abbrev pub CameBy : Option ℕ → Bool → Option (Result (Unit {0}) GrantRefusal) → Link → Type 0
 CameBy None rung end new = Unit {0}
 CameBy (Some ring) rung end new = rung ≡ true → Came end new
+
+-- what is left of a Raise of these words: all of it, or, of one that found room and stored n words, the stores of the others
+abbrev pub raise_rest : Page → (prod : ℕ) → Stage → (n : ℕ) → List ℕ → Plan Put
+raise_rest page prod stage.Raise n words = stores (event_place page prod) (publish_event page prod) n (drop n words)
+raise_rest page prod other n words = raise_plan page prod words
+
+unfoldable pub raise_left : Link → List ℕ → Plan Put
+raise_left l words = raise_rest (page_at l.event_page) l.prod l.stage l.count words
+
+-- one event more was published
+abbrev pub raised_of : Joined → Joined
+raised_of j = record j { prod = next_index j.prod }
+
+abbrev pub raised_if : Option Put → Joined → Joined
+raised_if (Some put.Done) j = raised_of j
+raised_if other j = j

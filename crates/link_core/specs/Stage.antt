@@ -1,5 +1,5 @@
 -- Which activity a link is in, and which pages it holds.
-use Rattle.std.specs.Prelude.{ℕ, Bool, true, false, List, [], ◌∷◌, Option, Some, None}
+use Rattle.std.specs.Prelude.{ℕ, nat_lt, Bool, true, false, List, [], ◌∷◌, Option, Some, None}
 use Rattle.pv_words.specs.declared.grant.Hold.{Hold}
 use Rattle.link_core.specs.declared.link.Kept.{Kept}
 use Rattle.link_core.specs.declared.link.Kept.TheVariants as kept
@@ -12,6 +12,7 @@ length_of stage.Rest = 1
 length_of stage.Take = 16
 length_of stage.Answer = 18
 length_of stage.Sleep = 2
+length_of stage.Raise = 17
 length_of stage.Ring = 1
 length_of stage.Index = 1
 length_of stage.Event = 1
@@ -23,6 +24,7 @@ taken_in stage.Rest n = 0
 taken_in stage.Take n = n
 taken_in stage.Answer n = 0
 taken_in stage.Sleep n = 0
+taken_in stage.Raise n = 0
 taken_in stage.Ring n = 0
 taken_in stage.Index n = 0
 taken_in stage.Event n = 0
@@ -33,6 +35,7 @@ answered_in stage.Rest n = 0
 answered_in stage.Take n = 0
 answered_in stage.Answer n = n
 answered_in stage.Sleep n = 0
+answered_in stage.Raise n = 0
 answered_in stage.Ring n = 0
 answered_in stage.Index n = 0
 answered_in stage.Event n = 0
@@ -43,6 +46,7 @@ slept_in stage.Rest n = 0
 slept_in stage.Take n = 0
 slept_in stage.Answer n = 0
 slept_in stage.Sleep n = n
+slept_in stage.Raise n = 0
 slept_in stage.Ring n = 0
 slept_in stage.Index n = 0
 slept_in stage.Event n = 0
@@ -100,6 +104,7 @@ agrees stage.Rest k = true
 agrees stage.Take k = true
 agrees stage.Answer k = true
 agrees stage.Sleep k = true
+agrees stage.Raise k = true
 agrees stage.Ring k = has_nothing k
 agrees stage.Index k = has_ring_alone k
 agrees stage.Event k = lacks_event k
@@ -117,7 +122,13 @@ ring_comes stage.Rest k = true
 ring_comes stage.Take k = true
 ring_comes stage.Answer k = true
 ring_comes stage.Sleep k = true
+ring_comes stage.Raise k = true
 ring_comes stage.Ring k = true
 ring_comes stage.Index k = true
 ring_comes stage.Event k = has_ring_alone k
 ring_comes stage.Prod k = has_both k
+
+-- the words of an event are stored only where in_prod isn't spent
+abbrev pub may_raise : Stage → (prod : ℕ) → Bool
+may_raise stage.Raise prod = nat_lt prod 4294967232
+may_raise other prod = true

@@ -3,12 +3,17 @@
 ghost use Rattle.std.specs.Prelude.{◌≡◌, ℕ, [], Option, ◌+◌, ◌<◌, ◌≤◌, IsTrue, true, false, length, List, Some, None, Ok, Err};
 ghost use Rattle.pv_words.specs.MapLeft as mapping;
 ghost use Rattle.pv_words.specs.declared.grant.Mode.TheVariants.{Write};
-ghost use Rattle.link_core.specs.Stage.{length_of, taken_in, answered_in, slept_in, agrees, and_event};
+ghost use Rattle.link_core.specs.Stage.{length_of, taken_in, answered_in, slept_in, agrees, and_event, may_raise};
+
+mod event;
 
 use pv_words::{
     Access, DomId, Frame, GrantRef, GrantRefusal, Hold, MapStep, Mode, Place, Turn, Words, unmap,
 };
 use ring_words::{BackRing, Looked, REQ_EVENT, REQ_PROD, RSP_EVENT, RSP_PROD, must_notify};
+
+/// The word of an event page with the index up to which the frontend consumed events.
+const IN_CONS: u16 = 0;
 
 /// The word of an event page with the index up to which the backend wrote events.
 const IN_PROD: u16 = 1;
@@ -20,6 +25,8 @@ enum Stage {
     Take,
     Answer,
     Sleep,
+    // The words of an event are stored, then it is published.
+    Raise,
     // A Connect maps the ring's page.
     Ring,
     // It loads rsp_prod.
@@ -49,6 +56,19 @@ fn and_event(kept: Kept) -> Kept
     }
 }
 
+/// How a Raise ended.
+#[derive(Clone, Copy, Debug, PartialEq, Eq)]
+pub enum Put {
+    /// The event is put.
+    Done,
+    /// There was no room for it.
+    Full,
+    /// The frontend's index is false: the index of the next event, and that up to which the frontend claims to have consumed.
+    BadCons(u32, u32),
+    /// The index of the next event, which is too near to its end for any more.
+    Spent(u32),
+}
+
 /// The ring and the event page of one part of a device, and how far the activity on them has come. Each step makes the
 /// next access of the activity that it names, which it begins where another one or none is under way. An access to a cell
 /// lies in a page that the link holds before the step: one of a Connect always, one of a Look, Take, Answer or Sleep where
@@ -75,6 +95,7 @@ pub struct Link {
     ghost agrees: { agrees stage kept ≡ true },
     ghost whose: { mapping.dom_of map ≡ dom.0 },
     ghost going: { mapping.is_over map ≡ false },
+    ghost raises: { may_raise stage prod ≡ true },
     ghost writes: { (ring_page.mode ≡ Write) × (event_page.mode ≡ Write) × (mapping.mode_of map ≡ Write) },
 }
 
@@ -192,7 +213,8 @@ impl Link {
 
     // Begins a Connect with the map of this page.
     fn begin(&mut self, gref: GrantRef, stage: Stage)
-        requires { agrees stage kept.Nothing ≡ true }
+        requires agrees { agrees stage kept.Nothing ≡ true }
+        requires raises { may_raise stage self.old.prod ≡ true }
         ensures stage { self.new.stage ≡ stage }
         ensures kept { self.new.kept ≡ kept.Nothing }
         ensures ring { self.new.ring ≡ 0 }
@@ -362,7 +384,7 @@ impl Link {
             Stage::Index => self.rsp_step(words, event),
             Stage::Event => self.event_step(words),
             Stage::Prod => self.prod_step(words),
-            Stage::Rest | Stage::Take | Stage::Answer | Stage::Sleep => match ring {
+            Stage::Rest | Stage::Take | Stage::Answer | Stage::Sleep | Stage::Raise => match ring {
                 Some(gref) => {
                     self.begin(gref, Stage::Ring);
                     self.ring_step(words)

@@ -2,16 +2,22 @@ use Rattle.std.proofs.Common.{None, Option, Some, ap, refl, slice_get, subst, sy
 use Rattle.pv_words.specs.Plan.{Turns}
 use Rattle.ring_words.specs.declared.Looked.{Looked}
 use Rattle.ring_words.specs.declared.Looked.TheVariants as looked
-use Rattle.device_service.specs.Activity.{is_serving}
+use Rattle.device_service.specs.Activity.{is_serving, resting}
 use Rattle.device_service.specs.Parts as of_parts
 use Rattle.device_service.specs.Stand.{dom_of, held_of, parts_of, work_of}
 use Rattle.device_service.specs.Work.{Saw, next_look}
+use Rattle.device_service.proofs.Leaving.{rests_between}
 use Rattle.device_service.proofs.Serving.{in_parts}
 use Rattle.device_service.proofs.Works.{ends_between, saw_said, serving_work, settled_nothing, settled_overrun, settled_ready}
 use Rattle.device_service.proofs.backend.Backend.look.Goals as goal
 
 pub look_step-turn-requires-clause-ringed : goal.look_step-turn-requires-clause-ringed
 look_step-turn-requires-clause-ringed g c = c.args.self.now.kind_is ∙ c.requires.ringed
+
+pub look_step-turn-requires-clause-rests : goal.look_step-turn-requires-clause-rests
+look_step-turn-requires-clause-rests g c =
+    let d = c.args.self.now in
+    rests_between d.activity _ (of_parts.doing_of d.parts) d.at d.hand c.requires.between d.stands ∙ ap resting c.requires.opened
 
 pub returns-in-Nothing-clause-goes : goal.returns-in-Nothing-clause-goes
 unfolding work_of parts_of

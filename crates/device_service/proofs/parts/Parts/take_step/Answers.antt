@@ -37,7 +37,7 @@ invariant_of-self g c =
       | then-is_some w ↦ open_then turn.result.done (doing.Taking k) c.if-is_some.self (sym c.is_some.ensures ∙ w.if-is_some.true) w.self-is
       | else-is_some w ↦ open_else turn.result.done (doing.Taking k) c.if-is_some.self (sym c.is_some.ensures ∙ w.if-is_some.false) w.self-is
     ] in
-    let whole = whole_served p.dom.0 p.ringed p.doing (doing.Taking k) ls k l turn.new.self turn.result.done p.whole refl refl c.requires.part (rung_by p.ringed c.requires.ringed) c.requires.serving at turn.ensures.keeps.dom turn.ensures.keeps.held (ap pages_of turn.ensures.joined) turn.ensures.rests in
+    let whole = whole_served p.dom.0 p.ringed p.doing (doing.Taking k) ls k l turn.new.self turn.result.done p.whole refl refl c.requires.part (λ _. rung_by p.ringed c.requires.ringed) c.requires.serving at turn.ensures.keeps.dom turn.ensures.keeps.held (ap pages_of turn.ensures.joined) turn.ensures.rests in
     record { whole = subst (λ (d : Doing). Whole p.dom.0 p.ringed d (slice_set ls k turn.new.self)) (sym is) whole }
 
 pub returns-clause-turns : goal.returns-clause-turns

@@ -4,6 +4,8 @@ use Rattle.std.specs.Prelude.{ℕ, ◌+◌, ◌*◌, ◌%◌, ◌==◌, nat_lt, 
 use Rattle.pv_words.specs.declared.place.Place.{Place}
 use Rattle.pv_words.specs.Plan.{Plan, Finished, Make, Load, Store, Plain}
 use Rattle.ring_words.specs.Ring.{since, next_index}
+use Rattle.link_core.specs.declared.link.Put.{Put}
+use Rattle.link_core.specs.declared.link.Put.TheVariants as put
 use Rattle.link_core.specs.Activities.{Page, word_of, stores}
 
 -- how many events an event page holds
@@ -14,26 +16,24 @@ slots = 63
 abbrev pub limit : ℕ
 limit = 4294967232
 
--- the event is put; there is no room; or in_cons, the second of the two indices, is false
-pub data Put : Type 0 where
-  Stored : Put
-  Full : Put
-  BadCons : ℕ → ℕ → Put
-
 -- word i of the slot of an event
 abbrev pub event_place : Page → ℕ → ℕ → Place
 event_place page prod i = word_of page (16 + 16 * (prod % slots) + i)
 
 -- store in_prod, which is one more
-abbrev pub publish_plan : Page → ℕ → Plan Put
-publish_plan page prod = Make (Store (word_of page 1) (next_index prod)) Plain (λ _. Finished Stored)
+abbrev pub publish_event : Page → ℕ → Plan Put
+publish_event page prod = Make (Store (word_of page 1) (next_index prod)) Plain (λ _. Finished put.Done)
 
 -- where so many events aren't consumed yet
 abbrev pub raise_in : Page → (prod : ℕ) → List ℕ → (cons : ℕ) → (n : ℕ) → Plan Put
 raise_in page prod words cons n =
-    if nat_lt slots n then Finished (BadCons prod cons)
-    else (if n == slots then Finished Full else stores (event_place page prod) (publish_plan page prod) 0 words)
+    if nat_lt slots n then Finished (put.BadCons prod cons)
+    else (if n == slots then Finished put.Full else stores (event_place page prod) (publish_event page prod) 0 words)
 
 -- load in_cons; store the words of the event, then publish it
+abbrev pub put_plan : Page → (prod : ℕ) → List ℕ → Plan Put
+put_plan page prod words = Make (Load (word_of page 0)) Plain (λ cons. raise_in page prod words cons (since cons prod))
+
+-- a spent in_prod ends it without an access
 abbrev pub raise_plan : Page → (prod : ℕ) → List ℕ → Plan Put
-raise_plan page prod words = Make (Load (word_of page 0)) Plain (λ cons. raise_in page prod words cons (since cons prod))
+raise_plan page prod words = if nat_lt prod limit then put_plan page prod words else Finished (put.Spent prod)

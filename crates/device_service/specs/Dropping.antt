@@ -1,15 +1,2 @@
 -- Pages that are given up, one after another.
-use Rattle.std.specs.Prelude.{◌≡◌, List, [], ◌∷◌}
-use Rattle.pv_words.specs.declared.access.Access.{Access}
-use Rattle.pv_words.specs.declared.grant.Hold.{Hold}
-use Rattle.pv_words.specs.Plan.{Want, wanted}
-use Rattle.pv_words.specs.Mapping.{unmap_want}
-
--- the first of these pages may be unmapped, and it is
-abbrev pub MayDrop : (Want → Type 0) → List Hold → Type 0
-MayDrop may [] = Unit {0}
-MayDrop may (h ∷ hs) = may (unmap_want h)
-
-abbrev pub Drops : List Hold → Access → List Hold → Type 0
-Drops [] a left = ⊥
-Drops (h ∷ hs) a left = (wanted a ≡ unmap_want h) × (left ≡ hs)
+pub use Rattle.pv_words.specs.Release.{Drops, MayDrop}

@@ -96,6 +96,13 @@ impl<P: PageList + Drop> Buffers<P> {
         Some(live.pages)
     }
 
+    /// Takes all buffers away.
+    pub fn clear(&mut self)
+        ensures { self.new ≡ [] }
+    {
+        self.table.clear();
+    }
+
     /// The buffer of a cookie; None where the cookie isn't live.
     pub fn get(&self, cookie: u64) -> Option<Buffer>
         ensures value { result ≡ option_map (λ b. b.buffer) (buffer_of cookie self.now) }

@@ -6,8 +6,9 @@ use Rattle.pv_words.specs.declared.grant.Hold.{Hold}
 use Rattle.pv_words.specs.declared.grant.Mode.TheVariants.{Write}
 use Rattle.pv_words.specs.declared.place.Place.{Place}
 use Rattle.pv_words.specs.declared.place.Place.TheVariants.{Cell}
-use Rattle.pv_words.specs.Plan.{Plan, Finished, Make, Load, Store, Plain, Ends, joined}
-use Rattle.pv_words.specs.Mapping.{map_plan, unmap_want}
+use Rattle.pv_words.specs.Plan.{Plan, Finished, Make, Load, Store, Plain, joined}
+use Rattle.pv_words.specs.Mapping.{map_plan}
+pub use Rattle.pv_words.specs.Release.{unmaps}
 use Rattle.ring_words.specs.declared.Looked.{Looked}
 use Rattle.ring_words.specs.Ring.{looked_of, next_index, notifies, slot_of}
 
@@ -115,8 +116,3 @@ with_ring frames grants dom event (Err r) = Finished (Refuses [] r)
 abbrev pub connect_plan : (frames grants dom : ℕ) → Option ℕ → ℕ → Plan Connected
 connect_plan frames grants dom None event = event_map_plan frames grants dom event None 0
 connect_plan frames grants dom (Some ring) event = joined (map_plan frames grants dom ring Write) (with_ring frames grants dom event)
-
--- unmap these pages, in order
-abbrev pub unmaps : {A : Type 0} → List Hold → Plan A → Plan A
-unmaps [] more = more
-unmaps (h ∷ hs) more = Make (unmap_want h) (Ends h) (λ _. unmaps hs more)

@@ -5,6 +5,7 @@ pub mod Heads
 pub mod Helds
 pub mod Plans
 pub mod Readings
+pub mod Releases
 pub mod Transitions
 pub mod WalkAlong
 pub mod Shown

@@ -2,6 +2,7 @@ pub mod Changes
 pub mod Joins
 pub mod Laws
 pub mod Reading
+pub mod Release
 pub mod Same
 pub mod Stages
 pub mod WalkLeft

@@ -12,6 +12,7 @@ use Rattle.pv_words.specs.declared.grant.GrantRefusal.{GrantRefusal}
 use Rattle.pv_words.specs.declared.grant.GrantRefusal.TheVariants.{NoNext}
 use Rattle.pv_words.specs.Plan.{Plan, Finished, Make, Load, Plain, Ends}
 use Rattle.pv_words.specs.Mapping.{map_plan, unmap_want}
+use Rattle.pv_words.specs.Release.{unmaps}
 use Rattle.page_directory.specs.declared.walk.Walked.{Walked}
 use Rattle.page_directory.specs.declared.walk.Walked.TheVariants.{Pages, Refused}
 use Rattle.pv_words.specs.Plan.{joined}
@@ -30,8 +31,7 @@ word_in h w = Cell h.dom h.frame w
 
 -- these pages are unmapped, in this order, and the walk is refused
 abbrev pub undo_plan : List Hold → GrantRefusal → Plan Walked
-undo_plan [] refusal = Finished (Refused refusal)
-undo_plan (h ∷ hs) refusal = Make (unmap_want h) (Ends h) (λ _. undo_plan hs refusal)
+undo_plan hs refusal = unmaps hs (Finished (Refused refusal))
 
 -- what a map leads to, where the walk holds these pages: it goes on, or is undone
 abbrev pub with_map : List Hold → (Hold → Plan Walked) → Result Hold GrantRefusal → Plan Walked

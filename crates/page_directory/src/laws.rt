@@ -2,6 +2,7 @@
 
 ghost use Rattle.page_directory.specs.Laws.{HoldsThroughout, WalksExactly, WalksShow};
 ghost use Rattle.page_directory.specs.Reading.{ReadsExactly};
+ghost use Rattle.page_directory.specs.Release.{ReleasesInOrder};
 
 /// Whatever words a walk finds, a device that held some pages before holds beside them, where the walk ends with its
 /// pages, just these, which are as many of the domain's as were asked for; and just what it held before where the walk is
@@ -22,4 +23,9 @@ pub fn walks_exactly()
 /// last.
 pub fn reads_exactly()
     ensures { ReadsExactly }
+{}
+
+/// A device that gives up the pages of a list, one after another, unmaps them in their order, whatever it does behind them.
+pub fn releases_in_order<A>()
+    ensures { ReleasesInOrder A }
 {}

@@ -4,10 +4,12 @@
 
 pub mod laws;
 pub mod pages;
+pub mod release;
 pub mod walk;
 
-pub use laws::{reads_exactly, walks_exactly};
+pub use laws::{reads_exactly, releases_in_order, walks_exactly};
 pub use pages::Pages;
+pub use release::Release;
 pub use walk::{Walk, Walked};
 
 #[cfg(test)]

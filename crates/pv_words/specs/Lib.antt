@@ -16,5 +16,6 @@ pub mod Memory
 pub mod Place
 pub mod Plan
 pub mod Port
+pub mod Release
 pub mod Room
 pub mod Sizes

@@ -60,10 +60,7 @@ impl Journal {
         ensures pushed { self.new.entries ≡ self.old.entries ++ entry ∷ [] }
         ensures room { self.old.spare ≤ self.new.spare + 1 }
     {
-        match self.entries.push(entry) {
-            Ok(()) => {}
-            Err(_) => unreachable!(),
-        }
+        self.entries.push_reserved(entry);
     }
 
     /// How many entries it has.

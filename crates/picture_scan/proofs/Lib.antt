@@ -1,0 +1,4 @@
+mod Words
+mod Marks
+mod Places
+mod Scans

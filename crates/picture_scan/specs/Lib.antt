@@ -1,0 +1,6 @@
+pub mod Octets
+pub mod Pixels
+pub mod Rectangle
+pub mod Scan
+pub mod Scanning
+pub mod Steps

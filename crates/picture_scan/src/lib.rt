@@ -1,0 +1,9 @@
+//! A picture is read word by word: the words of a rectangle of a buffer, one load a step, with no copy.
+#![tactic(auto)]
+
+mod pixels;
+mod scan;
+mod shape;
+
+pub use scan::{Scan, Shown};
+pub use shape::Shape;

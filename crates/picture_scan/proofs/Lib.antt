@@ -1,4 +1,6 @@
-mod Words
+mod Cells
 mod Marks
 mod Places
 mod Scans
+mod Showing
+mod Words

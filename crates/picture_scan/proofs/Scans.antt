@@ -1,18 +1,17 @@
 -- What is left of a scan, a word at a time.
-use Rattle.std.proofs.Common.{◌≡◌, ℕ, zero, suc, ◌+◌, ◌-◌, ◌*◌, ◌/◌, ◌%◌, ◌<◌, ◌≤◌, min, Bool, true, false, Option, Some, None, List, [], ◌∷◌, ◌++◌, length, take, drop, refl, sym, ◌∙◌, ap, subst, arith}
+use Rattle.std.proofs.Common.{◌≡◌, ℕ, zero, suc, ◌+◌, ◌-◌, ◌/◌, ◌%◌, ◌<◌, ◌≤◌, min, Bool, true, false, Option, Some, None, List, [], ◌∷◌, length, take, drop, refl, sym, ◌∙◌, ap, subst, arith}
 use Rattle.std.specs.List.{fold}
 use Rattle.std.proofs.lemmas.List.Sums.{fold-append}
 use Rattle.pv_words.proofs.Plans.{goes_from}
 use Rattle.pv_words.specs.declared.access.Access.TheVariants as access
 use Rattle.pv_words.specs.declared.grant.Hold.{Hold}
-use Rattle.pv_words.specs.Mark.{mark_after}
 use Rattle.pv_words.specs.Plan.{Plan, Make, Load, Takes, IsUnfinished, Turns}
 use Rattle.picture_scan.specs.declared.pixels.Pixels.{Pixels}
 use Rattle.picture_scan.specs.declared.scan.Shown.{Shown}
 use Rattle.picture_scan.specs.declared.shape.Shape.{Shape}
 use Rattle.picture_scan.specs.Octets.{octets_in, octets_of, words_of}
 use Rattle.picture_scan.specs.Pixels.{begun, fed}
-use Rattle.picture_scan.specs.Rectangle.{is_depth, pixel_octets, row_first, row_octets, row_pixels, row_words}
+use Rattle.picture_scan.specs.Rectangle.{is_depth, pixel_octets, row_first, row_octets, row_words}
 use Rattle.picture_scan.specs.Scan.{left_in}
 use Rattle.picture_scan.specs.Scanning.{rows_plan, take_words, word_place}
 use Rattle.picture_scan.proofs.Marks.{marks_row}

@@ -1,7 +1,7 @@
 -- What is left of a scan.
-use Rattle.std.specs.Prelude.{◌≡◌, ℕ, ◌+◌, ◌*◌, ◌≤◌, Bool, true, false, List, length, fold}
+use Rattle.std.specs.Prelude.{ℕ, ◌+◌, ◌*◌, Bool, true, false, List, length, fold}
 use Rattle.pv_words.specs.declared.grant.Hold.{Hold}
-use Rattle.pv_words.specs.Plan.{Plan, Finished}
+use Rattle.pv_words.specs.Plan.{Plan}
 use Rattle.picture_scan.specs.declared.pixels.Pixels.{Pixels}
 use Rattle.picture_scan.specs.declared.scan.Scan.{Scan}
 use Rattle.picture_scan.specs.declared.scan.Shown.{Shown}

@@ -1,8 +1,7 @@
 -- What a word that was loaded makes of a scan.
-use Rattle.std.specs.Prelude.{◌≡◌, ℕ, ◌+◌, ◌/◌, ◌%◌, ◌<◌, List, Option, Some, None, is_some, length}
+use Rattle.std.specs.Prelude.{◌≡◌, ℕ, ◌+◌, ◌/◌, ◌<◌, List, Option, Some, None, is_some, length}
 use Rattle.pv_words.specs.declared.access.Access.{Access}
 use Rattle.pv_words.specs.declared.access.Access.TheVariants as access
-use Rattle.pv_words.specs.declared.access.Turn.{Turn}
 use Rattle.pv_words.specs.declared.grant.Hold.{Hold}
 use Rattle.pv_words.specs.Plan.{Plan, Finished, IsUnfinished, Turns}
 use Rattle.picture_scan.specs.declared.scan.Scan.{Scan}

@@ -1,7 +1,7 @@
-use Rattle.std.proofs.Common.{◌≡◌, ◌+◌, ◌/◌, ◌%◌, ◌<◌, ℕ, false, Some, refl, sym, ◌∙◌, ap, subst, arith, length}
+use Rattle.std.proofs.Common.{◌≡◌, ◌+◌, ◌/◌, false, Some, sym, ◌∙◌, ap, subst, arith}
 use Rattle.pv_words.specs.declared.access.Access.TheVariants as access
 use Rattle.pv_words.specs.declared.place.Place.{Place}
-use Rattle.pv_words.specs.Plan.{Load, Takes, MayGo, Turns}
+use Rattle.pv_words.specs.Plan.{Load, Takes, Turns}
 use Rattle.pv_words.proofs.Plans.{may_from}
 use Rattle.picture_scan.specs.Scan.{is_over, left_in, left_of, shape_of}
 use Rattle.picture_scan.specs.Scanning.{word_place}

@@ -9,3 +9,6 @@ mod shape;
 pub use laws::shows_exactly;
 pub use scan::{Scan, Shown};
 pub use shape::Shape;
+
+#[cfg(test)]
+mod tests;

@@ -1,0 +1,6 @@
+mod Cells
+mod Marks
+mod Places
+mod Scans
+mod Showing
+mod Words

@@ -1,0 +1,7 @@
+pub mod Laws
+pub mod Octets
+pub mod Pixels
+pub mod Rectangle
+pub mod Scan
+pub mod Scanning
+pub mod Steps

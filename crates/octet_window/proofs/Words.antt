@@ -4,7 +4,7 @@ use Rattle.std.specs.List.{flat_map, range_with_len}
 use Rattle.std.proofs.lemmas.List.{drop-append-le, take-append-le, length-append, length-take, length-drop}
 use Rattle.std.proofs.lemmas.List.FromFn.{length-range_with_len}
 use Rattle.std.proofs.Math.Seq.{take-append-add, take-length}
-use Rattle.picture_scan.specs.Octets.{octets_in, octets_of, words_of}
+use Rattle.octet_window.specs.Octets.{octets_in, octets_of, words_of}
 
 range_one : (a n : ℕ) → n ≡ 1 → range_with_len a n ≡ a ∷ []
 range_one a n e = ap (range_with_len a) e

@@ -1,5 +1,5 @@
 -- What the pieces of a range come to.
-use Rattle.std.proofs.Common.{◌≡◌, ℕ, zero, suc, ◌+◌, ◌-◌, ◌*◌, ◌/◌, ◌%◌, ◌<◌, ◌≤◌, ◌⊎◌, min, List, [], ◌∷◌, ◌++◌, length, take, drop, refl, sym, ◌∙◌, ap, append-nil, append_assoc, subst, arith, inl, inr}
+use Rattle.std.proofs.Common.{◌≡◌, ℕ, zero, suc, ◌+◌, ◌-◌, ◌*◌, ◌/◌, ◌%◌, ◌≤◌, ◌⊎◌, min, List, [], ◌∷◌, ◌++◌, length, take, drop, refl, sym, ◌∙◌, ap, append-nil, append_assoc, subst, arith, inl, inr}
 use Rattle.std.specs.List.{AllByRecursion, flat_map, range_with_len}
 use Rattle.std.proofs.lemmas.List.{drop_all, nil_from_length, take-append-drop, take-append-le, length-drop}
 use Rattle.std.proofs.Math.Seq.{drop-append-add, drop-nil, take-length, take-nil}
@@ -7,7 +7,7 @@ use Rattle.pv_words.specs.declared.grant.Hold.{Hold}
 use Rattle.octet_window.specs.declared.piece.Piece.{Piece}
 use Rattle.octet_window.specs.Laws.{AreBlended, AreFound, BlendsRange, CoversRange, IsInPages, JoinsRange, LiesInPages, joined}
 use Rattle.octet_window.specs.Octets.{octets_in, octets_of, words_of}
-use Rattle.octet_window.specs.Parts.{blended, part_of}
+use Rattle.octet_window.specs.Parts.{blended}
 use Rattle.octet_window.specs.Pieces.{octets_at, pieces_in}
 use Rattle.octet_window.proofs.Walks.{IsNext, next_is, piece, pieces_next, pieces_none, words_next}
 use Rattle.octet_window.proofs.Words.{octets_last, octets_more}

@@ -1,15 +1,15 @@
 -- The pieces of a range, one after another.
-use Rattle.std.proofs.Common.{◌≡◌, ℕ, zero, suc, ◌+◌, ◌-◌, ◌*◌, ◌/◌, ◌%◌, ◌<◌, ◌≤◌, ◌⊎◌, min, List, [], ◌∷◌, ◌++◌, Some, slice_get, length, map, take, drop, refl, sym, ◌∙◌, ap, append-nil, subst, arith, inl, inr}
+use Rattle.std.proofs.Common.{◌≡◌, ℕ, zero, suc, ◌+◌, ◌-◌, ◌*◌, ◌/◌, ◌%◌, ◌<◌, ◌≤◌, ◌⊎◌, min, List, [], ◌∷◌, Some, slice_get, map, refl, sym, ◌∙◌, ap, arith, inl, inr}
 use Rattle.std.proofs.lemmas.Bool.{cases_lt}
-use Rattle.std.specs.List.{flat_map, range_with_len}
+use Rattle.std.specs.List.{range_with_len}
 use Rattle.pv_words.specs.declared.grant.Hold.{Hold}
 use Rattle.pv_words.specs.declared.place.Place.TheVariants.{Cell}
 use Rattle.octet_window.specs.declared.piece.Piece.{Piece}
-use Rattle.octet_window.specs.Octets.{octets_in, octets_of, words_of}
+use Rattle.octet_window.specs.Octets.{words_of}
 use Rattle.octet_window.specs.Pages.{word_place}
 use Rattle.octet_window.specs.Pieces.{piece_of, pieces_in}
 use Rattle.octet_window.proofs.Pages.{place_is}
-use Rattle.octet_window.proofs.Words.{octets_last, octets_more, words_last, words_more}
+use Rattle.octet_window.proofs.Words.{words_last, words_more}
 
 -- the next piece of a range has so many octets
 pub record IsNext (octet more len rest : ℕ) : Type 0 where

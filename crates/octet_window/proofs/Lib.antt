@@ -1,5 +1,5 @@
 mod Blends
 pub mod Pages
 mod Ranges
-mod Walks
+pub mod Walks
 pub mod Words

@@ -21,7 +21,9 @@ pub record IsInPages (pages : List Hold) (p : Piece) : Type 0 where
 
 -- The pieces of a range that lies in the pages are of words of the pages.
 abbrev pub LiesInPages : Type 0
-LiesInPages = (pages : List Hold) (first count : ℕ) → first + count ≤ 4096 * length pages → AllByRecursion (IsInPages pages) (pieces_in pages first count)
+LiesInPages =
+    (pages : List Hold) (first count : ℕ) → first + count ≤ 4096 * length pages
+    → AllByRecursion (IsInPages pages) (pieces_in pages first count)
 
 -- all words of a range were found
 abbrev pub AreFound : (first count : ℕ) → List ℕ → Type 0
@@ -35,7 +37,9 @@ joined (p ∷ ps) (v ∷ vs) = part_of p v ++ joined ps vs
 
 -- What is found for the pieces joins to the octets of the range.
 abbrev pub JoinsRange : Type 0
-JoinsRange = (pages : List Hold) (first count : ℕ) (words : List ℕ) → AreFound first count words → joined (pieces_in pages first count) words ≡ octets_in first count words
+JoinsRange =
+    (pages : List Hold) (first count : ℕ) (words : List ℕ) → AreFound first count words
+    → joined (pieces_in pages first count) words ≡ octets_in first count words
 
 -- piece by piece, the next of these octets were blended into the words, which are then those
 abbrev pub AreBlended : List Piece → (words octets then : List ℕ) → Type 0

@@ -13,7 +13,11 @@ returns c =
     let n : p.first + p.len - p.first ≡ p.len = omega arith in
     let four : length octets ≡ 4 = search rules in
     le_bytes_4 (put_mid p.first (p.first + p.len - p.first) all new) c.from_le_bytes.result
-    (put_length p.first p.len (p.first + p.len - p.first) c.args.word all new octets c.requires four n c.to_le_bytes-all.ensures c.copy_from_slice.ensures.after)
-    (put_small p.first p.len (p.first + p.len - p.first) c.args.word all new octets c.requires four n c.to_le_bytes-all.ensures c.copy_from_slice.ensures.after (search rules))
+    (put_length p.first p.len
+    (p.first + p.len - p.first) c.args.word all new octets c.requires four n c.to_le_bytes-all.ensures c.copy_from_slice.ensures.after)
+    (put_small p.first p.len
+    (p.first + p.len - p.first) c.args.word all new octets c.requires four n c.to_le_bytes-all.ensures c.copy_from_slice.ensures.after
+    (search rules))
     c.from_le_bytes.ensures
-    ∙ put_is p c.args.word octets (p.first + p.len - p.first) all new c.requires four n c.to_le_bytes-all.ensures c.copy_from_slice.ensures.after
+    ∙ put_is p c.args.word octets
+    (p.first + p.len - p.first) all new c.requires four n c.to_le_bytes-all.ensures c.copy_from_slice.ensures.after

@@ -14,11 +14,13 @@ pub returns-clause-steps : goal.returns-clause-steps
 returns-clause-steps g c =
     let w = c.self.inside in
     let pages = g.P.PageList.holds w.pages.now in
-    sym c.self.view_is ∙ steps_on pages w.octet w.more c.min-len.result c.from.result c.get-page.result (omega (arith, c.if-self-eq0.false)) c.min-len.ensures c.from.ensures c.get-page.ensures
+    sym c.self.view_is ∙ steps_on pages w.octet w.more c.min-len.result c.from.result c.get-page.result
+    (omega (arith, c.if-self-eq0.false)) c.min-len.ensures c.from.ensures c.get-page.ensures
 
 pub returns-clause-goes : goal.returns-clause-goes
 returns-clause-goes g c =
     let w = c.self.inside in
     let pages = g.P.PageList.holds w.pages.now in
-    let step = sym c.self.view_is ∙ steps_on pages w.octet w.more c.min-len.result c.from.result c.get-page.result (omega (arith, c.if-self-eq0.false)) c.min-len.ensures c.from.ensures c.get-page.ensures in
+    let step = sym c.self.view_is ∙ steps_on pages w.octet w.more c.min-len.result c.from.result c.get-page.result
+    (omega (arith, c.if-self-eq0.false)) c.min-len.ensures c.from.ensures c.get-page.ensures in
     record { on = λ h. (tt, tt, omega (arith, ap length step)); keeps = tt; rests = λ h. tt }

@@ -4,8 +4,8 @@ use Rattle.std.specs.List.{AllByRecursion, range_with_len}
 use Rattle.pv_words.specs.declared.grant.Hold.{Hold}
 use Rattle.pv_words.specs.declared.place.Place.{Place}
 use Rattle.device_core.specs.Names.{cells_from, cells_of}
-use Rattle.picture_scan.specs.Octets.{words_of}
-use Rattle.picture_scan.specs.Scanning.{cell_in, no_page, word_place}
+use Rattle.octet_window.specs.Octets.{words_of}
+use Rattle.octet_window.specs.Pages.{cell_in, no_page, word_place}
 
 cells_length : (h : Hold) (w n : ℕ) → length (cells_from h w n) ≡ n
 unfolding cells_from

@@ -1,6 +1,5 @@
 mod Cells
 mod Marks
-mod Places
+mod Rows
 mod Scans
 mod Showing
-mod Words

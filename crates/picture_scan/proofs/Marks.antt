@@ -4,10 +4,10 @@ use Rattle.std.proofs.lemmas.Bool.Decides.{nat_tests}
 use Rattle.std.specs.List.{fold}
 use Rattle.pv_words.specs.Mark.{mark_after}
 use Rattle.picture_scan.specs.declared.shape.Shape.{Shape}
-use Rattle.picture_scan.specs.Octets.{number_of, octets_in}
+use Rattle.octet_window.specs.Octets.{number_of, octets_in}
 use Rattle.picture_scan.specs.Pixels.{begun, fed, grown}
 use Rattle.picture_scan.specs.Rectangle.{is_depth, pixel_octets, pixels_in, row_first, row_octets, row_pixels, row_words}
-use Rattle.picture_scan.proofs.Words.{length_range}
+use Rattle.octet_window.proofs.Words.{length_range}
 
 mark_two : (n mark : ℕ) (octets : List ℕ) → length octets ≡ n * 2 → fold fed (begun 2 mark) octets ≡ begun 2 (fold mark_after mark (pixels_in 2 n octets))
 mark_two zero mark [] h = refl

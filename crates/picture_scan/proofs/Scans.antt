@@ -9,14 +9,15 @@ use Rattle.pv_words.specs.Plan.{Plan, Make, Load, Takes, IsUnfinished, Turns}
 use Rattle.picture_scan.specs.declared.pixels.Pixels.{Pixels}
 use Rattle.picture_scan.specs.declared.scan.Shown.{Shown}
 use Rattle.picture_scan.specs.declared.shape.Shape.{Shape}
-use Rattle.picture_scan.specs.Octets.{octets_in, octets_of, words_of}
+use Rattle.octet_window.specs.Octets.{octets_in, octets_of, words_of}
 use Rattle.picture_scan.specs.Pixels.{begun, fed}
 use Rattle.picture_scan.specs.Rectangle.{is_depth, pixel_octets, row_first, row_octets, row_words}
 use Rattle.picture_scan.specs.Scan.{left_in}
-use Rattle.picture_scan.specs.Scanning.{rows_plan, take_words, word_place}
+use Rattle.octet_window.specs.Pages.{word_place}
+use Rattle.picture_scan.specs.Scanning.{rows_plan, take_words}
 use Rattle.picture_scan.proofs.Marks.{marks_row}
 use Rattle.picture_scan.specs.Steps.{IsLeft}
-use Rattle.picture_scan.proofs.Words.{octets_last, octets_more, words_last, words_more, words_some}
+use Rattle.octet_window.proofs.Words.{octets_last, octets_more, words_last, words_more, words_some}
 
 -- loads that lead on alike, where as many words are found
 take_same : {A : Type 0} (pages : List Hold) (key : ℕ) (is : List ℕ) (f g : List ℕ → Plan A) → ((vs : List ℕ) → length vs ≡ length is → f vs ≡ g vs) → take_words pages key is f ≡ take_words pages key is g

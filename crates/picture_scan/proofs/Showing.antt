@@ -13,12 +13,13 @@ use Rattle.device_core.specs.Touched.{Carried, Touch, Took, carrying}
 use Rattle.picture_scan.specs.declared.scan.Shown.{Shown}
 use Rattle.picture_scan.specs.declared.shape.Shape.{Shape}
 use Rattle.picture_scan.specs.Laws.{AreRead, HasHeld, HasShown, IsTaking, ShowsExactly, taken}
-use Rattle.picture_scan.specs.Octets.{octets_in}
+use Rattle.octet_window.specs.Octets.{octets_in}
 use Rattle.picture_scan.specs.Rectangle.{pixel_octets, pixels_in, row_first, row_octets, row_pixels, row_words}
 use Rattle.picture_scan.specs.Scan.{LiesIn}
-use Rattle.picture_scan.specs.Scanning.{rows_plan, scan_plan, take_words, word_place}
+use Rattle.octet_window.specs.Pages.{word_place}
+use Rattle.picture_scan.specs.Scanning.{rows_plan, scan_plan, take_words}
 use Rattle.picture_scan.proofs.Cells.{AreCells, words_cells}
-use Rattle.picture_scan.proofs.Places.{row_inside}
+use Rattle.picture_scan.proofs.Rows.{row_inside}
 
 count_pixels : (size n : ℕ) (octets : List ℕ) → length (pixels_in size n octets) ≡ n
 count_pixels size zero octets = refl

@@ -1,5 +1,4 @@
 pub mod Laws
-pub mod Octets
 pub mod Pixels
 pub mod Rectangle
 pub mod Scan

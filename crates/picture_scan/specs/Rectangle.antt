@@ -1,7 +1,7 @@
 -- A rectangle of a buffer: rows of pixels, each of 2, 3 or 4 octets.
 use Rattle.std.specs.Prelude.{◌≡◌, ℕ, zero, suc, ◌+◌, ◌*◌, ◌/◌, ◌<◌, ◌≤◌, ◌==◌, ◌||◌, Bool, true, List, [], ◌∷◌, take, drop}
 use Rattle.picture_scan.specs.declared.shape.Shape.{Shape}
-use Rattle.picture_scan.specs.Octets.{number_of, octets_in, words_of}
+use Rattle.octet_window.specs.Octets.{number_of, octets_in, words_of}
 
 abbrev pub is_depth : ℕ → Bool
 is_depth bpp = (bpp == 16) || ((bpp == 24) || (bpp == 32))

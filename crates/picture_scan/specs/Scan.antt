@@ -6,7 +6,7 @@ use Rattle.picture_scan.specs.declared.pixels.Pixels.{Pixels}
 use Rattle.picture_scan.specs.declared.scan.Scan.{Scan}
 use Rattle.picture_scan.specs.declared.scan.Shown.{Shown}
 use Rattle.picture_scan.specs.declared.shape.Shape.{Shape}
-use Rattle.picture_scan.specs.Octets.{octets_in, words_of}
+use Rattle.octet_window.specs.Octets.{octets_in, words_of}
 use Rattle.picture_scan.specs.Pixels.{fed}
 use Rattle.picture_scan.specs.Rectangle.{IsWithin}
 use Rattle.picture_scan.specs.Scanning.{rows_plan, take_words}

@@ -1,26 +1,13 @@
 -- How a rectangle of a buffer is read: for each of its rows in order, a load of each word that has an octet of the row's pixels, in
 -- order. A word that two rows share is loaded in each.
-use Rattle.std.specs.Prelude.{ℕ, zero, suc, ◌+◌, ◌*◌, ◌/◌, ◌%◌, List, [], ◌∷◌, fold, slice_index_or}
+use Rattle.std.specs.Prelude.{ℕ, zero, suc, ◌+◌, ◌*◌, List, [], ◌∷◌, fold}
 use Rattle.pv_words.specs.declared.grant.Hold.{Hold}
-use Rattle.pv_words.specs.declared.grant.Mode.TheVariants.{Read}
-use Rattle.pv_words.specs.declared.place.Place.{Place}
-use Rattle.pv_words.specs.declared.place.Place.TheVariants.{Cell}
 use Rattle.pv_words.specs.Mark.{mark_after}
 use Rattle.pv_words.specs.Plan.{Plan, Finished, Make, Load, Takes}
+use Rattle.octet_window.specs.Pages.{word_place}
 use Rattle.picture_scan.specs.declared.scan.Shown.{Shown}
 use Rattle.picture_scan.specs.declared.shape.Shape.{Shape}
 use Rattle.picture_scan.specs.Rectangle.{row_pixels, row_words}
-
--- a page that stands for one that isn't there
-abbrev pub no_page : Hold
-no_page = record { dom = record { 0 = 0 }; gref = record { 0 = 0 }; frame = record { 0 = 0 }; mode = Read }
-
-abbrev pub cell_in : Hold → ℕ → Place
-cell_in h w = Cell h.dom h.frame w
-
--- word i of a buffer with these pages: word i mod 1024 of page i / 1024
-abbrev pub word_place : List Hold → ℕ → Place
-word_place pages i = cell_in (slice_index_or pages (i / 1024) no_page) (i % 1024)
 
 -- these words are loaded in order, each for the name of this key, and what they are leads on
 abbrev pub take_words : {A : Type 0} → List Hold → (key : ℕ) → List ℕ → (List ℕ → Plan A) → Plan A

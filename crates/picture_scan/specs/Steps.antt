@@ -7,7 +7,8 @@ use Rattle.pv_words.specs.Plan.{Plan, Finished, IsUnfinished, Turns}
 use Rattle.picture_scan.specs.declared.scan.Scan.{Scan}
 use Rattle.picture_scan.specs.declared.scan.Shown.{Shown}
 use Rattle.picture_scan.specs.Scan.{key_of, left_of, shape_of, is_over}
-use Rattle.picture_scan.specs.Scanning.{rows_plan, word_place}
+use Rattle.octet_window.specs.Pages.{word_place}
+use Rattle.picture_scan.specs.Scanning.{rows_plan}
 
 -- a load of this word, of the word of a buffer with these pages that is next, leads on so
 abbrev pub TurnsBy : List Hold → (index word : ℕ) → (old : Scan) → Option Shown → (new : Scan) → Type 0

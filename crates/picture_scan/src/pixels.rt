@@ -1,7 +1,7 @@
 // Octets are put together to pixels, and pixels to their mark.
 
 ghost use Rattle.std.specs.Prelude.{◌≡◌, ◌+◌, ◌≤◌, fold, take, drop};
-ghost use Rattle.picture_scan.specs.Octets.{octets_of};
+ghost use Rattle.octet_window.specs.Octets.{octets_of};
 ghost use Rattle.picture_scan.specs.Pixels.{begun, fed};
 
 use pv_words::next_mark;

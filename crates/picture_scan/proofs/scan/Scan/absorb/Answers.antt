@@ -2,7 +2,7 @@ use Rattle.std.proofs.Common.{◌≡◌, ◌+◌, ◌-◌, ◌/◌, false, Bool,
 use Rattle.pv_words.specs.declared.access.Access.TheVariants as access
 use Rattle.pv_words.specs.Plan.{Turns}
 use Rattle.picture_scan.specs.Scan.{is_over, left_in, left_of}
-use Rattle.picture_scan.specs.Scanning.{word_place}
+use Rattle.octet_window.specs.Pages.{word_place}
 use Rattle.picture_scan.proofs.Scans.{turns_more, turns_last}
 use Rattle.picture_scan.proofs.scan.Scan.absorb.Goals as goal
 

@@ -1,6 +1,6 @@
 use Rattle.std.proofs.Common.{◌≡◌, ◌+◌, ◌-◌, false, arith}
 use Rattle.picture_scan.specs.Scan.{is_over, left_of}
-use Rattle.picture_scan.proofs.Places.{row_inside, row_some}
+use Rattle.picture_scan.proofs.Rows.{row_inside, row_some}
 use Rattle.picture_scan.proofs.Scans.{row_same, some_left}
 use Rattle.picture_scan.proofs.scan.Scan.end_row.Goals as goal
 

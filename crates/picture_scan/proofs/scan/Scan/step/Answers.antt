@@ -4,8 +4,8 @@ use Rattle.pv_words.specs.declared.place.Place.{Place}
 use Rattle.pv_words.specs.Plan.{Load, Takes, Turns}
 use Rattle.pv_words.proofs.Plans.{may_from}
 use Rattle.picture_scan.specs.Scan.{is_over, left_in, left_of, shape_of}
-use Rattle.picture_scan.specs.Scanning.{word_place}
-use Rattle.picture_scan.proofs.Places.{place_is}
+use Rattle.octet_window.specs.Pages.{word_place}
+use Rattle.octet_window.proofs.Pages.{place_is}
 use Rattle.picture_scan.proofs.Scans.{head_is}
 use Rattle.picture_scan.proofs.scan.Scan.step.Goals as goal
 

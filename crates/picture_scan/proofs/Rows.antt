@@ -1,21 +1,10 @@
--- Where the words of a rectangle stand in the pages.
-use Rattle.std.proofs.Common.{◌≡◌, ℕ, zero, suc, ◌+◌, ◌*◌, ◌/◌, ◌%◌, ◌<◌, ◌≤◌, true, List, [], ◌∷◌, Some, slice_get, slice_index_or, ap, arith}
+-- The rows of a rectangle.
+use Rattle.std.proofs.Common.{◌≡◌, ℕ, ◌+◌, ◌*◌, ◌/◌, ◌<◌, ◌≤◌, true, arith}
 use Rattle.std.proofs.lemmas.Bool.Decides.{nat_tests}
 use Rattle.std.proofs.lemmas.Nat.{mul-le}
 use Rattle.std.proofs.Math.Nat.{mul-le-mul_right}
-use Rattle.pv_words.specs.declared.grant.Hold.{Hold}
-use Rattle.pv_words.specs.declared.place.Place.TheVariants.{Cell}
 use Rattle.picture_scan.specs.declared.shape.Shape.{Shape}
 use Rattle.picture_scan.specs.Rectangle.{is_depth, pixel_octets, row_first, row_octets, rows_octets}
-use Rattle.picture_scan.specs.Scanning.{cell_in, no_page, word_place}
-
-page_at : (pages : List Hold) (i : ℕ) (page : Hold) → slice_get pages i ≡ Some page → page ≡ slice_index_or pages i no_page
-page_at [] i page e = let wrong : ⊥ = cc in absurd wrong
-page_at (p ∷ ps) zero page e = cc
-page_at (p ∷ ps) (suc i) page e = page_at ps i page e
-
-pub place_is : (pages : List Hold) (i : ℕ) (page : Hold) → slice_get pages (i / 1024) ≡ Some page → Cell page.dom page.frame (i % 1024) ≡ word_place pages i
-place_is pages i page e = ap (λ h. cell_in h (i % 1024)) (page_at pages (i / 1024) page e)
 
 -- a row of the rectangle lies in the rows
 pub row_inside : (s : Shape) (row : ℕ) → row < s.y + s.rows → s.x + s.columns ≤ s.width → row_first s row + row_octets s ≤ rows_octets s

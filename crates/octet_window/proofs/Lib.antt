@@ -1,0 +1,5 @@
+mod Blends
+pub mod Pages
+mod Ranges
+pub mod Walks
+pub mod Words

@@ -1,0 +1,5 @@
+pub mod Laws
+pub mod Octets
+pub mod Pages
+pub mod Parts
+pub mod Pieces

@@ -284,6 +284,34 @@ first_settled (kind.Display n) site = record { said = refl; answered = refl }
 pub first_explained : (k : DeviceKind) (site : Site) → IsExplained k site []
 first_explained (kind.Display n) site = tt
 
+-- what came last could come then
+pub along_last : {S E : Type 0} (step : S → E → S) (may : S → E → Type 0) (s : S) (es : List E) (e : E) → Along step may s (es ++ e ∷ []) → may (after step s es) e
+along_last step may s [] e h = h.0
+along_last step may s (x ∷ es) e h = along_last step may (step s x) es e h.1
+
+-- a refusal may come where it is owed alone
+owed_so : (site : Site) (s : Stand DisplayWork DisplayEnd) (r : Option HostRefusal) (why : HostRefusal) → order.MayFollowWith (rules site) s r (Refused why) → r ≡ Some why
+owed_so site s (Some x) why m = ap Some (sym m)
+owed_so site s None why m = refused_never s m
+  where
+    refused_never : (s : Stand DisplayWork DisplayEnd) → order.May (rules site) s (Refused why) → None ≡ Some why
+    refused_never (Between w) m = absurd (begins_never (order.picked (choice display site w) (Refused why)) m)
+      where
+        begins_never : (c : order.Order DisplayWork DisplayEnd) → order.MayBegin (rules site) w c (Refused why) → ⊥
+        begins_never (order.Act v (Finished x)) m = m
+        begins_never (order.Act v (Make want note more)) m = m
+        begins_never (order.Either v p u q) m = m
+        begins_never (order.Rest v) m = m
+    refused_never (order.During w (Finished x)) m = absurd m
+    refused_never (order.During w (Make want note more)) m = absurd m
+    refused_never (order.Telling u w x) m = absurd m
+
+-- so the refusal that came last was owed
+pub refusal_owed : (k : DeviceKind) (site : Site) (es : List Own) (why : HostRefusal) → IsExplained k site (es ++ Refused why ∷ []) → owed_after k site es ≡ Some why
+refusal_owed (kind.Display n) site es why h =
+    let p = display_station site es in
+    owed_so site p.stand p.owes why (along_last (followed (rules site)) (order.MayFollow (rules site)) (first site) es (Refused why) h)
+
 -- a refusal that comes next is the one that is owed
 pub refusal_due : (k : DeviceKind) (site : Site) (es : List Own) (e : HostEvent) (why : HostRefusal) (t : Option Said) (owed : Option HostRefusal) → IsSettled k site es → Continues k site es (Heard (Hosts e) ∷ Refused why ∷ []) → due_after k site (es ++ Heard (Hosts e) ∷ []) ≡ t → owed_after k site (es ++ Heard (Hosts e) ∷ []) ≡ owed → (t ≡ None) × (owed ≡ Some why)
 refusal_due (kind.Display n) site es e why t owed h c d o =
@@ -292,34 +320,14 @@ refusal_due (kind.Display n) site es e why t owed h c d o =
     let is : display_station site (es ++ Heard (Hosts e) ∷ []) ≡ there = station_more site es (Heard (Hosts e) ∷ []) ∙ ap (λ x. followed (rules site) x (Heard (Hosts e))) (station_settled n site es h) in
     let x = subst (λ y. order.IsExplained (rules site) y (Heard (Hosts e) ∷ Refused why ∷ [])) (station_settled n site es h) c in (
       sym d ∙ (ap (λ (y : Station DisplayWork DisplayEnd). due_at y.stand) is ∙ (due_heard (rules site) (display_station site es).stand (Hosts e) ∙ h.said)),
-      sym o ∙ (ap (λ (y : Station DisplayWork DisplayEnd). y.owes) is ∙ owed_so there.stand there.owes x.1.0),
-    ) where
-      owed_so : (s : Stand DisplayWork DisplayEnd) (r : Option HostRefusal) → order.MayFollowWith (rules site) s r (Refused why) → r ≡ Some why
-      owed_so s (Some x) m = ap Some (sym m)
-      owed_so s None m = refused_never s m
-        where
-          refused_never : (s : Stand DisplayWork DisplayEnd) → order.May (rules site) s (Refused why) → None ≡ Some why
-          refused_never (Between w) m = absurd (begins_never (order.picked (choice display site w) (Refused why)) m)
-            where
-              begins_never : (c : order.Order DisplayWork DisplayEnd) → order.MayBegin (rules site) w c (Refused why) → ⊥
-              begins_never (order.Act v (Finished x)) m = m
-              begins_never (order.Act v (Make want note more)) m = m
-              begins_never (order.Either v p u q) m = m
-              begins_never (order.Rest v) m = m
-          refused_never (order.During w (Finished x)) m = absurd m
-          refused_never (order.During w (Make want note more)) m = absurd m
-          refused_never (order.Telling u w x) m = absurd m
+      sym o ∙ (ap (λ (y : Station DisplayWork DisplayEnd). y.owes) is ∙ owed_so site there.stand there.owes why x.1.0),
+    )
 
 pub first_holds : (frames grants : ℕ → ℕ) (s : DeviceSetup) → held_after frames grants s [] ≡ holds_of []
 first_holds frames grants s = ap (λ ms. after (λ h (x : Made). holding frames h x.note x.access) (holds_of []) ms) (none_made s.kind)
   where
     none_made : (k : DeviceKind) → made_after k (site_of frames grants s) [] ≡ []
     none_made (kind.Display n) = refl
-
--- what came last could come then
-pub along_last : {S E : Type 0} (step : S → E → S) (may : S → E → Type 0) (s : S) (es : List E) (e : E) → Along step may s (es ++ e ∷ []) → may (after step s es) e
-along_last step may s [] e h = h.0
-along_last step may s (x ∷ es) e h = along_last step may (step s x) es e h.1
 
 -- what a device does next is one thing, where memory isn't wanting
 pub same_next : (m : Memory) (k : DeviceKind) (site : Site) (es : List Own) (a b : Own) → IsDoing a → IsDoing b → IsExplained k site (es ++ a ∷ []) → IsExplained k site (es ++ b ∷ []) → wants_memory k site es a ≡ false → wants_memory k site es b ≡ false → FindsBy m a → FindsBy m b → a ≡ b

@@ -16,7 +16,7 @@ use Rattle.device_core.specs.Order.{Own}
 use Rattle.backend_core.specs.Marked.{Item, entries, own, own_from, nodes_in, nodes_next}
 use Rattle.backend_core.specs.History.{IsHistory, BelongsIn, IsExplainedIn, IsPromptIn, site_of}
 pub use Rattle.backend_core.specs.History.{IsDirectAt}
-use Rattle.backend_core.specs.Kinds.{Continues, IsExplained, due_after, owed_after}
+use Rattle.backend_core.specs.Kinds.{Continues, IsExplained}
 use Rattle.backend_core.proofs.Items.{entries_append, own_append}
 use Rattle.backend_core.proofs.EachKind.{along_front, continues_append, continues_front}
 

@@ -43,7 +43,7 @@ own_append d nodes (i ∷ m) n =
     let later : List NodeValue = nodes_next d nodes i in
     ap (λ (es : List Own). told_in d nodes i ++ es) (own_append d later m n) ∙ sym (append_assoc (told_in d nodes i) (own_from d later m) (own_from d (after (nodes_next d) later m) n))
 
-chosen : (b : Bool) (xs ys : List Own) → b ≡ true → cond b xs ys ≡ xs
+pub chosen : (b : Bool) (xs ys : List Own) → b ≡ true → cond b xs ys ≡ xs
 chosen true xs ys e = refl
 chosen false xs ys e = let wrong : ⊥ = cc in absurd wrong
 

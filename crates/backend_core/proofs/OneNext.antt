@@ -1,7 +1,8 @@
 -- Behind a journal in which memory wasn't wanting, one item alone may come of a device, and one of a domain's access.
-use Rattle.std.proofs.Common.{◌≡◌, ℕ, ◌==◌, ◌||◌, Bool, true, false, List, [], ◌∷◌, ◌++◌, Some, None, refl, sym, subst, ◌∙◌, ap, append-nil, append_assoc, arith}
+use Rattle.std.proofs.Common.{◌≡◌, ℕ, ◌==◌, ◌||◌, Bool, true, false, List, [], ◌∷◌, ◌++◌, Some, None, refl, sym, subst, ◌∙◌, ap, append-nil, append_assoc, arith, eq-eqb}
 use Rattle.std.proofs.lemmas.Bool.Decides.{nat_tests}
 use Rattle.std.specs.List.{AllByRecursion, list_any}
+use Rattle.pv_words.specs.declared.device.HostRefusal.{HostRefusal}
 use Rattle.pv_words.specs.declared.device.Said.{Said}
 use Rattle.pv_words.specs.declared.device.Said.TheVariants as said
 use Rattle.pv_words.specs.declared.device.NodeValue.{NodeValue}
@@ -13,12 +14,12 @@ use Rattle.pv_words.specs.declared.setup.DeviceSetup.{DeviceSetup}
 use Rattle.pv_words.specs.Memory.{IsLawful, IsTrueOf, access_of, memory_after, remembered, zeros}
 use Rattle.device_core.specs.Order.{Own, Did, Spoke, Rested, Heard, Refused, Others}
 use Rattle.device_core.proofs.Single.{FindsBy, IsDoing}
-use Rattle.backend_core.specs.History.{BelongsIn, IsAmple, IsExplainedIn, IsHistory, IsNoState, is_declared, site_of, wants_in}
-use Rattle.backend_core.specs.Kinds.{IsExplained, wants_memory}
+use Rattle.backend_core.specs.History.{BelongsIn, IsAmple, IsExplainedIn, IsHistory, IsNoState, IsSettledIn, is_declared, site_of, wants_in}
+use Rattle.backend_core.specs.Kinds.{IsExplained, owed_after, wants_memory}
 use Rattle.backend_core.specs.Marked.{Item, Entered, Idle, IsStepOf, entries, entry_of, nodes_in, own, own_from, told_in}
-use Rattle.backend_core.proofs.EachKind.{along_last, same_next}
-use Rattle.backend_core.proofs.Histories.{all_with, history_front, own_is}
-use Rattle.backend_core.proofs.Items.{as_said, dev_same, entries_append, own_step}
+use Rattle.backend_core.proofs.EachKind.{along_last, refusal_owed, same_next}
+use Rattle.backend_core.proofs.Histories.{all_weaker, all_with, history_front, own_is}
+use Rattle.backend_core.proofs.Items.{as_said, chosen, dev_same, entries_append, own_step}
 
 -- an item that the device of this number makes
 abbrev pub IsMade : ℕ → Item → Type 0
@@ -166,3 +167,34 @@ module _ (frames grants : ℕ → ℕ) (devices : List DeviceSetup) where
       same_declared d m (Entered e) j (made_entry devices (record { 0 = d }) e made (all_last (BelongsIn devices) m (Entered e) h.history.belongs)).3 made also h k
   same_made d m (Idle x) (Entered e) made also h k =
       same_declared d m (Idle x) (Entered e) (made_entry devices (record { 0 = d }) e also (all_last (BelongsIn devices) m (Entered e) k.history.belongs)).3 made also h k
+
+  -- the device, if its number is this, owes its host this refusal
+  abbrev Owes : List Item → DevId → HostRefusal → DeviceSetup → Type 0
+  Owes m dev why s = s.dev.0 ≡ dev.0 → owed_after s.kind (site_of frames grants s) (own s.dev.0 m) ≡ Some why
+
+  -- a refusal that came last was owed
+  owed_last : (m : List Item) (dev : DevId) (why : HostRefusal) (s : DeviceSetup) → IsExplainedIn frames grants (m ++ Entered (entry.Refused dev why) ∷ []) s → Owes m dev why s
+  owed_last m dev why s h = λ same.
+      let alone = ap (λ (es : List Own). es ++ []) (chosen (dev.0 == s.dev.0) (Refused why ∷ []) [] (eq-eqb dev.0 s.dev.0 (sym same))) in
+      refusal_owed s.kind (site_of frames grants s) (own s.dev.0 m) why
+      (subst (λ (es : List Own). IsExplained s.kind (site_of frames grants s) es) (own_is frames grants m (Entered (entry.Refused dev why) ∷ []) s ∙ ap (λ (es : List Own). own s.dev.0 m ++ es) alone) h)
+
+  all_owed : (m : List Item) (dev : DevId) (why : HostRefusal) → IsHistory frames grants devices (m ++ Entered (entry.Refused dev why) ∷ []) → AllByRecursion (Owes m dev why) devices
+  all_owed m dev why h =
+      all_weaker (IsExplainedIn frames grants (m ++ Entered (entry.Refused dev why) ∷ [])) (Owes m dev why) (owed_last m dev why) devices h.explained
+
+  -- two refusals of a device that may come next are the same
+  pub same_refusal : (m : List Item) (dev : DevId) (a b : HostRefusal) → IsHistory frames grants devices (m ++ Entered (entry.Refused dev a) ∷ []) → IsHistory frames grants devices (m ++ Entered (entry.Refused dev b) ∷ []) → a ≡ b
+  same_refusal m dev a b h k =
+      let both = all_with (Owes m dev a) (Owes m dev b) (λ s. Owes m dev a s × Owes m dev b s) (λ s x y. (x, y)) devices (all_owed m dev a h) (all_owed m dev b k) in
+      let found = pick (λ s. Owes m dev a s × Owes m dev b s) devices dev.0 (all_last (BelongsIn devices) m (Entered (entry.Refused dev a)) h.belongs) both in
+      let same : Some a ≡ Some b = sym (found.2.0 found.1) ∙ found.2.1 found.1 in
+      cc
+
+  -- and none may come where nothing is owed
+  pub none_owed : (m : List Item) (dev : DevId) (why : HostRefusal) → AllByRecursion (IsSettledIn frames grants m) devices → IsHistory frames grants devices (m ++ Entered (entry.Refused dev why) ∷ []) → ⊥
+  none_owed m dev why settled h =
+      let both = all_with (IsSettledIn frames grants m) (Owes m dev why) (λ s. IsSettledIn frames grants m s × Owes m dev why s) (λ s x y. (x, y)) devices settled (all_owed m dev why h) in
+      let found = pick (λ s. IsSettledIn frames grants m s × Owes m dev why s) devices dev.0 (all_last (BelongsIn devices) m (Entered (entry.Refused dev why)) h.belongs) both in
+      let wrong : None ≡ Some why = sym found.2.0.answered ∙ found.2.1 found.1 in
+      cc

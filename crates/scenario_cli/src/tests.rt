@@ -1,5 +1,6 @@
 // What no clause says: whole scenarios, printed text, and calls that succeed.
 mod displays;
+mod hosts;
 mod running;
 
 use super::*;

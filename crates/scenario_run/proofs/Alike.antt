@@ -2,6 +2,8 @@
 use Rattle.std.proofs.Common.{◌≡◌, ℕ, zero, suc, ◌+◌, ◌<◌, inl, inr, if◌then◌else◌, List, [], ◌∷◌, ◌++◌, Option, Some, None, refl, sym, subst, ◌∙◌, ap, append_assoc, arith}
 use Rattle.pv_words.specs.declared.access.Access.{Access}
 use Rattle.pv_words.specs.declared.access.Access.TheVariants as access
+use Rattle.pv_words.specs.declared.device.HostEvent.{HostEvent}
+use Rattle.pv_words.specs.declared.device.HostRefusal.{HostRefusal}
 use Rattle.pv_words.specs.declared.device.Said.{Said}
 use Rattle.pv_words.specs.declared.entry.Entry.{Entry}
 use Rattle.pv_words.specs.declared.entry.Entry.TheVariants as entry
@@ -14,15 +16,15 @@ use Rattle.pv_words.specs.Plan.{Plan, Finished, Make, Goes, seen_by, wanted}
 use Rattle.pv_words.specs.Sizes.{frames_by, grants_by}
 use Rattle.grant_table.specs.declared.owner.Owned.{Owned}
 use Rattle.scenario_text.specs.declared.statement.Statement.{Statement}
-use Rattle.scenario_text.specs.declared.statement.Statement.TheVariants.{Put, Fill, Swap, Open, End, Node, Bus, Wake, Back, Serve}
+use Rattle.scenario_text.specs.declared.statement.Statement.TheVariants.{Put, Fill, Swap, Open, End, Node, Bus, Wake, Host, Back, Serve}
 use Rattle.device_core.proofs.Single.{found_same}
 use Rattle.backend_core.specs.History.{due_by}
-use Rattle.backend_core.specs.Marked.{Item, Entered, Idle, AreSteps, accesses_in, entries, is_access}
+use Rattle.backend_core.specs.Marked.{Item, Entered, Idle, AreSteps, accesses_in, entries, host_items, is_access}
 use Rattle.backend_core.proofs.Items.{access_first, rest_of}
-use Rattle.backend_core.proofs.OneNext.{IsPlain, last_true, plain_front, same_made}
+use Rattle.backend_core.proofs.OneNext.{IsPlain, last_true, none_owed, plain_front, same_made, same_refusal}
 use Rattle.pv_world.specs.Owner.{IsDone, Leads, told_items, told_of}
 use Rattle.pv_world.specs.World.{IsStepped, front_access}
-use Rattle.scenario_run.specs.Follows.{EachDone, Follows, IsRow, opening, closing, rides_in}
+use Rattle.scenario_run.specs.Follows.{AreSettled, EachDone, Follows, IsRow, opening, closing, rides_in}
 use Rattle.scenario_run.specs.Laws.{LegalJournalsAreOne}
 
 -- how the steps of a statement end: at rest, or with the last access that was asked for
@@ -189,21 +191,36 @@ module _ (frames grants : ℕ → ℕ) (devices : List DeviceSetup) where
       let last = same_owned dom (record { 0 = gref.0 + n }) (plans n) (before ++ a.0) a.1 b.1 a.4 b.4 p' (subst (λ (m : List Item). Plain ((before ++ m) ++ b.1)) (sym front) q') in
       a.2 ∙ (ap (λ (m : List Item). m ++ a.1) front ∙ (ap (λ (m : List Item). b.0 ++ m) last ∙ sym b.2))
 
+  -- a device answers an event of its host in one way
+  same_answer : (dev : DevId) (e : HostEvent) (before : List Item) (x y : Option HostRefusal) → AreSettled frames grants devices (before ++ host_items dev e x) → AreSettled frames grants devices (before ++ host_items dev e y) → Plain (before ++ host_items dev e x) → Plain (before ++ host_items dev e y) → x ≡ y
+  same_answer dev e before None None c d p q = refl
+  same_answer dev e before (Some x) None c d p q =
+      absurd (none_owed frames grants devices (before ++ Entered (entry.Host dev e) ∷ []) dev x d (further_plain before (Entered (entry.Host dev e)) (Entered (entry.Refused dev x) ∷ []) p).history)
+  same_answer dev e before None (Some y) c d p q =
+      absurd (none_owed frames grants devices (before ++ Entered (entry.Host dev e) ∷ []) dev y c (further_plain before (Entered (entry.Host dev e)) (Entered (entry.Refused dev y) ∷ []) q).history)
+  same_answer dev e before (Some x) (Some y) c d p q =
+      ap Some (same_refusal frames grants devices (before ++ Entered (entry.Host dev e) ∷ []) dev x y (further_plain before (Entered (entry.Host dev e)) (Entered (entry.Refused dev x) ∷ []) p).history (further_plain before (Entered (entry.Host dev e)) (Entered (entry.Refused dev y) ∷ []) q).history)
+
   -- the entries of one statement
-  same_row : (s : Statement) (before h k : List Item) → IsRow (rides_in frames grants devices before) s h → IsRow (rides_in frames grants devices before) s k → Plain (before ++ h) → Plain (before ++ k) → h ≡ k
-  same_row (Put at v) before h k a b p q = a ∙ sym b
-  same_row (Fill f) before h k a b p q = a ∙ sym b
-  same_row (Swap at old new) before h k a b p q =
+  same_row : (s : Statement) (before h k : List Item) → IsRow (rides_in frames grants devices before) s h → IsRow (rides_in frames grants devices before) s k → AreSettled frames grants devices (before ++ h) → AreSettled frames grants devices (before ++ k) → Plain (before ++ h) → Plain (before ++ k) → h ≡ k
+  same_row (Put at v) before h k a b c d p q = a ∙ sym b
+  same_row (Fill f) before h k a b c d p q = a ∙ sym b
+  same_row (Swap at old new) before h k a b c d p q =
       let p' = subst (λ (m : List Item). Plain (before ++ m)) a.1 p in
       let q' = subst (λ (m : List Item). Plain (before ++ m)) b.1 q in
       a.1 ∙ (ap (λ (x : Access). front_access x ∷ []) (same_front before (access.Cas at old new a.0) (access.Cas at old new b.0) refl p' q') ∙ sym b.1)
-  same_row (Open o) before h k a b p q = same_each o.dom o.gref (opening o) o.count before h k a b p q
-  same_row (End e) before h k a b p q = same_each e.dom e.gref (closing e) e.count before h k a b p q
-  same_row (Node dev part key v) before h k a b p q = a ∙ sym b
-  same_row (Bus dev state) before h k a b p q = a ∙ sym b
-  same_row (Wake dev) before h k a b p q = a ∙ sym b
-  same_row (Back dev count) before h k a b p q = same_stepped dev (Some count) before h k a b p q
-  same_row (Serve dev) before h k a b p q = same_stepped dev None before h k a b p q
+  same_row (Open o) before h k a b c d p q = same_each o.dom o.gref (opening o) o.count before h k a b p q
+  same_row (End e) before h k a b c d p q = same_each e.dom e.gref (closing e) e.count before h k a b p q
+  same_row (Node dev part key v) before h k a b c d p q = a ∙ sym b
+  same_row (Bus dev state) before h k a b c d p q = a ∙ sym b
+  same_row (Wake dev) before h k a b c d p q = a ∙ sym b
+  same_row (Host dev e) before h k a b c d p q =
+      let settled = λ (m : List Item). AreSettled frames grants devices (before ++ m) in
+      let plain = λ (m : List Item). Plain (before ++ m) in
+      let same = same_answer dev e before a.0 b.0 (subst settled a.1 c) (subst settled b.1 d) (subst plain a.1 p) (subst plain b.1 q) in
+      a.1 ∙ (ap (host_items dev e) same ∙ sym b.1)
+  same_row (Back dev count) before h k a b c d p q = same_stepped dev (Some count) before h k a b p q
+  same_row (Serve dev) before h k a b c d p q = same_stepped dev None before h k a b p q
 
   -- and of all statements
   same_follows : (ss : List Statement) (before m n : List Item) → Follows frames grants devices ss before m → Follows frames grants devices ss before n → Plain (before ++ m) → Plain (before ++ n) → m ≡ n
@@ -211,7 +228,7 @@ module _ (frames grants : ℕ → ℕ) (devices : List DeviceSetup) where
   same_follows (s ∷ ss) before m n a b p q =
       let p' = subst (λ (x : List Item). Plain x) (ap (λ (x : List Item). before ++ x) a.2 ∙ sym (append_assoc before a.0 a.1)) p in
       let q' = subst (λ (x : List Item). Plain x) (ap (λ (x : List Item). before ++ x) b.2 ∙ sym (append_assoc before b.0 b.1)) q in
-      let here = same_row s before a.0 b.0 a.3 b.3 (plain_front frames grants devices (before ++ a.0) a.1 p') (plain_front frames grants devices (before ++ b.0) b.1 q') in
+      let here = same_row s before a.0 b.0 a.3 b.3 a.4 b.4 (plain_front frames grants devices (before ++ a.0) a.1 p') (plain_front frames grants devices (before ++ b.0) b.1 q') in
       let rest = same_follows ss (before ++ a.0) a.1 b.1 a.5 (subst (λ (x : List Item). Follows frames grants devices ss (before ++ x) b.1) (sym here) b.5) p' (subst (λ (x : List Item). Plain ((before ++ x) ++ b.1)) (sym here) q') in
       a.2 ∙ (ap (λ (x : List Item). x ++ a.1) here ∙ (ap (λ (x : List Item). b.0 ++ x) rest ∙ sym b.2))
 

@@ -1,14 +1,15 @@
 -- Devices of a text, as devices of a world.
 use Rattle.std.proofs.Common.{◌≡◌, ℕ, ◌≤◌, ◌==◌, Bool, true, false, if◌then◌else◌, List, [], ◌∷◌, refl, subst, arith}
 use Rattle.std.specs.List.{AllByRecursion}
+use Rattle.pv_words.specs.declared.device.HostEvent.{HostEvent}
 use Rattle.pv_words.specs.declared.setup.DeviceKind.{DeviceKind}
 use Rattle.pv_words.specs.declared.setup.DeviceKind.TheVariants.{Display}
 use Rattle.pv_words.specs.declared.setup.DeviceSetup.{DeviceSetup}
 use Rattle.scenario_text.specs.Lookups as text
 use Rattle.scenario_text.specs.Playable as playable
 use Rattle.scenario_text.specs.Playable.{AreDifferent, IsDevice}
-use Rattle.backend_core.specs.History.{AreApart, parts_by}
-use Rattle.backend_core.specs.Kinds.{parts_of}
+use Rattle.backend_core.specs.History.{AreApart, parts_by, takes_by}
+use Rattle.backend_core.specs.Kinds.{parts_of, takes_event}
 use Rattle.pv_world.specs.World.{HasParts}
 
 -- a device has as many parts in a world as in the text that declared it
@@ -18,6 +19,14 @@ same_parts (Display connectors) = refl
 pub same_parts_by : (ds : List DeviceSetup) (d : ℕ) → playable.parts_by ds d ≡ parts_by ds d
 same_parts_by [] d = refl
 same_parts_by (s ∷ ss) d = rw (same_parts s.kind, same_parts_by ss d) refl
+
+-- and its host may tell it the same events
+same_events : (k : DeviceKind) (e : HostEvent) → playable.fits k e ≡ takes_event k e
+same_events (Display connectors) other = refl
+
+pub same_takes_by : (ds : List DeviceSetup) (d : ℕ) (e : HostEvent) → playable.takes_by ds d e ≡ takes_by ds d e
+same_takes_by [] d e = refl
+same_takes_by (s ∷ ss) d e = rw (same_events s.kind e, same_takes_by ss d e) refl
 
 -- at most 4
 chosen_few : (b : Bool) (m n : ℕ) → m ≤ 4 → n ≤ 4 → (if b then m else n) ≤ 4

@@ -2,6 +2,7 @@
 use Rattle.std.proofs.Common.{◌≡◌, ℕ, zero, suc, ◌+◌, ◌<◌, ◌≤◌, ◌⊎◌, inl, inr, List, [], ◌∷◌, ◌++◌, length, take, drop, get_or, Option, Some, None, Result, Ok, Err, true, refl, sym, subst, ◌∙◌, ap, append_assoc, arith}
 use Rattle.std.proofs.lemmas.List.{append-nil, take-append-drop, take_more, drop_more}
 use Rattle.std.specs.List.{AllByRecursion}
+use Rattle.pv_words.specs.declared.device.HostEvent.{HostEvent}
 use Rattle.pv_words.specs.declared.device.NodeValue.{NodeValue}
 use Rattle.pv_words.specs.declared.device.Said.{Said}
 use Rattle.pv_words.specs.declared.device.State.{State}
@@ -18,14 +19,14 @@ use Rattle.pv_words.specs.Sizes.{AreSizes, frames_by, grants_by}
 use Rattle.pv_words.proofs.Blocks.{frames_by-le, grants_by-le}
 use Rattle.pv_words.proofs.Listing.{unkept}
 use Rattle.scenario_text.specs.declared.statement.Statement.{Statement}
-use Rattle.scenario_text.specs.declared.statement.Statement.TheVariants.{Put, Fill, Swap, Open, End, Node, Bus, Wake, Back, Serve}
+use Rattle.scenario_text.specs.declared.statement.Statement.TheVariants.{Put, Fill, Swap, Open, End, Node, Bus, Wake, Host, Back, Serve}
 use Rattle.scenario_text.specs.Lookups.{has_device}
 use Rattle.scenario_text.specs.Playable.{IsDevice, IsPlayed}
 use Rattle.scenario_text.specs.Scenario.{Scenario}
 use Rattle.pv_world.specs.declared.world.Placed.{Placed}
-use Rattle.backend_core.specs.Marked.{Item, Entered, entries, AreSteps, accesses_in}
-use Rattle.backend_core.specs.History.{IsExplainedIn, IsPromptIn, IsSettledIn, due_by, is_declared, parts_by, site_of}
-use Rattle.pv_world.specs.World.{AtMost, Enters, Exchanged, Lacks, Sight, StopsIn, SteppedBy, setups, front_store}
+use Rattle.backend_core.specs.Marked.{Item, Entered, entries, AreSteps, accesses_in, host_items}
+use Rattle.backend_core.specs.History.{IsExplainedIn, IsPromptIn, IsSettledIn, due_by, is_declared, parts_by, site_of, takes_by}
+use Rattle.pv_world.specs.World.{AtMost, Enters, Exchanged, Hosted, IsCut, Lacks, Sight, StopsIn, SteppedBy, setups, front_store}
 use Rattle.pv_world.specs.Record.{Shows}
 use Rattle.backend_core.proofs.Consequences.{histories_are_runs}
 use Rattle.backend_core.proofs.EachKind.{first_explained, first_settled}
@@ -34,7 +35,7 @@ use Rattle.backend_core.proofs.Items.{entries_append}
 use Rattle.scenario_run.specs.Follows.{AreSettled, Follows, FollowsTo, IsBegun, IsRow, IsPartOf, opening, closing, rides_in}
 use Rattle.scenario_run.specs.Legal.{IsFullFor, IsLegalTo, IsTrueJournal, IsWantingFor}
 use Rattle.scenario_run.specs.Played.{CanPlay, HasCauseIn, IsFullIn, IsPromptHistory, Played, StopsAt}
-use Rattle.scenario_run.proofs.Devices.{same_parts_by, few_parts}
+use Rattle.scenario_run.proofs.Devices.{same_parts_by, same_takes_by, few_parts}
 use Rattle.scenario_run.proofs.Wholes.{at_most_front, front_prompt, next_prompt, settled_all, stands_prompt, steps_front}
 
 -- a statement that enters one item
@@ -106,6 +107,27 @@ module _ {W : Type 0} (g : Sight W) (frames grants : ℕ → ℕ) where
   pub wake_played : {A : Type 0} (memory : W) (devices : List Placed) (dev : DevId) (es : List Entry) (m : List Item) (r : Result A Stop) → Enters g frames grants memory devices (Entered (entry.Wake dev)) es m r → Played g frames grants memory devices (Wake dev) es m r
   wake_played memory devices dev es m r h = entered g frames grants (Wake dev) _ refl (λ rides. refl) memory devices es m r h
 
+  -- the event stands in the journal, and its refusal found no room
+  cut_played : (memory : W) (devices : List Placed) (dev : DevId) (e : HostEvent) (es : List Entry) (m : List Item) (stop : Stop) → IsCut g frames grants memory devices dev e es m stop → StopsAt frames grants (setups devices) (Host dev e) stop m es
+  cut_played memory devices dev e es m stop h =
+      let event : List Item = Entered (entry.Host dev e) ∷ [] in
+      let refused : List Item = Entered (entry.Refused dev h.why) ∷ [] in
+      let whole = stands_prompt g frames grants memory devices (m ++ host_items dev e (Some h.why)) h.stands in
+      let full : IsFullIn frames grants (setups devices) (Host dev e) m event es = record { length_is = h.limit; due = entry.Refused dev h.why; goes_on = whole; next = inr (Some h.why, refl) } in
+      record {
+        part = event;
+        of = inr refl;
+        so_far = front_prompt frames grants (setups devices) (m ++ event) refused (subst (λ (y : List Item). IsPromptHistory frames grants (setups devices) y) (sym (append_assoc m event refused)) whole);
+        entered = h.entered;
+        cause = subst (λ (y : Stop). HasCauseIn frames grants (setups devices) (Host dev e) m event es y) (sym h.full) full;
+      }
+
+  pub host_played : {A : Type 0} (memory : W) (devices : List Placed) (dev : DevId) (e : HostEvent) (es : List Entry) (m : List Item) (r : Result A Stop) → Hosted g frames grants memory devices dev e es m r → Played g frames grants memory devices (Host dev e) es m r
+  host_played memory devices dev e es m (Ok x) h = (host_items dev e h.0, (h.0, refl), h.1, h.2)
+  host_played memory devices dev e es m (Err stop) (inl h) =
+      entered g frames grants (Host dev e) (entry.Host dev e) (inl refl) (λ rides. (None, refl)) {A = Unit {0}} memory devices es m (Err stop) h
+  host_played memory devices dev e es m (Err stop) (inr h) = cut_played memory devices dev e es m stop h
+
   pub back_played : {A : Type 0} (memory : W) (devices : List Placed) (dev : DevId) (count : ℕ) (es : List Entry) (m : List Item) (r : Result A Stop) → SteppedBy g frames grants memory devices dev (Some count) es m r → Played g frames grants memory devices (Back dev count) es m r
   back_played memory devices dev count es m (Ok x) h = h
   back_played memory devices dev count es m (Err stop) h = stops g frames grants (Back dev count) dev (Some count) (λ h a b. (a, b)) memory devices stop m es h
@@ -147,6 +169,7 @@ none_part (End e) = record { number = 0; front = []; last = []; split = refl; do
 none_part (Node dev part key v) = refl
 none_part (Bus dev state) = refl
 none_part (Wake dev) = refl
+none_part (Host dev e) = inl refl
 none_part (Back dev count) = (tt, omega arith)
 none_part (Serve dev) = tt
 
@@ -266,7 +289,7 @@ unfolding has_device
 can_play s f g p devices (Put at v) a b keeps e z ds h = (in_range_from (frames_by s.sizes) f (grants_by s.sizes) g (λ d. sym (a d)) (λ d. sym (b d)) at h.0, unkept p at keeps)
 can_play s f g p devices (Fill x) a b keeps e z ds h =
     let frames = few_frames s x.dom.0 z in
-    (rw (a x.dom.0) h.2, omega (arith, h.2, frames))
+    (rw (a x.dom.0) h.within, omega (arith, h.within, frames))
 can_play s f g p devices (Swap at old new) a b keeps e z ds h = (in_range_from (frames_by s.sizes) f (grants_by s.sizes) g (λ d. sym (a d)) (λ d. sym (b d)) at h.0, unkept p at keeps)
 can_play s f g p devices (Open o) a b keeps e z ds h =
     let grants = few_grants s o.dom.0 z in
@@ -285,5 +308,9 @@ can_play s f g p devices (Node dev part key v) a b keeps e z ds h =
     )
 can_play s f g p devices (Bus dev state) a b keeps e z ds h = subst (λ (ds : List DeviceSetup). is_declared ds dev.0 ≡ true) (sym e) h
 can_play s f g p devices (Wake dev) a b keeps e z ds h = subst (λ (ds : List DeviceSetup). is_declared ds dev.0 ≡ true) (sym e) h
+can_play s f g p devices (Host dev event) a b keeps e z ds h = (
+  subst (λ (ds : List DeviceSetup). is_declared ds dev.0 ≡ true) (sym e) h.0,
+  subst (λ (ds : List DeviceSetup). takes_by ds dev.0 event ≡ true) (sym e) (sym (same_takes_by s.devices dev.0 event) ∙ h.1),
+)
 can_play s f g p devices (Back dev count) a b keeps e z ds h = (subst (λ (ds : List DeviceSetup). is_declared ds dev.0 ≡ true) (sym e) h.0, h.1)
 can_play s f g p devices (Serve dev) a b keeps e z ds h = subst (λ (ds : List DeviceSetup). is_declared ds dev.0 ≡ true) (sym e) h

@@ -1,6 +1,7 @@
 -- What entries a statement makes, and that a journal follows statements.
 use Rattle.std.specs.Prelude.{◌≡◌, ℕ, zero, suc, ◌+◌, ◌*◌, ◌/◌, ◌%◌, ◌^◌, ◌<◌, ◌≤◌, ◌⊎◌, List, [], ◌∷◌, ◌++◌, Option, Some, None}
 use Rattle.std.specs.List.{AllByRecursion}
+use Rattle.pv_words.specs.declared.device.HostRefusal.{HostRefusal}
 use Rattle.pv_words.specs.declared.device.Said.{Said}
 use Rattle.pv_words.specs.declared.entry.Entry.TheVariants as entry
 use Rattle.pv_words.specs.declared.entry.End.TheVariants.{Front}
@@ -17,9 +18,9 @@ use Rattle.scenario_text.specs.declared.statement.Filling.{Filling}
 use Rattle.scenario_text.specs.declared.statement.Opening.{Opening}
 use Rattle.scenario_text.specs.declared.statement.Closing.{Closing}
 use Rattle.scenario_text.specs.declared.statement.Statement.{Statement}
-use Rattle.scenario_text.specs.declared.statement.Statement.TheVariants.{Put, Fill, Swap, Open, End, Node, Bus, Wake, Back, Serve}
+use Rattle.scenario_text.specs.declared.statement.Statement.TheVariants.{Put, Fill, Swap, Open, End, Node, Bus, Wake, Host, Back, Serve}
 use Rattle.backend_core.specs.History.{IsSettledIn, due_by}
-use Rattle.backend_core.specs.Marked.{Item, Entered, AreSteps, accesses_in}
+use Rattle.backend_core.specs.Marked.{Item, Entered, AreSteps, accesses_in, host_items}
 use Rattle.pv_world.specs.Owner.{IsDone, IsUnderWay}
 use Rattle.pv_world.specs.World.{AtMost, IsStepped, front_store, front_swap}
 
@@ -47,7 +48,8 @@ closing e n = end_plan e.dom.0 (e.gref.0 + n)
 abbrev pub EachDone : DomId → GrantRef → (ℕ → Plan Owned) → ℕ → List Item → Type 0
 EachDone dom gref plans zero here = here ≡ []
 EachDone dom gref plans (suc n) here =
-    (front : List Item) × (last : List Item) × (here ≡ front ++ last) × EachDone dom gref plans n front × IsDone dom (record { 0 = gref.0 + n }) (plans n) last
+    (front : List Item) × (last : List Item) × (here ≡ front ++ last)
+    × EachDone dom gref plans n front × IsDone dom (record { 0 = gref.0 + n }) (plans n) last
 
 -- some of them, and of the next one perhaps a part
 pub record EachTo (dom : DomId) (gref : GrantRef) (plans : ℕ → Plan Owned) (count : ℕ) (here : List Item) : Type 0 where
@@ -59,10 +61,11 @@ pub record EachTo (dom : DomId) (gref : GrantRef) (plans : ℕ → Plan Owned) (
   pub under_way : IsUnderWay (plans number) last
   pub within : (number < count) ⊎ ((number ≡ 0) × (last ≡ []))
 
--- put: one store of the word's domain. fill: one to each word, in order. swap: one exchange of it. open, end: each grant is opened or ended. node: one node
--- is set. bus: the frontend's state. wake: one wake. back: the device's steps up to the one with access number `count`,
--- or fewer and a mark where it was idle. serve: its steps, and a mark where it was idle. What rides on a device's last access
--- among some items is `rides`.
+-- put: one store of the word's domain. fill: one to each word, in order. swap: one exchange of it. open, end: each grant is
+-- opened or ended. node: one node is set. bus: the frontend's state. wake: one wake. An event of a host: the event, and its
+-- refusal, if the device refuses it. back: the device's steps up to the one with access number `count`, or fewer and a mark
+-- where it was idle. serve: its steps, and a mark where it was idle. What rides on a device's last access among some items is
+-- `rides`.
 abbrev pub IsRow : (rides : DevId → List Item → Option Said) → Statement → List Item → Type 0
 IsRow rides (Put at v) here = here ≡ front_store at v ∷ []
 IsRow rides (Fill f) here = here ≡ stores_of f f.count
@@ -72,21 +75,19 @@ IsRow rides (End e) here = EachDone e.dom e.gref (closing e) e.count here
 IsRow rides (Node dev part key v) here = here ≡ Entered (entry.Node dev part key v) ∷ []
 IsRow rides (Bus dev state) here = here ≡ Entered (entry.Bus dev Front state) ∷ []
 IsRow rides (Wake dev) here = here ≡ Entered (entry.Wake dev) ∷ []
+IsRow rides (Host dev e) here = (refusal : Option HostRefusal) × (here ≡ host_items dev e refusal)
 IsRow rides (Back dev count) here = IsStepped (rides dev) dev (Some count) here
 IsRow rides (Serve dev) here = IsStepped (rides dev) dev None here
 
--- a part of these, from their beginning
+-- a part of these, from their beginning; of a single entry nothing
 abbrev pub IsPartOf : Statement → List Item → Type 0
-IsPartOf (Put at v) here = here ≡ []
 IsPartOf (Fill f) here = (n : ℕ) × (n ≤ f.count) × (here ≡ stores_of f n)
-IsPartOf (Swap at old new) here = here ≡ []
 IsPartOf (Open o) here = EachTo o.dom o.gref (opening o) o.count here
 IsPartOf (End e) here = EachTo e.dom e.gref (closing e) e.count here
-IsPartOf (Node dev part key v) here = here ≡ []
-IsPartOf (Bus dev state) here = here ≡ []
-IsPartOf (Wake dev) here = here ≡ []
+IsPartOf (Host dev e) here = (here ≡ []) ⊎ (here ≡ host_items dev e None)
 IsPartOf (Back dev count) here = AreSteps dev.0 here × AtMost (Some count) (accesses_in here)
 IsPartOf (Serve dev) here = AreSteps dev.0 here
+IsPartOf other here = here ≡ []
 
 -- the event that rides on the last access of a device, behind what came before
 abbrev pub rides_in : (frames grants : ℕ → ℕ) → List DeviceSetup → (before : List Item) → DevId → List Item → Option Said

@@ -3,12 +3,11 @@
 ghost use Rattle.std.specs.Prelude.{◌≡◌, [], OnOk, OnErr, Err};
 ghost use Rattle.pv_words.specs.declared.journal.Stop.TheVariants as stop;
 ghost use Rattle.pv_words.specs.Port.{KeepsNone, KeepsSame};
-ghost use Rattle.pv_words.specs.Sizes.{frames_by, grants_by};
 ghost use Rattle.scenario_text.specs.Playable.{IsPlayable};
 ghost use Rattle.scenario_text.specs.declared.statement.Statement.TheVariants as statement;
-ghost use Rattle.pv_world.specs.World.{StandingAt, Stands, devices_of, memory_of, setups, sight};
+ghost use Rattle.pv_world.specs.World.{StandingAt, devices_of, memory_of, setups, sight_of};
 ghost use Rattle.scenario_run.specs.Legal.{IsFullFor, IsLegal, IsLegalTo, IsWantingFor};
-ghost use Rattle.scenario_run.specs.Played.{CanPlayIn, PlaysFrom};
+ghost use Rattle.scenario_run.specs.Played.{CanPlayIn, PlaysFrom, StartsIn};
 
 use pv_words::{Frame, GrantRef, Journal, ListWords, Machine, Place, Stop};
 use pv_world::World;
@@ -24,9 +23,9 @@ fn fill<W: Machine>(
     filling: &Filling,
     journal: &mut Journal,
 ) -> Result<(), Stop>
-    requires standing { StandingAt (sight W.word W.frames_of W.grants_of W.port W.whole W.knows_device W.knows_domain) world.old journal.old.entries }
-    requires playable { CanPlayIn (sight W.word W.frames_of W.grants_of W.port W.whole W.knows_device W.knows_domain) world.old (statement.Fill filling.now) }
-    ensures played { PlaysFrom (sight W.word W.frames_of W.grants_of W.port W.whole W.knows_device W.knows_domain) world.old journal.old.entries (statement.Fill filling.now) world.new journal.new.entries result }
+    requires standing { StandingAt (sight_of W.Machine) world.old journal.old.entries }
+    requires playable { CanPlayIn (sight_of W.Machine) world.old (statement.Fill filling.now) }
+    ensures played { PlaysFrom (sight_of W.Machine) world.old journal.old (statement.Fill filling.now) world.new journal.new result }
     ensures devices { setups (devices_of world.new) ≡ setups (devices_of world.old) }
     ensures keeps { KeepsSame (W.port (memory_of world.old)) (W.port (memory_of world.new)) }
 {
@@ -46,9 +45,9 @@ fn open<W: Machine>(
     opening: &Opening,
     journal: &mut Journal,
 ) -> Result<(), Stop>
-    requires standing { StandingAt (sight W.word W.frames_of W.grants_of W.port W.whole W.knows_device W.knows_domain) world.old journal.old.entries }
-    requires playable { CanPlayIn (sight W.word W.frames_of W.grants_of W.port W.whole W.knows_device W.knows_domain) world.old (statement.Open opening.now) }
-    ensures played { PlaysFrom (sight W.word W.frames_of W.grants_of W.port W.whole W.knows_device W.knows_domain) world.old journal.old.entries (statement.Open opening.now) world.new journal.new.entries result }
+    requires standing { StandingAt (sight_of W.Machine) world.old journal.old.entries }
+    requires playable { CanPlayIn (sight_of W.Machine) world.old (statement.Open opening.now) }
+    ensures played { PlaysFrom (sight_of W.Machine) world.old journal.old (statement.Open opening.now) world.new journal.new result }
     ensures devices { setups (devices_of world.new) ≡ setups (devices_of world.old) }
     ensures keeps { KeepsSame (W.port (memory_of world.old)) (W.port (memory_of world.new)) }
 {
@@ -66,9 +65,9 @@ fn end<W: Machine>(
     closing: &Closing,
     journal: &mut Journal,
 ) -> Result<(), Stop>
-    requires standing { StandingAt (sight W.word W.frames_of W.grants_of W.port W.whole W.knows_device W.knows_domain) world.old journal.old.entries }
-    requires playable { CanPlayIn (sight W.word W.frames_of W.grants_of W.port W.whole W.knows_device W.knows_domain) world.old (statement.End closing.now) }
-    ensures played { PlaysFrom (sight W.word W.frames_of W.grants_of W.port W.whole W.knows_device W.knows_domain) world.old journal.old.entries (statement.End closing.now) world.new journal.new.entries result }
+    requires standing { StandingAt (sight_of W.Machine) world.old journal.old.entries }
+    requires playable { CanPlayIn (sight_of W.Machine) world.old (statement.End closing.now) }
+    ensures played { PlaysFrom (sight_of W.Machine) world.old journal.old (statement.End closing.now) world.new journal.new result }
     ensures devices { setups (devices_of world.new) ≡ setups (devices_of world.old) }
     ensures keeps { KeepsSame (W.port (memory_of world.old)) (W.port (memory_of world.new)) }
 {
@@ -84,9 +83,9 @@ fn play_statement<W: Machine>(
     statement: &Statement,
     journal: &mut Journal,
 ) -> Result<(), Stop>
-    requires standing { StandingAt (sight W.word W.frames_of W.grants_of W.port W.whole W.knows_device W.knows_domain) world.old journal.old.entries }
-    requires playable { CanPlayIn (sight W.word W.frames_of W.grants_of W.port W.whole W.knows_device W.knows_domain) world.old statement.now }
-    ensures played { PlaysFrom (sight W.word W.frames_of W.grants_of W.port W.whole W.knows_device W.knows_domain) world.old journal.old.entries statement.now world.new journal.new.entries result }
+    requires standing { StandingAt (sight_of W.Machine) world.old journal.old.entries }
+    requires playable { CanPlayIn (sight_of W.Machine) world.old statement.now }
+    ensures played { PlaysFrom (sight_of W.Machine) world.old journal.old statement.now world.new journal.new result }
     ensures devices { setups (devices_of world.new) ≡ setups (devices_of world.old) }
     ensures keeps { KeepsSame (W.port (memory_of world.old)) (W.port (memory_of world.new)) }
 {
@@ -99,6 +98,7 @@ fn play_statement<W: Machine>(
         Statement::Node(dev, part, key, v) => world.node(*dev, *part, *key, *v, journal),
         Statement::Bus(dev, state) => world.bus(*dev, *state, journal),
         Statement::Wake(dev) => world.wake(*dev, journal),
+        Statement::Host(dev, e) => world.host(*dev, *e, journal),
         Statement::Back(dev, count) => world.back(*dev, Some(*count), journal),
         Statement::Serve(dev) => world.back(*dev, None, journal),
     }
@@ -111,7 +111,7 @@ fn play_all<W: Machine>(
     journal: &mut Journal,
 ) -> Result<(), Stop>
     requires playable { IsPlayable script.now }
-    requires new { Stands (sight W.word W.frames_of W.grants_of W.port W.whole W.knows_device W.knows_domain) (frames_by script.now.sizes) (grants_by script.now.sizes) (memory_of world.old) (devices_of world.old) [] }
+    requires new { StartsIn (sight_of W.Machine) script.now world.old }
     requires devices { setups (devices_of world.old) ≡ script.now.devices }
     requires unkept { KeepsNone (W.port (memory_of world.old)) }
     requires empty { journal.old.entries ≡ [] }

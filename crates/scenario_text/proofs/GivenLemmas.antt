@@ -1,25 +1,31 @@
 -- What is true of each value that a reader of a line gives.
-use Rattle.std.proofs.Common.{◌≡◌, ℕ, ◌<◌, ◌≤◌, ◌^◌, true, false, ◌&&◌, List, [], ◌∷◌, Option, Some, None, Ok, refl, subst, arith, inl, inr}
+use Rattle.std.proofs.Common.{◌≡◌, ℕ, ◌<◌, ◌≤◌, ◌^◌, true, false, ◌&&◌, List, [], ◌∷◌, Option, Some, None, Ok, refl, sym, subst, ◌∙◌, arith, inl, inr}
 use Rattle.std.specs.Prelude.{◌==◌, nat_le, nat_lt, find, is_some}
 use Rattle.std.specs.List.{AllByRecursion}
 use Rattle.std.specs.Str.{bytes_eq}
 use Rattle.std.proofs.lemmas.Bool.{cases_Bool, and_parts, leb-true, ltb-true, eqb-true}
+use Rattle.std.proofs.lemmas.Bool.Decides.{nat_tests}
+use Rattle.pv_words.specs.declared.device.HostEvent.{HostEvent}
+use Rattle.pv_words.specs.declared.device.HostEvent.TheVariants.{Blank, Show}
 use Rattle.pv_words.specs.declared.device.NodeValue.{NodeValue}
 use Rattle.pv_words.specs.declared.place.DomId.{DomId}
 use Rattle.pv_words.specs.declared.place.DevId.{DevId}
+use Rattle.pv_words.specs.declared.setup.DeviceKind.{DeviceKind}
+use Rattle.pv_words.specs.declared.setup.DeviceKind.TheVariants.{Display}
 use Rattle.pv_words.specs.declared.setup.DomainSize.{DomainSize}
 use Rattle.pv_words.specs.declared.setup.DeviceSetup.{DeviceSetup}
 use Rattle.pv_words.specs.Sizes.{frames_by, grants_by}
 use Rattle.scenario_text.specs.declared.argument.Number.{Number}
-use Rattle.scenario_text.specs.declared.fault.FaultKind.TheVariants.{Undeclared, BadWord}
+use Rattle.scenario_text.specs.declared.fault.FaultKind.TheVariants.{Undeclared, BadWord, WrongDevice}
 use Rattle.scenario_text.specs.Flaws.{or_flaw}
 use Rattle.scenario_text.specs.Cursors.{Cursor, next_of}
 use Rattle.scenario_text.specs.Numbers.{digits_of}
 use Rattle.scenario_text.specs.Nodes.{keys, of_number, node_value}
 use Rattle.scenario_text.specs.Arguments.{number_at, between_at, below_at, named, key_at, node_value_at}
-use Rattle.scenario_text.specs.Lookups.{size_of, device_of, has_device, parts_of, new_domain_at, size_at, new_device_at, device_at}
-use Rattle.scenario_text.specs.Playable.{parts_by, IsNodeValue}
-use Rattle.scenario_text.proofs.OkLemmas.{bind_ok, test_ok, test_failed, or_flaw_ok}
+use Rattle.scenario_text.specs.Lookups.{size_of, device_of, has_device, parts_of, connectors_of}
+use Rattle.scenario_text.specs.Lookups.{new_domain_at, size_at, new_device_at, device_at, connector_at}
+use Rattle.scenario_text.specs.Playable.{parts_by, fits, takes_by, IsNodeValue}
+use Rattle.scenario_text.proofs.OkLemmas.{bind_ok, test_ok, test_failed, or_flaw_ok, ok_one}
 
 pub between_gives : (low high : ℕ) (c : Cursor) (n : Number × Cursor) → between_at low high c ≡ Ok n → (low ≤ n.0.value) × (n.0.value ≤ high)
 unfolding between_at
@@ -98,8 +104,15 @@ new_device_gives devices c x same =
     let inside = between_gives 1 16 c dev.0 dev.1 in
     rw (← passed.1) (inside.0, inside.1, passed.0)
 
--- a device that is found has its parts
-found_device : (dev : ℕ) (devices : List DeviceSetup) (device : DeviceSetup) → find (λ d. d.dev.0 == dev) devices ≡ Some device → (device.dev.0 ≡ dev) × (parts_by devices dev ≡ parts_of device.kind) × (has_device dev devices ≡ true)
+-- a device of this number among devices: it has its parts there, and takes its events
+pub record IsAmong (devices : List DeviceSetup) (device : DeviceSetup) (dev : ℕ) : Type 0 where
+  pub number : device.dev.0 ≡ dev
+  pub parts : parts_by devices dev ≡ parts_of device.kind
+  pub there : has_device dev devices ≡ true
+  pub takes : (e : HostEvent) → takes_by devices dev e ≡ fits device.kind e
+
+-- so it is with one that is found
+found_device : (dev : ℕ) (devices : List DeviceSetup) (device : DeviceSetup) → find (λ d. d.dev.0 == dev) devices ≡ Some device → IsAmong devices device dev
 unfolding has_device
 found_device dev [] device same = cc
 found_device dev (d ∷ ds) device same =
@@ -107,20 +120,49 @@ found_device dev (d ∷ ds) device same =
       | inl passes ↦
           let found : Some d ≡ Some device = rw passes at same in
           let one : d ≡ device = cc in
-          rw (← one, passes) (eqb-true d.dev.0 dev passes, refl, refl)
+          subst (λ (x : DeviceSetup). IsAmong (d ∷ ds) x dev) one
+          (record { number = eqb-true d.dev.0 dev passes; parts = rw passes refl; there = rw passes refl; takes = λ e. rw passes refl })
       | inr fails ↦
           let found : find (λ d. d.dev.0 == dev) ds ≡ Some device = rw fails at same in
-          rw fails (found_device dev ds device found)
+          let rest = found_device dev ds device found in
+          record { number = rest.number; parts = rw fails rest.parts; there = rw fails rest.there; takes = λ e. rw fails (rest.takes e) }
     ]
 
-pub device_gives : (devices : List DeviceSetup) (c : Cursor) (x : DeviceSetup × Cursor) → device_at devices c ≡ Ok x → (parts_by devices x.0.dev.0 ≡ parts_of x.0.kind) × (has_device x.0.dev.0 devices ≡ true)
+pub device_gives : (devices : List DeviceSetup) (c : Cursor) (x : DeviceSetup × Cursor) → device_at devices c ≡ Ok x → IsAmong devices x.0 x.0.dev.0
 unfolding device_at device_of
 device_gives devices c x same =
     let dev = bind_ok (between_at 1 16 c) _ x same in
     let device = bind_ok (or_flaw (device_of dev.0.0.value devices) dev.0.0.column Undeclared) _ x dev.2 in
     let found = found_device dev.0.0.value devices device.0 (or_flaw_ok (device_of dev.0.0.value devices) _ _ device.0 device.1) in
     let one : (device.0, dev.0.1) ≡ x = cc in
-    rw (← one, found.0) (found.1, found.2)
+    subst (λ (y : DeviceSetup × Cursor). IsAmong devices y.0 y.0.dev.0) one (subst (λ (n : ℕ). IsAmong devices device.0 n) (sym found.number) found)
+
+-- a display takes the events of each of its connectors
+blanks_fit : (k : DeviceKind) (connectors n : ℕ) → connectors_of k ≡ Some connectors → n < connectors → (fits k (Blank n) ≡ true) × (fits k (Show n) ≡ true)
+blanks_fit (Display many) connectors n same below =
+    let one : many ≡ connectors = cc in
+    let inside : nat_lt n many ≡ true = grind (arith, nat_tests) in
+    (inside, inside)
+
+taken : (devices : List DeviceSetup) (device : DeviceSetup) (dev : ℕ) (e : HostEvent) → IsAmong devices device dev → fits device.kind e ≡ true → takes_by devices dev e ≡ true
+taken devices device dev e among fit = among.takes e ∙ fit
+
+-- a connector that is found is one of a display, which takes its events
+pub connector_gives : (devices : List DeviceSetup) (c : Cursor) (x : (DevId × ℕ) × Cursor) → connector_at devices c ≡ Ok x → (has_device x.0.0.0 devices ≡ true) × (takes_by devices x.0.0.0 (Blank x.0.1) ≡ true) × (takes_by devices x.0.0.0 (Show x.0.1) ≡ true)
+unfolding connector_at device_of
+connector_gives devices c x same =
+    let dev = bind_ok (between_at 1 16 c) _ x same in
+    let column : ℕ = dev.0.0.column in
+    let device = bind_ok (or_flaw (device_of dev.0.0.value devices) column Undeclared) _ x dev.2 in
+    let connectors = bind_ok (or_flaw (connectors_of device.0.kind) column WrongDevice) _ x device.2 in
+    let connector = bind_ok (below_at connectors.0 dev.0.1) _ x connectors.2 in
+    let n : ℕ = connector.0.0.value in
+    let found = found_device dev.0.0.value devices device.0 (or_flaw_ok (device_of dev.0.0.value devices) _ _ device.0 device.1) in
+    let fit = blanks_fit device.0.kind connectors.0 n (or_flaw_ok (connectors_of device.0.kind) _ _ connectors.0 connectors.1) (below_gives connectors.0 dev.0.1 connector.0 connector.1) in
+    let one : ((device.0.dev, n), connector.0.1) ≡ x = ok_one (Ok ((device.0.dev, n), connector.0.1)) ((device.0.dev, n), connector.0.1) x refl connector.2 in
+    let blank = taken devices device.0 dev.0.0.value (Blank n) found fit.0 in
+    let show = taken devices device.0 dev.0.0.value (Show n) found fit.1 in
+    rw (← one, found.number) (found.there, blank, show)
 
 -- what a word names is one of the list's values
 named_is : {A : Type 0} (P : A → Type 0) (octets : List ℕ) (list : List (List ℕ × A)) (x : A) → AllByRecursion (λ n. P n.1) list → named octets list ≡ Some x → P x

@@ -11,11 +11,12 @@ use Rattle.pv_words.specs.declared.setup.DomainSize.{DomainSize}
 use Rattle.pv_words.specs.declared.setup.DeviceSetup.{DeviceSetup}
 use Rattle.pv_words.specs.declared.setup.Kind.TheVariants.{Wild}
 use Rattle.pv_words.specs.declared.setup.DeviceKind.TheVariants as kinds
+use Rattle.pv_words.specs.declared.device.HostEvent.TheVariants.{Blank, Show}
 use Rattle.pv_words.specs.declared.place.Place.TheVariants.{Cell, Grant}
 use Rattle.pv_words.specs.declared.place.Half.TheVariants.{Flags}
 use Rattle.pv_words.specs.Sizes.{frames_by, grants_by}
 use Rattle.scenario_text.specs.declared.statement.Statement.{Statement}
-use Rattle.scenario_text.specs.declared.statement.Statement.TheVariants.{Put, Fill, Swap, Open, End, Node, Bus, Wake, Back, Serve}
+use Rattle.scenario_text.specs.declared.statement.Statement.TheVariants.{Put, Fill, Swap, Open, End, Node, Bus, Wake, Host, Back, Serve}
 use Rattle.scenario_text.specs.declared.draft.Item.{Item}
 use Rattle.scenario_text.specs.declared.draft.Item.TheVariants as items
 use Rattle.scenario_text.specs.declared.item.Command.{Command}
@@ -26,16 +27,19 @@ use Rattle.scenario_text.specs.Flaws.{or_flaw}
 use Rattle.scenario_text.specs.Tokens.{Token, tokens}
 use Rattle.scenario_text.specs.Cursors.{Cursor, first_of}
 use Rattle.scenario_text.specs.Arguments.{between_at, below_at, keyword_at, half_at, mode_at, key_at, node_value_at, state_at}
-use Rattle.scenario_text.specs.Lookups.{has_device, parts_of, frames_left, grants_left, new_domain_at, size_at, new_device_at, device_at}
+use Rattle.scenario_text.specs.Lookups.{has_device, parts_of, frames_left, grants_left}
+use Rattle.scenario_text.specs.Lookups.{new_domain_at, size_at, new_device_at, device_at, connector_at}
 use Rattle.scenario_text.specs.Declarations.{domain_at, display_at}
-use Rattle.scenario_text.specs.Statements.{put_at, fill_at, put_grant_at, swap_at, open_at, end_at, node_at, bus_at, wake_at, back_at, serve_at}
+use Rattle.scenario_text.specs.Statements.{put_at, fill_at, put_grant_at, swap_at, open_at, end_at, node_at}
+use Rattle.scenario_text.specs.Statements.{bus_at, wake_at, blank_at, show_at, back_at, serve_at}
 use Rattle.scenario_text.specs.Scenario.{Scenario, nothing, with_item}
 use Rattle.scenario_text.specs.Items.{is_empty_list, is_declaration, command_of, command_at, arguments_at, unless_more, item_from, item_of}
 use Rattle.scenario_text.specs.Lines.{code_of, lines}
 use Rattle.scenario_text.specs.Reading.{line_item, at_line, scenario_from, scenario_of}
 use Rattle.scenario_text.specs.Playable.{parts_by, IsPlayed, IsDevice, AreDifferent, IsPlayable}
 use Rattle.scenario_text.proofs.OkLemmas.{bind_ok, test_failed, ok_one}
-use Rattle.scenario_text.proofs.GivenLemmas.{between_gives, below_gives, new_domain_gives, size_gives, size_keeps, new_device_gives, device_gives, key_gives, node_value_gives}
+use Rattle.scenario_text.proofs.GivenLemmas.{between_gives, below_gives, new_domain_gives, size_gives, size_keeps}
+use Rattle.scenario_text.proofs.GivenLemmas.{new_device_gives, device_gives, connector_gives, key_gives, node_value_gives}
 
 -- with one more element, and with a weaker fact of each
 each_push : {X : Type 0} (P : X → Type 0) (xs : List X) (x : X) → AllByRecursion P xs → P x → AllByRecursion P (xs ++ x ∷ [])
@@ -218,7 +222,7 @@ fill_fits s c x same =
     let of_words : 1024 * frame.0.0.value + word.0.0.value + count.0.0.value ≤ 1024 * frames_by s.sizes size.0.0.dom.0 = rw has.0 (omega (arith, min-le_left room (2 ^ 32 - 1))) in
     let item : Item = items.Step (Fill (record { dom = size.0.0.dom; frame = record { 0 = frame.0.0.value }; word = word.0.0.value; count = count.0.0.value; value = value.0.0.value; step = step.0.0.value })) in
     let one : (item, step.0.1) ≡ x = ok_one (Ok (item, step.0.1)) (item, step.0.1) x refl step.2 in
-    subst (λ (y : Item × Cursor). Fits s y.0) {x = (item, step.0.1)} one (n.0, w, of_words, v, t)
+    subst (λ (y : Item × Cursor). Fits s y.0) {x = (item, step.0.1)} one (record { some = n.0; word = w; within = of_words; value = v; step = t })
 
 put_grant_fits : (s : Scenario) (c : Cursor) (x : Item × Cursor) → put_grant_at s c ≡ Ok x → Fits s x.0
 unfolding put_grant_at
@@ -295,12 +299,12 @@ node_fits s c x same =
     let value = bind_ok (node_value_at key.0.1) _ x key.2 in
     let there = device_gives s.devices c dev.0 dev.1 in
     let p = below_gives (parts_of dev.0.0.kind) dev.0.1 part.0 part.1 in
-    let inside : part.0.0.value < parts_by s.devices dev.0.0.dev.0 = rw there.0 p in
+    let inside : part.0.0.value < parts_by s.devices dev.0.0.dev.0 = rw there.parts p in
     let k = key_gives part.0.1 key.0 key.1 in
     let v = node_value_gives key.0.1 value.0 value.1 in
     let item : Item = items.Step (Node dev.0.0.dev part.0.0.value key.0.0 value.0.0) in
     let one : (item, value.0.1) ≡ x = ok_one (Ok (item, value.0.1)) (item, value.0.1) x refl value.2 in
-    subst (λ (y : Item × Cursor). Fits s y.0) {x = (item, value.0.1)} one (there.1, inside, k, v)
+    subst (λ (y : Item × Cursor). Fits s y.0) {x = (item, value.0.1)} one (there.there, inside, k, v)
 
 bus_fits : (s : Scenario) (c : Cursor) (x : Item × Cursor) → bus_at s c ≡ Ok x → Fits s x.0
 unfolding bus_at
@@ -310,7 +314,7 @@ bus_fits s c x same =
     let there = device_gives s.devices c dev.0 dev.1 in
     let item : Item = items.Step (Bus dev.0.0.dev state.0.0) in
     let one : (item, state.0.1) ≡ x = cc in
-    subst (λ (y : Item × Cursor). Fits s y.0) {x = (item, state.0.1)} one there.1
+    subst (λ (y : Item × Cursor). Fits s y.0) {x = (item, state.0.1)} one there.there
 
 wake_fits : (s : Scenario) (c : Cursor) (x : Item × Cursor) → wake_at s c ≡ Ok x → Fits s x.0
 unfolding wake_at
@@ -319,7 +323,25 @@ wake_fits s c x same =
     let there = device_gives s.devices c dev.0 dev.1 in
     let item : Item = items.Step (Wake dev.0.0.dev) in
     let one : (item, dev.0.1) ≡ x = cc in
-    subst (λ (y : Item × Cursor). Fits s y.0) {x = (item, dev.0.1)} one there.1
+    subst (λ (y : Item × Cursor). Fits s y.0) {x = (item, dev.0.1)} one there.there
+
+blank_fits : (s : Scenario) (c : Cursor) (x : Item × Cursor) → blank_at s c ≡ Ok x → Fits s x.0
+unfolding blank_at
+blank_fits s c x same =
+    let at = bind_ok (connector_at s.devices c) _ x same in
+    let takes = connector_gives s.devices c at.0 at.1 in
+    let item : Item = items.Step (Host at.0.0.0 (Blank at.0.0.1)) in
+    let one : (item, at.0.1) ≡ x = cc in
+    subst (λ (y : Item × Cursor). Fits s y.0) {x = (item, at.0.1)} one (takes.0, takes.1)
+
+show_fits : (s : Scenario) (c : Cursor) (x : Item × Cursor) → show_at s c ≡ Ok x → Fits s x.0
+unfolding show_at
+show_fits s c x same =
+    let at = bind_ok (connector_at s.devices c) _ x same in
+    let takes = connector_gives s.devices c at.0 at.1 in
+    let item : Item = items.Step (Host at.0.0.0 (Show at.0.0.1)) in
+    let one : (item, at.0.1) ≡ x = cc in
+    subst (λ (y : Item × Cursor). Fits s y.0) {x = (item, at.0.1)} one (takes.0, takes.2)
 
 back_fits : (s : Scenario) (c : Cursor) (x : Item × Cursor) → back_at s c ≡ Ok x → Fits s x.0
 unfolding back_at
@@ -331,7 +353,7 @@ back_fits s c x same =
     let below : count.0.0.value < 2 ^ 32 = omega (arith, n.1) in
     let item : Item = items.Step (Back dev.0.0.dev count.0.0.value) in
     let one : (item, count.0.1) ≡ x = ok_one (Ok (item, count.0.1)) (item, count.0.1) x refl count.2 in
-    subst (λ (y : Item × Cursor). Fits s y.0) {x = (item, count.0.1)} one (there.1, n.0, below)
+    subst (λ (y : Item × Cursor). Fits s y.0) {x = (item, count.0.1)} one (there.there, n.0, below)
 
 serve_fits : (s : Scenario) (c : Cursor) (x : Item × Cursor) → serve_at s c ≡ Ok x → Fits s x.0
 unfolding serve_at
@@ -340,7 +362,7 @@ serve_fits s c x same =
     let there = device_gives s.devices c dev.0 dev.1 in
     let item : Item = items.Step (Serve dev.0.0.dev) in
     let one : (item, dev.0.1) ≡ x = cc in
-    subst (λ (y : Item × Cursor). Fits s y.0) {x = (item, dev.0.1)} one there.1
+    subst (λ (y : Item × Cursor). Fits s y.0) {x = (item, dev.0.1)} one there.there
 
 command_in_time : (s : Scenario) (t : Token) (command : Command) → command_at s t ≡ Ok command → (is_declaration command && not (is_empty_list s.statements)) ≡ false
 unfolding command_at
@@ -366,6 +388,8 @@ arguments_fit commands.End s c x kept early same = end_fits s c x same
 arguments_fit commands.Node s c x kept early same = node_fits s c x same
 arguments_fit commands.Bus s c x kept early same = bus_fits s c x same
 arguments_fit commands.Wake s c x kept early same = wake_fits s c x same
+arguments_fit commands.Blank s c x kept early same = blank_fits s c x same
+arguments_fit commands.Show s c x kept early same = show_fits s c x same
 arguments_fit commands.Back s c x kept early same = back_fits s c x same
 arguments_fit commands.Serve s c x kept early same = serve_fits s c x same
 

@@ -1,5 +1,7 @@
 -- Declarations, behind their first token.
-use Rattle.std.specs.Prelude.{Result, Ok, codes}
+use Rattle.std.specs.Prelude.{ℕ, Result, Ok, codes}
+use Rattle.pv_words.specs.declared.place.DomId.{DomId}
+use Rattle.pv_words.specs.declared.setup.DomainSize.{DomainSize}
 use Rattle.pv_words.specs.declared.setup.Kind.TheVariants.{Wild}
 use Rattle.pv_words.specs.declared.setup.DeviceKind.TheVariants as kinds
 use Rattle.scenario_text.specs.declared.draft.Item.{Item}
@@ -11,6 +13,10 @@ use Rattle.scenario_text.specs.Arguments.{between_at, keyword_at}
 use Rattle.scenario_text.specs.Lookups.{frames_left, grants_left, new_domain_at, size_at, new_device_at}
 use Rattle.scenario_text.specs.Scenario.{Scenario}
 
+-- a wild domain of so many frames and grants
+abbrev pub wild : DomId → (frames grants : ℕ) → DomainSize
+wild dom frames grants = record { dom = dom; kind = Wild; frames = frames; grants = grants; first = record { 0 = 0 } }
+
 -- domain D wild F G: F frames, and G grants
 unfoldable pub domain_at : Scenario → Cursor → Result (Item × Cursor) Flaw
 domain_at so_far c = do
@@ -18,7 +24,7 @@ domain_at so_far c = do
   c ← keyword_at (codes "wild") dom.1
   frames ← between_at 1 (frames_left so_far.sizes) c
   grants ← between_at 0 (grants_left so_far.sizes) frames.1
-  Ok (items.Domain (record { dom = dom.0; kind = Wild; frames = frames.0.value; grants = grants.0.value; first = record { 0 = 0 } }), grants.1)
+  Ok (items.Domain (wild dom.0 frames.0.value grants.0.value), grants.1)
 
 -- display N D C: device N of domain D with C connectors, 1 to 4
 unfoldable pub display_at : Scenario → Cursor → Result (Item × Cursor) Flaw

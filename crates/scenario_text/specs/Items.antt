@@ -4,21 +4,24 @@ use Rattle.scenario_text.specs.declared.draft.Item.{Item}
 use Rattle.scenario_text.specs.declared.fault.Flaw.{Flaw}
 use Rattle.scenario_text.specs.declared.fault.FaultKind.TheVariants.{UnknownStatement, ExtraWord, Late}
 use Rattle.scenario_text.specs.declared.item.Command.{Command}
-use Rattle.scenario_text.specs.declared.item.Command.TheVariants.{Domain, Display, Put, Fill, PutGrant, Swap, Open, End, Node, Bus, Wake, Back, Serve}
+use Rattle.scenario_text.specs.declared.item.Command.TheVariants.{Domain, Display}
+use Rattle.scenario_text.specs.declared.item.Command.TheVariants.{Put, Fill, PutGrant, Swap, Open, End, Node, Bus, Wake}
+use Rattle.scenario_text.specs.declared.item.Command.TheVariants.{Blank, Show, Back, Serve}
 use Rattle.scenario_text.specs.Flaws.{flaw, ◌>>=◌, or_flaw}
 use Rattle.scenario_text.specs.Tokens.{Token, tokens}
 use Rattle.scenario_text.specs.Cursors.{Cursor, first_of}
 use Rattle.scenario_text.specs.Arguments.{named}
 use Rattle.scenario_text.specs.Declarations.{domain_at, display_at}
-use Rattle.scenario_text.specs.Statements.{put_at, fill_at, put_grant_at, swap_at, open_at, end_at, node_at, bus_at, wake_at, back_at, serve_at}
+use Rattle.scenario_text.specs.Statements.{put_at, fill_at, put_grant_at, swap_at, open_at, end_at, node_at, bus_at, wake_at}
+use Rattle.scenario_text.specs.Statements.{blank_at, show_at, back_at, serve_at}
 use Rattle.scenario_text.specs.Scenario.{Scenario}
 
 -- the first tokens of lines, and what they name
 abbrev pub names : List (List ℕ × Command)
 names =
     (codes "put", Put) ∷ (codes "fill", Fill) ∷ (codes "putg", PutGrant) ∷ (codes "swap", Swap) ∷ (codes "open", Open) ∷ (codes "end", End)
-    ∷ (codes "node", Node) ∷ (codes "bus", Bus) ∷ (codes "wake", Wake) ∷ (codes "back", Back)
-    ∷ (codes "serve", Serve) ∷ (codes "domain", Domain) ∷ (codes "display", Display) ∷ []
+    ∷ (codes "node", Node) ∷ (codes "bus", Bus) ∷ (codes "wake", Wake) ∷ (codes "blank", Blank) ∷ (codes "show", Show)
+    ∷ (codes "back", Back) ∷ (codes "serve", Serve) ∷ (codes "domain", Domain) ∷ (codes "display", Display) ∷ []
 
 -- what a token names, as the first of a line
 unfoldable pub command_of : List ℕ → Option Command
@@ -28,17 +31,7 @@ command_of octets = named octets names
 abbrev pub is_declaration : Command → Bool
 is_declaration Domain = true
 is_declaration Display = true
-is_declaration Put = false
-is_declaration Fill = false
-is_declaration PutGrant = false
-is_declaration Swap = false
-is_declaration Open = false
-is_declaration End = false
-is_declaration Node = false
-is_declaration Bus = false
-is_declaration Wake = false
-is_declaration Back = false
-is_declaration Serve = false
+is_declaration other = false
 
 -- whether there is nothing in a list
 abbrev pub is_empty_list : {X : Type 0} → List X → Bool
@@ -64,6 +57,8 @@ arguments_at End so_far c = end_at so_far c
 arguments_at Node so_far c = node_at so_far c
 arguments_at Bus so_far c = bus_at so_far c
 arguments_at Wake so_far c = wake_at so_far c
+arguments_at Blank so_far c = blank_at so_far c
+arguments_at Show so_far c = show_at so_far c
 arguments_at Back so_far c = back_at so_far c
 arguments_at Serve so_far c = serve_at so_far c
 

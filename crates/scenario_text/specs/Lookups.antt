@@ -1,5 +1,5 @@
 -- The domains and devices that a line names.
-use Rattle.std.specs.Prelude.{ℕ, ◌-◌, ◌==◌, Bool, List, Option, Result, Ok, Err, is_some, find, sum_by, if◌then◌else◌}
+use Rattle.std.specs.Prelude.{ℕ, ◌-◌, ◌==◌, Bool, List, Option, Some, Result, Ok, Err, is_some, find, sum_by, if◌then◌else◌}
 use Rattle.std.specs.List.{list_any}
 use Rattle.pv_words.specs.declared.place.DomId.{DomId}
 use Rattle.pv_words.specs.declared.place.DevId.{DevId}
@@ -8,10 +8,10 @@ use Rattle.pv_words.specs.declared.setup.DeviceSetup.{DeviceSetup}
 use Rattle.pv_words.specs.declared.setup.DeviceKind.{DeviceKind}
 use Rattle.pv_words.specs.declared.setup.DeviceKind.TheVariants as kinds
 use Rattle.scenario_text.specs.declared.fault.Flaw.{Flaw}
-use Rattle.scenario_text.specs.declared.fault.FaultKind.TheVariants.{Twice, Undeclared}
+use Rattle.scenario_text.specs.declared.fault.FaultKind.TheVariants.{Twice, Undeclared, WrongDevice}
 use Rattle.scenario_text.specs.Flaws.{flaw, ◌>>=◌, or_flaw}
 use Rattle.scenario_text.specs.Cursors.{Cursor}
-use Rattle.scenario_text.specs.Arguments.{between_at}
+use Rattle.scenario_text.specs.Arguments.{between_at, below_at}
 
 -- the domain of this number
 unfoldable pub size_of : ℕ → List DomainSize → Option DomainSize
@@ -24,6 +24,10 @@ device_of dev devices = find (λ d. d.dev.0 == dev) devices
 -- how many parts a device has: a display's connectors
 abbrev pub parts_of : DeviceKind → ℕ
 parts_of (kinds.Display connectors) = connectors
+
+-- how many connectors it has, where it is a display
+abbrev pub connectors_of : DeviceKind → Option ℕ
+connectors_of (kinds.Display connectors) = Some connectors
 
 -- whether there is a device of this number
 unfoldable pub has_device : ℕ → List DeviceSetup → Bool
@@ -61,3 +65,12 @@ device_at devices c = do
   dev ← between_at 1 16 c
   device ← or_flaw (device_of dev.0.value devices) dev.0.column Undeclared
   Ok (device, dev.1)
+
+-- N C: a display that was declared, and one of its connectors
+unfoldable pub connector_at : List DeviceSetup → Cursor → Result ((DevId × ℕ) × Cursor) Flaw
+connector_at devices c = do
+  dev ← between_at 1 16 c
+  device ← or_flaw (device_of dev.0.value devices) dev.0.column Undeclared
+  connectors ← or_flaw (connectors_of device.kind) dev.0.column WrongDevice
+  connector ← below_at connectors dev.1
+  Ok ((device.dev, connector.0.value), connector.1)

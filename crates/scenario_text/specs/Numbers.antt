@@ -1,10 +1,15 @@
 -- Numbers: decimal digits, or 0x and hexadecimal digits.
-use Rattle.std.specs.Prelude.{ℕ, ◌+◌, ◌-◌, ◌*◌, ◌^◌, nat_lt, nat_le, ◌&&◌, List, [], ◌∷◌, Option, Some, None, option_and_then, if◌then◌else◌, take, drop, codes}
+use Rattle.std.specs.Prelude.{ℕ, ◌+◌, ◌-◌, ◌*◌, ◌^◌, nat_lt, nat_le, ◌&&◌, List, [], ◌∷◌, Option, Some, None}
+use Rattle.std.specs.Prelude.{option_and_then, if◌then◌else◌, take, drop, codes}
 use Rattle.std.specs.Str.{bytes_eq}
 
--- 0 to 9, and A to F or a to f for 10 to 15
+-- A to F or a to f for 10 to 15
+abbrev pub hex_letter : ℕ → Option ℕ
+hex_letter b = if nat_le 65 b && nat_le b 70 then Some (b - 55) else (if nat_le 97 b && nat_le b 102 then Some (b - 87) else None)
+
+-- 0 to 9, or one of these
 abbrev pub hex_digit : ℕ → Option ℕ
-hex_digit b = if nat_le 48 b && nat_le b 57 then Some (b - 48) else (if nat_le 65 b && nat_le b 70 then Some (b - 55) else (if nat_le 97 b && nat_le b 102 then Some (b - 87) else None))
+hex_digit b = if nat_le 48 b && nat_le b 57 then Some (b - 48) else hex_letter b
 
 -- what an octet stands for as a digit of this base
 unfoldable pub digit_of : ℕ → ℕ → Option ℕ

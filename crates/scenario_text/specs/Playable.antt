@@ -1,13 +1,18 @@
 -- What every scenario that was read keeps.
-use Rattle.std.specs.Prelude.{◌≡◌, ℕ, ◌+◌, ◌*◌, ◌^◌, ◌==◌, ◌<◌, ◌≤◌, true, false, List, [], ◌∷◌, if◌then◌else◌}
+use Rattle.std.specs.Prelude.{◌≡◌, ℕ, ◌+◌, ◌*◌, ◌^◌, ◌==◌, ◌<◌, ◌≤◌, nat_lt, Bool, true, false, List, [], ◌∷◌, if◌then◌else◌}
 use Rattle.std.specs.List.{AllByRecursion}
 use Rattle.pv_words.specs.Place.{InRange}
 use Rattle.pv_words.specs.Sizes.{AreSizes, frames_by, grants_by}
+use Rattle.pv_words.specs.declared.device.HostEvent.{HostEvent}
+use Rattle.pv_words.specs.declared.device.HostEvent.TheVariants.{Blank, Show}
 use Rattle.pv_words.specs.declared.device.NodeValue.{NodeValue}
 use Rattle.pv_words.specs.declared.device.NodeValue.TheVariants.{Absent, Bad, Number}
+use Rattle.pv_words.specs.declared.setup.DeviceKind.{DeviceKind}
+use Rattle.pv_words.specs.declared.setup.DeviceKind.TheVariants.{Display}
 use Rattle.pv_words.specs.declared.setup.DeviceSetup.{DeviceSetup}
+use Rattle.scenario_text.specs.declared.statement.Filling.{Filling}
 use Rattle.scenario_text.specs.declared.statement.Statement.{Statement}
-use Rattle.scenario_text.specs.declared.statement.Statement.TheVariants.{Put, Fill, Swap, Open, End, Node, Bus, Wake, Back, Serve}
+use Rattle.scenario_text.specs.declared.statement.Statement.TheVariants.{Put, Fill, Swap, Open, End, Node, Bus, Wake, Host, Back, Serve}
 use Rattle.scenario_text.specs.Lookups.{has_device, parts_of}
 use Rattle.scenario_text.specs.Scenario.{Scenario}
 
@@ -16,22 +21,42 @@ abbrev pub parts_by : List DeviceSetup → ℕ → ℕ
 parts_by [] dev = 0
 parts_by (d ∷ ds) dev = if d.dev.0 == dev then parts_of d.kind else parts_by ds dev
 
+-- A host may tell a device of this kind this event: a display those of its connectors.
+abbrev pub fits : DeviceKind → HostEvent → Bool
+fits (Display connectors) (Blank connector) = nat_lt connector connectors
+fits (Display connectors) (Show connector) = nat_lt connector connectors
+fits (Display connectors) other = false
+
+-- whether a host may tell the device of this number this event
+abbrev pub takes_by : List DeviceSetup → ℕ → HostEvent → Bool
+takes_by [] dev e = false
+takes_by (d ∷ ds) dev e = if d.dev.0 == dev then fits d.kind e else takes_by ds dev e
+
 -- a node's number is one of 32 bits
 abbrev pub IsNodeValue : NodeValue → Type 0
 IsNodeValue Absent = Unit {0}
 IsNodeValue Bad = Unit {0}
 IsNodeValue (Number n) = n < 2 ^ 32
 
+-- the words of a fill are its domain's, and there is at least one
+pub record IsFilled (frames : ℕ → ℕ) (f : Filling) : Type 0 where
+  pub some : 1 ≤ f.count
+  pub word : f.word < 1024
+  pub within : 1024 * f.frame.0 + f.word + f.count ≤ 1024 * frames f.dom.0
+  pub value : f.value < 2 ^ 32
+  pub step : f.step < 2 ^ 32
+
 -- a statement names what the scenario declared
 abbrev pub IsPlayed : Scenario → Statement → Type 0
 IsPlayed s (Put at v) = InRange (frames_by s.sizes) (grants_by s.sizes) at × (v < 2 ^ 32)
-IsPlayed s (Fill f) = (1 ≤ f.count) × (f.word < 1024) × (1024 * f.frame.0 + f.word + f.count ≤ 1024 * frames_by s.sizes f.dom.0) × (f.value < 2 ^ 32) × (f.step < 2 ^ 32)
+IsPlayed s (Fill f) = IsFilled (frames_by s.sizes) f
 IsPlayed s (Swap at old new) = InRange (frames_by s.sizes) (grants_by s.sizes) at × (old < 2 ^ 32) × (new < 2 ^ 32)
 IsPlayed s (Open o) = (1 ≤ o.count) × (o.gref.0 + o.count ≤ grants_by s.sizes o.dom.0) × (o.frame.0 + o.count ≤ frames_by s.sizes o.dom.0)
 IsPlayed s (End e) = (1 ≤ e.count) × (e.gref.0 + e.count ≤ grants_by s.sizes e.dom.0)
 IsPlayed s (Node dev part key v) = (has_device dev.0 s.devices ≡ true) × (part < parts_by s.devices dev.0) × (key < 4) × IsNodeValue v
 IsPlayed s (Bus dev state) = has_device dev.0 s.devices ≡ true
 IsPlayed s (Wake dev) = has_device dev.0 s.devices ≡ true
+IsPlayed s (Host dev e) = (has_device dev.0 s.devices ≡ true) × (takes_by s.devices dev.0 e ≡ true)
 IsPlayed s (Back dev count) = (has_device dev.0 s.devices ≡ true) × (1 ≤ count) × (count < 2 ^ 32)
 IsPlayed s (Serve dev) = has_device dev.0 s.devices ≡ true
 

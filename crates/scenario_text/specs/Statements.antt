@@ -1,15 +1,20 @@
 -- Statements, behind their first token.
-use Rattle.std.specs.Prelude.{◌-◌, ◌*◌, ◌^◌, min, Result, Ok}
+use Rattle.std.specs.Prelude.{ℕ, ◌-◌, ◌*◌, ◌^◌, min, Result, Ok}
+use Rattle.pv_words.specs.declared.device.HostEvent.TheVariants.{Blank, Show}
+use Rattle.pv_words.specs.declared.grant.Mode.{Mode}
+use Rattle.pv_words.specs.declared.place.DomId.{DomId}
 use Rattle.pv_words.specs.declared.place.Place.TheVariants.{Cell, Grant}
 use Rattle.pv_words.specs.declared.place.Half.TheVariants.{Flags}
 use Rattle.scenario_text.specs.declared.draft.Item.{Item}
 use Rattle.scenario_text.specs.declared.draft.Item.TheVariants.{Step}
-use Rattle.scenario_text.specs.declared.statement.Statement.TheVariants.{Put, Fill, Swap, Open, End, Node, Bus, Wake, Back, Serve}
+use Rattle.scenario_text.specs.declared.statement.Filling.{Filling}
+use Rattle.scenario_text.specs.declared.statement.Opening.{Opening}
+use Rattle.scenario_text.specs.declared.statement.Statement.TheVariants.{Put, Fill, Swap, Open, End, Node, Bus, Wake, Host, Back, Serve}
 use Rattle.scenario_text.specs.declared.fault.Flaw.{Flaw}
 use Rattle.scenario_text.specs.Flaws.{◌>>=◌}
 use Rattle.scenario_text.specs.Cursors.{Cursor}
 use Rattle.scenario_text.specs.Arguments.{between_at, below_at, half_at, mode_at, key_at, node_value_at, state_at}
-use Rattle.scenario_text.specs.Lookups.{size_at, device_at, parts_of}
+use Rattle.scenario_text.specs.Lookups.{size_at, device_at, connector_at, parts_of}
 use Rattle.scenario_text.specs.Scenario.{Scenario}
 
 -- put D F W V: value V at word W of frame F of domain D
@@ -21,6 +26,11 @@ put_at so_far c = do
   value ← below_at (2 ^ 32) word.1
   Ok (Step (Put (Cell size.0.dom (record { 0 = frame.0.value }) word.0.value) value.0.value), value.1)
 
+-- values from one on, by steps, at so many words from one of a frame on
+abbrev pub filling : DomId → (frame word count value step : ℕ) → Filling
+filling dom frame word count value step =
+    record { dom = dom; frame = record { 0 = frame }; word = word; count = count; value = value; step = step }
+
 -- fill D F W N V T: values V, V + T, V + 2T and so on, modulo 2 ^ 32, at N words of domain D from word W of frame F on. N is
 -- 1 or more, below 2 ^ 32, and no more than there are words from there on.
 unfoldable pub fill_at : Scenario → Cursor → Result (Item × Cursor) Flaw
@@ -31,7 +41,7 @@ fill_at so_far c = do
   count ← between_at 1 (min (1024 * (size.0.frames - frame.0.value) - word.0.value) (2 ^ 32 - 1)) word.1
   value ← below_at (2 ^ 32) count.1
   step ← below_at (2 ^ 32) value.1
-  Ok (Step (Fill (record { dom = size.0.dom; frame = record { 0 = frame.0.value }; word = word.0.value; count = count.0.value; value = value.0.value; step = step.0.value })), step.1)
+  Ok (Step (Fill (filling size.0.dom frame.0.value word.0.value count.0.value value.0.value step.0.value)), step.1)
 
 -- putg D G H V: value V at half H of grant entry G of domain D
 unfoldable pub put_grant_at : Scenario → Cursor → Result (Item × Cursor) Flaw
@@ -51,6 +61,11 @@ swap_at so_far c = do
   new ← below_at (2 ^ 32) old.1
   Ok (Step (Swap (Grant size.0.dom (record { 0 = gref.0.value }) Flags) old.0.value new.0.value), new.1)
 
+-- so many grants from one on, for frames from one on
+abbrev pub opening : DomId → (gref frame : ℕ) → Mode → (count : ℕ) → Opening
+opening dom gref frame mode count =
+    record { dom = dom; gref = record { 0 = gref }; frame = record { 0 = frame }; mode = mode; count = count }
+
 -- open D G F M N: N grants of domain D from G on, for its frames from F on, in mode M. N is 1 or more, and no more than
 -- there are grants from G on, and frames from F on.
 unfoldable pub open_at : Scenario → Cursor → Result (Item × Cursor) Flaw
@@ -60,7 +75,7 @@ open_at so_far c = do
   frame ← below_at size.0.frames gref.1
   mode ← mode_at frame.1
   count ← between_at 1 (min (size.0.grants - gref.0.value) (size.0.frames - frame.0.value)) mode.1
-  Ok (Step (Open (record { dom = size.0.dom; gref = record { 0 = gref.0.value }; frame = record { 0 = frame.0.value }; mode = mode.0; count = count.0.value })), count.1)
+  Ok (Step (Open (opening size.0.dom gref.0.value frame.0.value mode.0 count.0.value)), count.1)
 
 -- end D G N: N grants of domain D from G on. N is 1 or more, and no more than there are grants from G on.
 unfoldable pub end_at : Scenario → Cursor → Result (Item × Cursor) Flaw
@@ -91,6 +106,18 @@ unfoldable pub wake_at : Scenario → Cursor → Result (Item × Cursor) Flaw
 wake_at so_far c = do
   dev ← device_at so_far.devices c
   Ok (Step (Wake dev.0.dev), dev.1)
+
+-- blank N C: a vertical blank of connector C of device N, a display
+unfoldable pub blank_at : Scenario → Cursor → Result (Item × Cursor) Flaw
+blank_at so_far c = do
+  at ← connector_at so_far.devices c
+  Ok (Step (Host at.0.0 (Blank at.0.1)), at.1)
+
+-- show N C: connector C of device N, a display, is to show its picture
+unfoldable pub show_at : Scenario → Cursor → Result (Item × Cursor) Flaw
+show_at so_far c = do
+  at ← connector_at so_far.devices c
+  Ok (Step (Host at.0.0 (Show at.0.1)), at.1)
 
 -- back N K: device N, and K accesses, of which there is at least 1
 unfoldable pub back_at : Scenario → Cursor → Result (Item × Cursor) Flaw

@@ -18,7 +18,10 @@ in_first_piece column b (t ∷ ts) = record { column = column; octets = b ∷ t.
 -- the pieces that blanks end, of octets whose first one has this column
 unfoldable pub pieces : ℕ → List ℕ → List Token
 pieces column [] = []
-pieces column (b ∷ bs) = if is_blank b then record { column = column; octets = [] } ∷ pieces (column + 1) bs else in_first_piece column b (pieces (column + 1) bs)
+pieces column (b ∷ bs) =
+    if is_blank b
+    then record { column = column; octets = [] } ∷ pieces (column + 1) bs
+    else in_first_piece column b (pieces (column + 1) bs)
 
 -- whether a piece has octets
 abbrev pub is_filled : Token → Bool

@@ -9,7 +9,9 @@ ghost use Rattle.scenario_text.specs.Items.{command_of, is_declaration, command_
 use crate::declaration::{display, domain};
 use crate::draft::{Draft, Item};
 use crate::fault::{FaultKind, Flaw};
-use crate::statement::{back, bus, end, fill, node, open, put, put_grant, serve, swap, wake};
+use crate::statement::{
+    back, blank, bus, end, fill, node, open, put, put_grant, serve, show, swap, wake,
+};
 use crate::words::{Word, Words};
 
 /// What the first token of a line names.
@@ -26,6 +28,8 @@ pub enum Command {
     Node,
     Bus,
     Wake,
+    Blank,
+    Show,
     Back,
     Serve,
 }
@@ -53,6 +57,10 @@ fn command_of(octets: &[u8]) -> Option<Command>
         Some(Command::Bus)
     } else if octets == b"wake".as_slice() {
         Some(Command::Wake)
+    } else if octets == b"blank".as_slice() {
+        Some(Command::Blank)
+    } else if octets == b"show".as_slice() {
+        Some(Command::Show)
     } else if octets == b"back".as_slice() {
         Some(Command::Back)
     } else if octets == b"serve".as_slice() {
@@ -70,20 +78,7 @@ fn command_of(octets: &[u8]) -> Option<Command>
 fn is_declaration(command: Command) -> bool
     ensures { result ≡ is_declaration command }
 {
-    match command {
-        Command::Domain | Command::Display => true,
-        Command::Put
-        | Command::Fill
-        | Command::PutGrant
-        | Command::Swap
-        | Command::Open
-        | Command::End
-        | Command::Node
-        | Command::Bus
-        | Command::Wake
-        | Command::Back
-        | Command::Serve => false,
-    }
+    matches!(command, Command::Domain | Command::Display)
 }
 
 /// What the first token of a line names. No declaration may follow a statement.
@@ -125,6 +120,8 @@ fn arguments<'a>(
         Command::Node => node(so_far, words),
         Command::Bus => bus(so_far, words),
         Command::Wake => wake(so_far, words),
+        Command::Blank => blank(so_far, words),
+        Command::Show => show(so_far, words),
         Command::Back => back(so_far, words),
         Command::Serve => serve(so_far, words),
     }

@@ -3,10 +3,11 @@
 ghost use Rattle.std.specs.Prelude.{◌≡◌, option_map};
 ghost use Rattle.scenario_text.specs.Flaws.{Gives};
 ghost use Rattle.scenario_text.specs.Cursors.{cursor, seen, seen_device};
-ghost use Rattle.scenario_text.specs.Lookups.{size_of, device_of, has_device, parts_of, frames_left};
-ghost use Rattle.scenario_text.specs.Lookups.{grants_left, new_domain_at, size_at, new_device_at, device_at};
+ghost use Rattle.scenario_text.specs.Lookups.{size_of, device_of, has_device, parts_of, connectors_of};
+ghost use Rattle.scenario_text.specs.Lookups.{frames_left, grants_left, new_domain_at, size_at};
+ghost use Rattle.scenario_text.specs.Lookups.{new_device_at, device_at, connector_at};
 
-use crate::argument::between;
+use crate::argument::{below, between};
 use crate::fault::{FaultKind, Flaw};
 use crate::words::Words;
 use pv_words::{DevId, DeviceKind, DeviceSetup, DomId, DomainSize};
@@ -36,6 +37,15 @@ pub fn parts_of(kind: &DeviceKind) -> u8
 {
     match kind {
         DeviceKind::Display(connectors) => *connectors,
+    }
+}
+
+/// How many connectors a device has, if it is a display.
+fn connectors_of(kind: &DeviceKind) -> Option<u8>
+    ensures { result ≡ connectors_of kind.now }
+{
+    match kind {
+        DeviceKind::Display(connectors) => Some(*connectors),
     }
 }
 
@@ -137,4 +147,30 @@ pub fn declared_device<'d, 'a>(
             kind: FaultKind::Undeclared,
         }),
     }
+}
+
+/// The next two tokens as the number of a declared display and that of one of its connectors.
+#[tactic(auto, unfolding(crate::specs::Lookups::connector_at))]
+pub fn connector<'a>(
+    devices: &[DeviceSetup],
+    words: Words<'a>,
+) -> Result<((DevId, u8), Words<'a>), Flaw>
+    ensures { Gives seen result (connector_at devices.now (cursor words.entry)) }
+{
+    let (dev, words) = between(words, 1, 16)?;
+    let column = dev.column;
+    let Some(device) = device_of(dev.value, devices) else {
+        return Err(Flaw {
+            column,
+            kind: FaultKind::Undeclared,
+        });
+    };
+    let Some(connectors) = connectors_of(&device.kind) else {
+        return Err(Flaw {
+            column,
+            kind: FaultKind::WrongDevice,
+        });
+    };
+    let (connector, words) = below(words, u64::from(connectors))?;
+    Ok(((device.dev, connector.value as u8), words))
 }

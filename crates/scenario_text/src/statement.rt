@@ -5,14 +5,15 @@ ghost use Rattle.scenario_text.specs.Flaws.{Gives};
 ghost use Rattle.scenario_text.specs.Cursors.{cursor, seen};
 ghost use Rattle.scenario_text.specs.Scenario.{drafted};
 ghost use Rattle.scenario_text.specs.Statements.{put_at, fill_at, put_grant_at, swap_at, open_at};
-ghost use Rattle.scenario_text.specs.Statements.{end_at, node_at, bus_at, wake_at, back_at, serve_at};
+ghost use Rattle.scenario_text.specs.Statements.{end_at, node_at, bus_at, wake_at, blank_at, show_at};
+ghost use Rattle.scenario_text.specs.Statements.{back_at, serve_at};
 
 use crate::argument::{below, between, half, key, mode, node_value, state};
 use crate::draft::{Draft, Item};
 use crate::fault::Flaw;
-use crate::lookup::{declared_device, declared_domain, parts_of};
+use crate::lookup::{connector, declared_device, declared_domain, parts_of};
 use crate::words::Words;
-use pv_words::{DevId, DomId, Frame, GrantRef, Half, Mode, NodeValue, Place, State};
+use pv_words::{DevId, DomId, Frame, GrantRef, Half, HostEvent, Mode, NodeValue, Place, State};
 
 /// Stores to consecutive words of a domain, through following frames. The domain has all these words.
 #[derive(Clone, Copy, Debug, PartialEq, Eq)]
@@ -78,6 +79,8 @@ pub enum Statement {
     Bus(DevId, State),
     /// Raise the pending word of this device.
     Wake(DevId),
+    /// Tell this device an event of its host: one of its kind, and of a part that it has.
+    Host(DevId, HostEvent),
     /// Let this device work until it made this many accesses, at least 1, or is idle.
     Back(DevId, u32),
     /// Let this device work until it is idle.
@@ -223,6 +226,26 @@ pub fn wake<'a>(so_far: &Draft, words: Words<'a>) -> Result<(Item, Words<'a>), F
 {
     let (device, words) = declared_device(&so_far.devices, words)?;
     Ok((Item::Step(Statement::Wake(device.dev)), words))
+}
+
+/// `blank N C`: tell device N, a display, of a vertical blank of its connector C.
+#[tactic(auto, unfolding(crate::specs::Statements::blank_at))]
+pub fn blank<'a>(so_far: &Draft, words: Words<'a>) -> Result<(Item, Words<'a>), Flaw>
+    ensures { Gives seen result (blank_at (drafted so_far.now) (cursor words.entry)) }
+{
+    let ((dev, connector), words) = connector(&so_far.devices, words)?;
+    let event = HostEvent::Blank(connector);
+    Ok((Item::Step(Statement::Host(dev, event)), words))
+}
+
+/// `show N C`: tell device N, a display, to show the picture of its connector C.
+#[tactic(auto, unfolding(crate::specs::Statements::show_at))]
+pub fn show<'a>(so_far: &Draft, words: Words<'a>) -> Result<(Item, Words<'a>), Flaw>
+    ensures { Gives seen result (show_at (drafted so_far.now) (cursor words.entry)) }
+{
+    let ((dev, connector), words) = connector(&so_far.devices, words)?;
+    let event = HostEvent::Show(connector);
+    Ok((Item::Step(Statement::Host(dev, event)), words))
 }
 
 /// `back N K`: let device N work until it made K accesses, at least 1, or is idle.

@@ -3,8 +3,8 @@ use crate::FaultKind::{
     BadNumber, BadWord, ExtraWord, Late, MissingWord, OutOfRange, Twice, Undeclared,
 };
 use pv_words::{
-    DevId, DeviceKind, DeviceSetup, DomId, DomainSize, Frame, GrantRef, Half, Kind, Mode,
-    NodeValue, Place, State,
+    DevId, DeviceKind, DeviceSetup, DomId, DomainSize, Frame, GrantRef, Half, HostEvent, Kind,
+    Mode, NodeValue, Place, State,
 };
 use std::alloc::Global;
 use std::process::Abort;
@@ -125,7 +125,7 @@ fn fills(rt: HostRuntime) -> Result<(), Fail> {
 fn one_of_each_of_devices(rt: HostRuntime) -> Result<(), Fail> {
     let text =
         b"domain 2 wild 1 0\ndisplay 16 2 4\ndomain 1 wild 1 0\ndisplay 1 1 1\ndisplay 2 1 2\n\
-        node 16 3 evt-event-channel 9\nbus 2 3\nwake 1\nback 16 0x10\nserve 16\n";
+        node 16 3 evt-event-channel 9\nbus 2 3\nwake 1\nblank 16 3\nshow 1 0\nback 16 0x10\nserve 16\n";
     let script = Script::parse(rt.alloc(), text)?;
     let device = |dev, dom, connectors| DeviceSetup {
         dev: DevId(dev),
@@ -137,6 +137,8 @@ fn one_of_each_of_devices(rt: HostRuntime) -> Result<(), Fail> {
         Statement::Node(DevId(16), 3, 3, NodeValue::Number(9)),
         Statement::Bus(DevId(2), State::Initialised),
         Statement::Wake(DevId(1)),
+        Statement::Host(DevId(16), HostEvent::Blank(3)),
+        Statement::Host(DevId(1), HostEvent::Show(0)),
         Statement::Back(DevId(16), 16),
         Statement::Serve(DevId(16)),
     ];
@@ -246,6 +248,12 @@ fn faults_of_statements_of_devices(rt: HostRuntime) -> Result<(), Fail> {
         ("bus 1 x", 3, 7, BadNumber),
         ("wake 0", 3, 6, OutOfRange),
         ("wake 16", 3, 6, Undeclared),
+        ("blank 0 4", 3, 7, OutOfRange),
+        ("blank 2 4", 3, 7, Undeclared),
+        ("blank 1 4", 3, 9, OutOfRange),
+        ("show 1 x", 3, 8, BadNumber),
+        ("show 1", 3, 7, MissingWord),
+        ("show 1 3 0", 3, 10, ExtraWord),
         ("back 1", 3, 7, MissingWord),
         ("back 1 0", 3, 8, OutOfRange),
         ("back 1 4294967296", 3, 8, OutOfRange),

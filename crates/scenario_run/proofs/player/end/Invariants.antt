@@ -1,7 +1,8 @@
 use Rattle.std.proofs.Common.{◌≡◌, ℕ, List}
 use Rattle.pv_words.specs.Port.{KeepsSame}
 use Rattle.backend_core.specs.Marked.{Item, entries}
-use Rattle.pv_world.specs.World.{Stands, devices_of, memory_of, setups, sight}
+use Rattle.pv_world.specs.World.{Stands, devices_of, memory_of, setups}
+use Rattle.pv_world.proofs.Seen.{seen}
 use Rattle.scenario_run.specs.Follows.{closing}
 use Rattle.scenario_run.proofs.Grants.{SoFar}
 use Rattle.scenario_run.proofs.player.end.Given as goal
@@ -12,5 +13,5 @@ invariant-loop-k g l = record {
   grants : g.W.Words.grants_of (memory_of l.world) l.closing.dom.0 ≡ g.W.Words.grants_of (memory_of l.fn.world) l.closing.dom.0;
   devices : setups (devices_of l.world) ≡ setups (devices_of l.fn.world);
   keeps : KeepsSame (g.W.Words.port (memory_of l.fn.world)) (g.W.Words.port (memory_of l.world));
-  steps : (frames grants : ℕ → ℕ) (m : List Item) → Stands (sight g.W.Machine.word g.W.Words.frames_of g.W.Words.grants_of g.W.Words.port g.W.Machine.whole g.W.Machine.knows_device g.W.Machine.knows_domain) frames grants (memory_of l.fn.world) (devices_of l.fn.world) m → entries m ≡ l.fn.journal.entries → SoFar (sight g.W.Machine.word g.W.Words.frames_of g.W.Words.grants_of g.W.Words.port g.W.Machine.whole g.W.Machine.knows_device g.W.Machine.knows_domain) frames grants (memory_of l.world) (devices_of l.world) l.closing.dom l.closing.gref (closing l.closing) l.k l.journal.entries m;
+  steps : (frames grants : ℕ → ℕ) (m : List Item) → Stands (seen g.W.Words g.W.Machine) frames grants (memory_of l.fn.world) (devices_of l.fn.world) m → entries m ≡ l.fn.journal.entries → SoFar (seen g.W.Words g.W.Machine) frames grants (memory_of l.world) (devices_of l.world) l.closing.dom l.closing.gref (closing l.closing) l.k l.journal.entries m;
 }

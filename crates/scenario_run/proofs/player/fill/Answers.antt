@@ -1,7 +1,8 @@
 use Rattle.std.proofs.Common.{◌≡◌, ◌∙◌, ◌+◌, ◌*◌, ◌<◌, ◌++◌, Ok, Err, subst, sym, arith}
 use Rattle.std.proofs.lemmas.Result.{err_from_is_err_and}
 use Rattle.backend_core.specs.Marked.{Item}
-use Rattle.pv_world.specs.World.{Enters, devices_of, memory_of, sight}
+use Rattle.pv_world.specs.World.{Enters, devices_of, memory_of}
+use Rattle.pv_world.proofs.Seen.{seen}
 use Rattle.scenario_run.specs.Follows.{stores_of}
 use Rattle.scenario_run.proofs.Fills.{fill_stops, one_more, store_is, word_in_range}
 use Rattle.scenario_run.proofs.player.fill.Goals as goal
@@ -25,7 +26,7 @@ pub returns-in_err-put-clause-played : goal.returns-in_err-put-clause-played
 returns-in_err-put-clause-played g c = λ frames grants m st e.
     let p = err_from_is_err_and c.from_residual.result c.from_residual.ensures.1 in
     let f = c.args.filling.now in
-    let w = sight g.W.Machine.word g.W.Words.frames_of g.W.Words.grants_of g.W.Words.port g.W.Machine.whole g.W.Machine.knows_device g.W.Machine.knows_domain in
+    let w = seen g.W.Words g.W.Machine in
     let before = c.loop-k.invariant.steps frames grants m st e in
     let stored = c.in_err-put.ensures.stored frames grants (m ++ stores_of f c.loop-k.k) before.0 before.1 in
     let due = subst (λ (i : Item). Enters w frames grants (memory_of c.put.new.self) (devices_of c.put.new.self) i c.put.new.journal.entries (m ++ stores_of f c.loop-k.k) {A = Unit {0}} (Err c.in_err-put.field-0.0)) (store_is f c.from.result c.loop-k.k c.from.ensures) stored in
@@ -34,7 +35,7 @@ returns-in_err-put-clause-played g c = λ frames grants m st e.
 pub loop-k-preserved : goal.loop-k-preserved
 loop-k-preserved g c =
     let f = c.args.filling.now in
-    let w = sight g.W.Machine.word g.W.Words.frames_of g.W.Words.grants_of g.W.Words.port g.W.Machine.whole g.W.Machine.knows_device g.W.Machine.knows_domain in
+    let w = seen g.W.Words g.W.Machine in
     record {
       devices = c.put.ensures.devices ∙ c.loop-k.invariant.devices;
       keeps = λ dom. c.put.ensures.keeps dom ∙ c.loop-k.invariant.keeps dom;

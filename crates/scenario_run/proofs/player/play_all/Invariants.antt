@@ -2,7 +2,8 @@ use Rattle.std.proofs.Common.{◌≡◌, List, [], take}
 use Rattle.pv_words.specs.Port.{KeepsNone}
 use Rattle.pv_words.specs.Sizes.{frames_by, grants_by}
 use Rattle.backend_core.specs.Marked.{Item, entries}
-use Rattle.pv_world.specs.World.{Stands, devices_of, memory_of, setups, sight}
+use Rattle.pv_world.specs.World.{Stands, devices_of, memory_of, setups}
+use Rattle.pv_world.proofs.Seen.{seen}
 use Rattle.scenario_run.specs.Follows.{Follows}
 use Rattle.scenario_run.proofs.player.play_all.Given as goal
 
@@ -10,6 +11,6 @@ use Rattle.scenario_run.proofs.player.play_all.Given as goal
 abbrev pub invariant-loop-statement : goal.invariant-loop-statement
 invariant-loop-statement g l =
     (followed : List Item) × Follows (frames_by l.script.sizes) (grants_by l.script.sizes) l.script.devices (take l.statement-index l.script.statements) [] followed
-    × Stands (sight g.W.Machine.word g.W.Words.frames_of g.W.Words.grants_of g.W.Words.port g.W.Machine.whole g.W.Machine.knows_device g.W.Machine.knows_domain) (frames_by l.script.sizes) (grants_by l.script.sizes) (memory_of l.world) (devices_of l.world) followed
+    × Stands (seen g.W.Words g.W.Machine) (frames_by l.script.sizes) (grants_by l.script.sizes) (memory_of l.world) (devices_of l.world) followed
     × (entries followed ≡ l.journal.entries) × (setups (devices_of l.world) ≡ l.script.devices)
     × KeepsNone (g.W.Words.port (memory_of l.world))

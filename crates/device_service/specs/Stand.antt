@@ -16,7 +16,7 @@ use Rattle.device_service.specs.declared.serve.Serve.{Ghosts}
 use Rattle.device_service.specs.Activity.{hand_part, is_connecting, is_leaving}
 use Rattle.device_service.specs.Claims.{site_of}
 use Rattle.device_service.specs.Parts as of_parts
-use Rattle.device_service.specs.Work.{Work, End, Took, Own, Done, Answered, Slept, Denied, Shut, connected, device}
+use Rattle.device_service.specs.Work.{Work, End, Took, Own, Done, Answered, Slept, Raised, Denied, Shut, connected, device}
 
 -- A Connect or a Close of which no access is left keeps its reason; so it would be for a domain that has become smaller.
 abbrev pub why_of : {A V : Type 0} → End A V → Reason
@@ -90,7 +90,8 @@ module _ {S E : Type 0} {g : Ghosts S E} where
   stand_in site d w activity.Taking = During w (mapped Took (of_parts.take_left d.at d.parts))
   stand_in site d w activity.Working = During w (mapped Own (g.left site d.service))
   stand_in site d w activity.Serving = During w (mapped Done (g.left site d.service))
-  stand_in site d w activity.Answering = During w (mapped Answered (of_parts.answer_left (hand_part d.hand) d.reply d.parts))
+  stand_in site d w activity.Answering = During w (mapped Answered (of_parts.answer_left (hand_part d.hand) d.outgoing d.parts))
+  stand_in site d w (activity.Raising part) = During w (mapped (Raised part d.cause) (of_parts.raise_left part d.outgoing d.parts))
   stand_in site d w activity.Sleeping = During w (mapped Slept (of_parts.sleep_left d.parts))
 
   unfoldable pub stand_of : Site → Backend S E g → Stand (Work g.Known E) (End g.End E)

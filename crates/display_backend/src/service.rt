@@ -316,11 +316,20 @@ impl Serve for Service {
         [0; 16]
     }
 
-    fn put(&mut self, _event: Option<Waiting>) -> Said {
+    fn put(&mut self, event: Option<Waiting>) -> Said
+        requires idle { going_of self.old ≡ false }
+        ensures said { result ≡ display.put (known_of self.old) event }
+        ensures knows { known_of self.new ≡ display.after_put (known_of self.old) event }
+        ensures idle { going_of self.new ≡ false }
+    {
         Said::Full(0)
     }
 
-    fn found_full(&mut self, _event: Option<Waiting>) {}
+    fn found_full(&mut self, event: Option<Waiting>)
+        requires idle { going_of self.old ≡ false }
+        ensures knows { known_of self.new ≡ display.after_full (known_of self.old) event }
+        ensures idle { going_of self.new ≡ false }
+    {}
 
     fn go_on<W: Words>(&mut self, dom: DomId, parts: u8, words: &mut W) -> Deed {
         if let Course::Frees(cookie) = self.course {

@@ -1,9 +1,9 @@
 //! An event is put into the event page of a part: the oldest that waits, or one that the service owes.
 
-ghost use Rattle.std.specs.Prelude.{◌≡◌, ◌<◌, None, Some, false, slice_get, true};
+ghost use Rattle.std.specs.Prelude.{◌≡◌, ◌<◌, None, Some, false, true};
 ghost use Rattle.device_service.specs.Activity.{MayServe, is_open};
 ghost use Rattle.device_service.specs.Parts as of_parts;
-ghost use Rattle.device_service.specs.Raising.{IsOwed, OwesNothing, has_left, raised_in, raises_in};
+ghost use Rattle.device_service.specs.Raising.{IsOwed, OwesNothing, has_left, raised_in};
 ghost use Rattle.device_service.specs.Work.{waits_after};
 
 use super::{Activity, Backend};
@@ -26,16 +26,14 @@ fn drop_done<V: Copy>(waiting: &mut Queue<V>, cause: Option<V>)
 }
 
 impl<S: Serve + Drop> Backend<S> {
-    ghost use Rattle.std.specs.Prelude.{ℕ, List};
-    ghost use Rattle.pv_words.specs.declared.grant.Hold.{Hold};
-    ghost use Rattle.pv_words.specs.Plan.{MayGo, Makes, mapped};
+    ghost use Rattle.std.specs.Prelude.{ℕ};
+    ghost use Rattle.pv_words.specs.Plan.{MayGo, Makes};
     ghost use Rattle.link_core.specs.Stays.{AccessIn};
-    ghost use Rattle.device_core.specs.Order.{GoesOn, MayChoose};
+    ghost use Rattle.device_core.specs.Order.{MayChoose};
     ghost use Rattle.device_core.specs.Site.{Site};
     ghost use Rattle.device_service.specs.declared.backend.Activity.TheVariants as activity;
-    ghost use Rattle.device_service.specs.Goes.{Begins};
-    ghost use Rattle.device_service.specs.Stand.{Same, held_of, site_at, stand_of, work_of};
-    ghost use Rattle.device_service.specs.Work.{Raised, device, raise_said, with_owed};
+    ghost use Rattle.device_service.specs.Stand.{BeginsAt, RaisesOn, Same, held_of, pays_at, raise_left, raises_at, site_at, work_of};
+    ghost use Rattle.device_service.specs.Work.{raise_said};
 
     // The part to which an event is owed, where it is connected.
     pub(super) fn owed(&self) -> Option<u8>
@@ -62,8 +60,8 @@ impl<S: Serve + Drop> Backend<S> {
         requires between { self.old.activity ≡ activity.Between }
         requires opened { is_open self.old.activity self.old.closing self.old.connection.back ≡ true }
         requires owed { IsOwed S.service (S.knows self.old.service) self.old.parts part }
-        requires may { MayChoose (W.may words.old) (with_owed S.service (site_at (W.frames_of words.old) (W.grants_of words.old) self.old) (work_of self.old) (S.service.owes (S.knows self.old.service))) }
-        ensures begins { (site : Site) → Begins S.service site (with_owed S.service site (work_of self.old) (S.service.owes (S.knows self.old.service))) result.access result.said (stand_of site self.new) }
+        requires may { MayChoose (W.may words.old) (pays_at (site_at (W.frames_of words.old) (W.grants_of words.old) self.old) self.old) }
+        ensures begins { (site : Site) → BeginsAt site (pays_at site self.old) result.access result.said self.new }
         ensures made { Makes W.makes words.old result.access words.new }
         ensures stays { AccessIn (held_of self.old) result.access }
         ensures same { Same self.old self.new }
@@ -84,8 +82,8 @@ impl<S: Serve + Drop> Backend<S> {
         requires between { self.old.activity ≡ activity.Between }
         requires opened { is_open self.old.activity self.old.closing self.old.connection.back ≡ true }
         requires part { part < of_parts.count_of self.old.parts }
-        requires may { MayChoose (W.may words.old) (raises_in S.service (work_of self.old) cause part outgoing (slice_get (of_parts.joined_of self.old.parts) part)) }
-        ensures begins { (site : Site) → Begins S.service site (raises_in S.service (work_of self.old) cause part outgoing (slice_get (of_parts.joined_of self.old.parts) part)) result.access result.said (stand_of site self.new) }
+        requires may { MayChoose (W.may words.old) (raises_at self.old cause part outgoing) }
+        ensures begins { (site : Site) → BeginsAt site (raises_at self.old cause part outgoing) result.access result.said self.new }
         ensures made { Makes W.makes words.old result.access words.new }
         ensures stays { AccessIn (held_of self.old) result.access }
         ensures same { Same self.old self.new }
@@ -104,9 +102,9 @@ impl<S: Serve + Drop> Backend<S> {
         requires serving { MayServe self.old.activity (activity.Raising part) }
         requires opened { is_open self.old.activity self.old.closing self.old.connection.back ≡ true }
         requires part { part < of_parts.count_of self.old.parts }
-        requires begun { has_left (of_parts.raise_left part self.old.outgoing self.old.parts) ≡ true }
-        requires may { MayGo (W.may words.old) (of_parts.raise_left part self.old.outgoing self.old.parts) }
-        ensures goes { (site : Site) → GoesOn (device S.service site) (work_of self.old) (mapped (Raised part self.old.cause) (of_parts.raise_left part self.old.outgoing self.old.parts)) result.access result.said (stand_of site self.new) }
+        requires begun { has_left (raise_left self.old part) ≡ true }
+        requires may { MayGo (W.may words.old) (raise_left self.old part) }
+        ensures goes { (site : Site) → RaisesOn site self.old part result.access result.said self.new }
         ensures made { Makes W.makes words.old result.access words.new }
         ensures stays { AccessIn (held_of self.old) result.access }
         ensures same { Same self.old self.new }

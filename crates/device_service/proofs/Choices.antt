@@ -68,12 +68,12 @@ module _ {X A V : Type 0} (s : Service X A V) (site : Site) where
   unfolding choice
   kept_is w why e f = ap (with_closing s site w) e ∙ ap (with_kept s site w) f
 
-  -- a service that owes no event
-  pub action_is : (w : Work X V) (a : Action) → w.closing ≡ false → w.kept ≡ None → s.owes w.service ≡ None → action_of w.connection ≡ a → choice s site w ≡ with_action s site w a
+  -- where no event is owed to a part that is connected
+  pub action_is : (w : Work X V) (a : Action) → w.closing ≡ false → w.kept ≡ None → with_owed s site w (s.owes w.service) ≡ with_action s site w (action_of w.connection) → action_of w.connection ≡ a → choice s site w ≡ with_action s site w a
   unfolding choice
-  action_is w a e f o h = ap (with_closing s site w) e ∙ (ap (with_kept s site w) f ∙ (ap (with_owed s site w) o ∙ ap (with_action s site w) h))
+  action_is w a e f o h = ap (with_closing s site w) e ∙ (ap (with_kept s site w) f ∙ (o ∙ ap (with_action s site w) h))
 
-  pub connected_is : (w : Work X V) → w.closing ≡ false → w.kept ≡ None → s.owes w.service ≡ None → action_of w.connection ≡ action.Stay → w.connection.back ≡ state.Connected → choice s site w ≡ with_hand s site w w.hand
+  pub connected_is : (w : Work X V) → w.closing ≡ false → w.kept ≡ None → with_owed s site w (s.owes w.service) ≡ with_action s site w (action_of w.connection) → action_of w.connection ≡ action.Stay → w.connection.back ≡ state.Connected → choice s site w ≡ with_hand s site w w.hand
   connected_is w e f o h b = action_is w action.Stay e f o h ∙ ap (with_state s site w) b
 
   apart_rests : (w : Work X V) (b : State) → (b ≡ state.Connected → ⊥) → with_state s site w b ≡ Rest w
@@ -87,7 +87,7 @@ module _ {X A V : Type 0} (s : Service X A V) (site : Site) where
   apart_rests w state.Reconfiguring n = refl
   apart_rests w state.Reconfigured n = refl
 
-  pub apart_is : (w : Work X V) → w.closing ≡ false → w.kept ≡ None → s.owes w.service ≡ None → action_of w.connection ≡ action.Stay → (w.connection.back ≡ state.Connected → ⊥) → choice s site w ≡ Rest w
+  pub apart_is : (w : Work X V) → w.closing ≡ false → w.kept ≡ None → with_owed s site w (s.owes w.service) ≡ with_action s site w (action_of w.connection) → action_of w.connection ≡ action.Stay → (w.connection.back ≡ state.Connected → ⊥) → choice s site w ≡ Rest w
   apart_is w e f o h n = action_is w action.Stay e f o h ∙ apart_rests w w.connection.back n
 
   -- a request in hand that is to be answered
@@ -196,7 +196,7 @@ module _ {X A V : Type 0} (s : Service X A V) (site : Site) where
   act_busy w (action.Close b) n = refl
   act_busy w action.Renew n = refl
 
-  pub action_busy : (w : Work X V) → w.closing ≡ false → w.kept ≡ None → s.owes w.service ≡ None → (action_of w.connection ≡ action.Stay → ⊥) → true ≡ not (rests_next (choice s site w))
+  pub action_busy : (w : Work X V) → w.closing ≡ false → w.kept ≡ None → with_owed s site w (s.owes w.service) ≡ with_action s site w (action_of w.connection) → (action_of w.connection ≡ action.Stay → ⊥) → true ≡ not (rests_next (choice s site w))
   action_busy w e f o n = act_busy w (action_of w.connection) n ∙ order_busy (choice s site w) _ (action_is w (action_of w.connection) e f o refl)
 
   module _ (w : Work X V) (h : Option Hand) (none : h ≡ None) where

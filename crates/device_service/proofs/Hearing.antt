@@ -20,6 +20,7 @@ use Rattle.device_service.specs.declared.backend.Activity.TheVariants as activit
 use Rattle.device_service.specs.declared.backend.Backend.{Backend}
 use Rattle.device_service.specs.declared.serve.Serve.{Ghosts}
 use Rattle.device_service.specs.Service.{Service}
+use Rattle.device_service.specs.Raising.{raises_on}
 use Rattle.device_service.specs.Stand.{stand_at, stand_in}
 use Rattle.device_service.specs.Work.{Work, End, choice, device, part_in, told}
 
@@ -37,6 +38,7 @@ module _ {S E : Type 0} {g : Ghosts S E} where
   heard_in site d w activity.Working news = refl
   heard_in site d w activity.Serving news = refl
   heard_in site d w activity.Answering news = refl
+  heard_in site d w (activity.Raising part) news = refl
   heard_in site d w activity.Sleeping news = refl
 
 -- what holds at each refusal
@@ -66,11 +68,12 @@ pub record SameFields {S E : Type 0} {g : Ghosts S E} (b d : Backend S E g) : Ty
   pub closing : b.closing ≡ d.closing
   pub kept : b.kept ≡ d.kept
   pub hand : b.hand ≡ d.hand
-  pub reply : b.reply ≡ d.reply
+  pub outgoing : b.outgoing ≡ d.outgoing
   pub at : b.at ≡ d.at
   pub left : b.left ≡ d.left
   pub round : b.round ≡ d.round
   pub waiting : b.waiting ≡ d.waiting
+  pub cause : b.cause ≡ d.cause
   pub service : b.service ≡ d.service
   pub activity : b.activity ≡ d.activity
 
@@ -86,16 +89,18 @@ same_backend {S} {E} {g} b d k = λ i.
       closing = k.closing i;
       kept = k.kept i;
       hand = k.hand i;
-      reply = k.reply i;
+      outgoing = k.outgoing i;
       at = k.at i;
       left = k.left i;
       round = k.round i;
       waiting = k.waiting i;
+      cause = k.cause i;
       service = k.service i;
       activity = k.activity i;
       dom_is = is_prop→PathP (λ i. of_parts.dom_of (k.parts i) ≡ (k.dom i).0) (λ i. hlevel props) b.dom_is d.dom_is i;
       kind_is = is_prop→PathP (λ i. of_parts.kind_of (k.parts i) ≡ g.service.kind) (λ i. hlevel props) b.kind_is d.kind_is i;
       stands = is_prop→PathP (λ i. StandsAs (k.activity i) (is_open (k.activity i) (k.closing i) (k.connection i).back) (of_parts.doing_of (k.parts i)) (k.at i) (k.hand i)) (λ i. hlevel (props, stands_prop)) b.stands d.stands i;
+      raises = is_prop→PathP (λ i. raises_on (k.activity i) (k.outgoing i) (k.parts i) ≡ true) (λ i. hlevel props) b.raises d.raises i;
       at_in = is_prop→PathP (λ i. k.at i < of_parts.count_of (k.parts i)) (λ i. hlevel props) b.at_in d.at_in i;
       round_in = is_prop→PathP (λ i. part_in (k.round i) < of_parts.count_of (k.parts i)) (λ i. hlevel props) b.round_in d.round_in i;
       hand_in = is_prop→PathP (λ i. (h : Hand) → k.hand i ≡ Some h → h.part < of_parts.count_of (k.parts i)) (λ i. hlevel props) b.hand_in d.hand_in i;
@@ -122,4 +127,5 @@ module _ {S E : Type 0} {g : Ghosts S E} where
   stand_busy site d w activity.Working n = refl
   stand_busy site d w activity.Serving n = refl
   stand_busy site d w activity.Answering n = refl
+  stand_busy site d w (activity.Raising part) n = refl
   stand_busy site d w activity.Sleeping n = refl

@@ -1,15 +1,21 @@
--- A Take, an Answer and a Sleep access words of pages alone, and so leave what is held.
-use Rattle.std.proofs.Common.{◌≡◌, ℕ, zero, suc, ◌+◌, ◌-◌, ◌==◌, ◌++◌, Bool, true, false, if◌then◌else◌, List, [], ◌∷◌, Option, Some, None, map, drop, refl, ◌∙◌}
+-- A Take, an Answer, a Raise and a Sleep access words of pages alone, and so leave what is held.
+use Rattle.std.proofs.Common.{◌≡◌, ℕ, zero, suc, ◌+◌, ◌-◌, ◌==◌, ◌++◌, nat_lt, Bool, true, false, if◌then◌else◌, List, [], ◌∷◌, Option, Some, None, map, drop, refl, ◌∙◌}
 use Rattle.std.proofs.lemmas.Bool.{false≢true}
+use Rattle.pv_words.specs.declared.place.Place.{Place}
 use Rattle.pv_words.specs.declared.place.Place.TheVariants.{Cell, Grant}
 use Rattle.pv_words.specs.Held.{Holds, holding}
 use Rattle.pv_words.specs.Plan as plan
 use Rattle.pv_words.specs.Plan.{Plan, Finished, Make, Want, Load, Store, Swap, Clear, Note, FitsFrom, aim_of, found, joined, mapped}
 use Rattle.link_core.specs.declared.link.Link.{Link}
-use Rattle.link_core.specs.Activities.{Joined, Page, check_plan, event_plan, loads, publish_plan, sleep_plan, slot_place, stores}
-use Rattle.link_core.specs.Link.{answer_left, answer_rest, joined_of, page_of, rsp_of, sleep_left, sleep_rest, take_left, take_rest}
+use Rattle.link_core.specs.Activities.{Joined, Page, page_at, check_plan, event_plan, loads, publish_plan, sleep_plan, slot_place, stores}
+use Rattle.link_core.specs.Link.{answer_left, answer_rest, joined_of, page_of, raise_left, raise_rest, rsp_of, sleep_left, sleep_rest, take_left, take_rest}
+use Rattle.link_core.specs.declared.link.Put.TheVariants as put
+use Rattle.link_core.specs.declared.link.Stage.{Stage}
+use Rattle.link_core.specs.declared.link.Stage.TheVariants as stage
+use Rattle.link_core.specs.Raise.{event_place, limit, publish_event, put_plan, raise_in, raise_plan, slots}
+use Rattle.ring_words.specs.Ring.{since}
 use Rattle.device_core.specs.Order.{is_in_page}
-use Rattle.device_service.specs.Parts.{answer_from, sleep_from, take_from}
+use Rattle.device_service.specs.Parts.{answer_from, raise_from, sleep_from, take_from}
 use Rattle.device_service.specs.Work.{ring_page, sleep_all, sleeps_on}
 
 -- all accesses of the plan go to words of pages
@@ -29,10 +35,10 @@ unfolding loads
 in_loads page rsp zero i taken = tt
 in_loads page rsp (suc n) i taken = (refl, λ v. in_loads page rsp n (i + 1) (taken ++ v ∷ []))
 
-in_stores : (page : Page) (rsp i : ℕ) (more : Plan Bool) (vs : List ℕ) → StaysInPages more → StaysInPages (stores (slot_place page rsp) more i vs)
+in_stores : {A : Type 0} (at : ℕ → Place) → ((i : ℕ) → is_in_page (at i) ≡ true) → (i : ℕ) (more : Plan A) (vs : List ℕ) → StaysInPages more → StaysInPages (stores at more i vs)
 unfolding stores
-in_stores page rsp i more [] h = h
-in_stores page rsp i more (v ∷ vs) h = (refl, λ w. in_stores page rsp (i + 1) more vs h)
+in_stores at all i more [] h = h
+in_stores at all i more (v ∷ vs) h = (all i, λ w. in_stores at all (i + 1) more vs h)
 
 in_take_rest : (page : Page) (rsp n : ℕ) (words : List ℕ) → StaysInPages (take_rest page rsp n words)
 in_take_rest page rsp n words = in_loads page rsp (16 - n) n _
@@ -40,7 +46,30 @@ in_take_rest page rsp n words = in_loads page rsp (16 - n) n _
 in_answer_rest : (page : Page) (rsp n : ℕ) (reply : List ℕ) → StaysInPages (answer_rest page rsp n reply)
 in_answer_rest page rsp n reply =
     in_either (n == 17) (event_plan page rsp) (stores (slot_place page rsp) (publish_plan page rsp) n (drop n reply)) (refl, λ v. tt)
-    (in_stores page rsp n (publish_plan page rsp) (drop n reply) (refl, λ v. (refl, λ w. tt)))
+    (in_stores (slot_place page rsp) (λ i. refl) n (publish_plan page rsp) (drop n reply) (refl, λ v. (refl, λ w. tt)))
+
+in_puts : (page : Page) (prod n : ℕ) (words : List ℕ) → StaysInPages (stores (event_place page prod) (publish_event page prod) n words)
+in_puts page prod n words = in_stores (event_place page prod) (λ i. refl) n (publish_event page prod) words (refl, λ v. tt)
+
+in_room : (page : Page) (prod : ℕ) (words : List ℕ) (cons n : ℕ) → StaysInPages (raise_in page prod words cons n)
+in_room page prod words cons n =
+    in_either (nat_lt slots n) (Finished (put.BadCons prod cons)) (if n == slots then Finished put.Full else stores (event_place page prod) (publish_event page prod) 0 words) tt
+    (in_either (n == slots) (Finished put.Full) (stores (event_place page prod) (publish_event page prod) 0 words) tt (in_puts page prod 0 words))
+
+in_raise_plan : (page : Page) (prod : ℕ) (words : List ℕ) → StaysInPages (raise_plan page prod words)
+in_raise_plan page prod words =
+    in_either (nat_lt prod limit) (put_plan page prod words) (Finished (put.Spent prod)) (refl, λ cons. in_room page prod words cons (since cons prod)) tt
+
+in_raise_rest : (page : Page) (prod : ℕ) (at : Stage) (n : ℕ) (words : List ℕ) → StaysInPages (raise_rest page prod at n words)
+in_raise_rest page prod stage.Raise n words = in_puts page prod n (drop n words)
+in_raise_rest page prod stage.Rest n words = in_raise_plan page prod words
+in_raise_rest page prod stage.Take n words = in_raise_plan page prod words
+in_raise_rest page prod stage.Answer n words = in_raise_plan page prod words
+in_raise_rest page prod stage.Sleep n words = in_raise_plan page prod words
+in_raise_rest page prod stage.Ring n words = in_raise_plan page prod words
+in_raise_rest page prod stage.Index n words = in_raise_plan page prod words
+in_raise_rest page prod stage.Event n words = in_raise_plan page prod words
+in_raise_rest page prod stage.Prod n words = in_raise_plan page prod words
 
 in_sleep_rest : (page : Page) (rsp n : ℕ) → StaysInPages (sleep_rest page rsp n)
 in_sleep_rest page rsp n = in_either (n == 1) (check_plan page rsp) (sleep_plan page rsp) (refl, λ v. tt) (refl, λ v. (refl, λ w. tt))
@@ -54,6 +83,11 @@ pub in_answer : (reply : List ℕ) (o : Option Link) → StaysInPages (answer_fr
 unfolding answer_left
 in_answer reply None = tt
 in_answer reply (Some l) = in_answer_rest (page_of l) (rsp_of l) _ reply
+
+pub in_raise : (words : List ℕ) (o : Option Link) → StaysInPages (raise_from words o)
+unfolding raise_left
+in_raise words None = tt
+in_raise words (Some l) = in_raise_rest (page_at l.event_page) l.prod l.stage l.count words
 
 in_on : (more : Plan Bool) (b : Bool) → StaysInPages more → StaysInPages (sleeps_on more b)
 in_on more true h = h

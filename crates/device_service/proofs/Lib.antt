@@ -15,6 +15,7 @@ pub mod Opened
 pub mod Out
 pub mod PartsLaws
 mod RefusingKept
+pub mod Raising
 pub mod Resting
 pub mod SameLength
 pub mod Serving

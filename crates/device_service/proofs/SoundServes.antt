@@ -53,7 +53,7 @@ module _ {X A V Y M : Type 0} (D : Lawful X A V Y M) where
       subst (λ z. IsFoundIn f z) same (word ∙ ap (λ n. Some n) (sym (found_index rsp prod x y e)))
 
   -- the pages after a Raise are the same
-  raise_pages : (w : Work X V) (part : ℕ) (e : Option V) (p : Put) → IsSane D w → IsRaising D w part e → held_pages s (after_raise s w part e p) ≡ held_pages s w
+  pub raise_pages : (w : Work X V) (part : ℕ) (e : Option V) (p : Put) → IsSane D w → IsRaising D w part e → held_pages s (after_raise s w part e p) ≡ held_pages s w
   raise_pages w part e put.Done q i =
       let k = (l.raises w.service e part q.sane i.has i.raise).0 in
       ap (λ hs. hs ++ all_pages (with_event w.parts part (slice_get w.parts part))) k.2 ∙ ap (λ hs. s.pages w.service ++ hs) (evented_pages w.parts part (slice_get w.parts part) refl)

@@ -28,11 +28,11 @@ use Rattle.device_service.specs.Claims.{KeepsLaws, site_of}
 use Rattle.device_service.specs.Held.{HoldsAsMany, HoldsPage, TellsWhatIsHeld, declared, holds_by}
 use Rattle.device_service.specs.Laws.{AreHeld}
 use Rattle.device_service.specs.Parts as of_parts
-use Rattle.device_service.specs.Parts.{answer_from, connect_left, connects, count_of, doing_of, is_asleep, joined_of, kept_by, sleeping, slept_to, take_from}
+use Rattle.device_service.specs.Parts.{answer_from, connect_left, connects, count_of, doing_of, is_asleep, joined_of, kept_by, raise_from, sleeping, slept_to, take_from}
 use Rattle.device_service.specs.Stand.{dom_of, given_up, held_of, known_in, leaving_plan, parts_of, site_at, stand_at, stand_in, stand_of, stuck, why_of, work_of}
 use Rattle.device_service.specs.Throughout.{HoldsThroughout}
-use Rattle.device_service.specs.Work.{Work, End, Took, Own, Done, Answered, Slept, Shut, after_answer, all_pages, connected, device, part_of, settled}
-use Rattle.device_service.proofs.InPages.{fits_before, in_answer, in_sleeping, in_take, stays}
+use Rattle.device_service.specs.Work.{Work, End, Took, Own, Done, Answered, Slept, Raised, Shut, after_answer, all_pages, connected, device, part_of, settled}
+use Rattle.device_service.proofs.InPages.{fits_before, in_answer, in_raise, in_sleeping, in_take, stays}
 use Rattle.device_service.proofs.PartsLaws.{held_bare, held_open, held_told, joined_count, joined_none}
 use Rattle.device_service.proofs.SameLength.{same_length, times_at}
 use Rattle.device_service.proofs.Sound.{Good, Lies, first_carried, first_good, fits_during, sound, tells_between}
@@ -40,6 +40,7 @@ use Rattle.device_service.proofs.SoundConnect.{shut_pages}
 use Rattle.device_service.proofs.SoundParts.{counted_pages}
 use Rattle.device_service.proofs.SoundPlans.{Fit}
 use Rattle.device_service.proofs.SoundSame.{same_append}
+use Rattle.device_service.proofs.SoundServes.{raise_pages}
 use Rattle.device_service.proofs.SoundWork.{Lawful, EndsSo, IsSane, held_pages, learned, site, sleep_pages}
 use Rattle.device_service.proofs.Unmapping.{unmaps_come}
 
@@ -101,6 +102,14 @@ module _ {X A V Y M : Type 0} (D : Lawful X A V Y M) (w : Work X V) (k : Carried
       let n = stays frames (IsProper frames grants dom) (λ h y. EndsSo D w h (Answered y)) k.own.holds plan (in_answer reply (slice_get p.links.items part)) (fits_before frames (IsProper frames grants dom) Answered (EndsSo D w) k.own.holds plan d.1) in
       let a = n.2.1 in
       sym (ap (times x) n.3) ∙ (n.2.0.1 x ∙ sym (answered_same w.hand d.0.sane a.2 a.3 x))
+
+  raising_holds : (part : ℕ) (e : Option V) (words : List ℕ) (p : Parts) → Good D (During w (mapped (Raised part e) (of_parts.raise_left part words p))) k → HoldsJust (held_pages s w)
+  unfolding settled of_parts.raise_left
+  raising_holds part e words p g x =
+      let plan = raise_from words (slice_get p.links.items part) in
+      let d = fits_during D w (mapped (Raised part e) plan) k g in
+      let n = stays frames (IsProper frames grants dom) (λ h y. EndsSo D w h (Raised part e y)) k.own.holds plan (in_raise words (slice_get p.links.items part)) (fits_before frames (IsProper frames grants dom) (Raised part e) (EndsSo D w) k.own.holds plan d.1) in
+      sym (ap (times x) n.3) ∙ (n.2.0.1 x ∙ ap (times x) (raise_pages D w part e n.1 d.0 n.2.1.0))
 
   -- what an activity of the service leaves, of the request in hand or of an event
   abbrev Leaves : Holds → A → Type 0
@@ -251,7 +260,9 @@ module _ {S E : Type 0} {g : Ghosts S E} (laws : KeepsLaws g.service g.table g.s
     holds_in activity.Serving knows stands works home bare good =
         service_holds knows works (home refl) (ap of_parts.is_open stands.1) (serving_fits D w k (g.left (site D) d.service) good)
     holds_in activity.Answering knows stands works home bare good =
-        holds_told knows works (opened_all (ap of_parts.is_open stands.1)) (answering_holds D w k (hand_part d.hand) d.reply d.parts good)
+        holds_told knows works (opened_all (ap of_parts.is_open stands.1)) (answering_holds D w k (hand_part d.hand) d.outgoing d.parts good)
+    holds_in (activity.Raising part) knows stands works home bare good =
+        holds_told knows works (opened_all (ap of_parts.is_open stands.1)) (raising_holds D w k part d.cause d.outgoing d.parts good)
     holds_in activity.Sleeping knows stands works home bare good =
         holds_told knows works (opened_all (open_asleep (doing_of d.parts) stands.1)) (sleeping_holds D w k d.parts good)
 

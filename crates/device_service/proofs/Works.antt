@@ -30,6 +30,7 @@ not_connecting activity.Taking e = refl
 not_connecting activity.Working e = refl
 not_connecting activity.Serving e = refl
 not_connecting activity.Answering e = refl
+not_connecting (activity.Raising part) e = refl
 not_connecting activity.Sleeping e = refl
 
 not_leaving : (a : Activity) → is_serving a ≡ true → is_leaving a ≡ false
@@ -40,6 +41,7 @@ not_leaving activity.Taking e = refl
 not_leaving activity.Working e = refl
 not_leaving activity.Serving e = refl
 not_leaving activity.Answering e = refl
+not_leaving (activity.Raising part) e = refl
 not_leaving activity.Sleeping e = refl
 
 -- an activity that begins or goes on is one in which the device serves

@@ -67,6 +67,7 @@ StandsAs activity.Taking opened d at hand = (opened ≡ true) × (d ≡ doing.Ta
 StandsAs activity.Working opened d at hand = (opened ≡ true) × (d ≡ doing.Open) × (is_some hand ≡ true)
 StandsAs activity.Serving opened d at hand = (opened ≡ true) × (d ≡ doing.Open) × (hand ≡ None)
 StandsAs activity.Answering opened d at hand = (opened ≡ true) × (d ≡ doing.Answering (hand_part hand)) × (is_some hand ≡ true)
+StandsAs (activity.Raising part) opened d at hand = (opened ≡ true) × (d ≡ doing.Raising part)
 StandsAs activity.Sleeping opened d at hand = (opened ≡ true) × (is_asleep d ≡ true) × (hand ≡ None)
 
 -- the activity begins, or it is under way

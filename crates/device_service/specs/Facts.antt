@@ -16,6 +16,7 @@ stands_prop activity.Taking opened d at hand = hlevel props
 stands_prop activity.Working opened d at hand = hlevel props
 stands_prop activity.Serving opened d at hand = hlevel props
 stands_prop activity.Answering opened d at hand = hlevel props
+stands_prop (activity.Raising part) opened d at hand = hlevel props
 stands_prop activity.Sleeping opened d at hand = hlevel props
 
 pub wait_prop : {V : Type 0} (at : V → ℕ) (n : ℕ) (es : List V) → IsProp (WaitAt at n es)

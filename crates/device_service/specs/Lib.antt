@@ -10,6 +10,7 @@ pub mod Moves
 pub mod Nodes
 pub mod Operating
 pub mod Parts
+pub mod Raising
 pub mod Reading
 pub mod Refusing
 pub mod Rows

@@ -1,13 +1,14 @@
 -- Where the backend of a device stands.
-use Rattle.std.specs.Prelude.{◌≡◌, ℕ, ◌++◌, Bool, true, false, List, [], Option, Some}
+use Rattle.std.specs.Prelude.{◌≡◌, ℕ, ◌++◌, Bool, true, false, List, [], Option, Some, slice_get}
 use Rattle.pv_words.specs.declared.access.Access.{Access}
 use Rattle.pv_words.specs.declared.device.Reason.{Reason}
 use Rattle.pv_words.specs.declared.device.Reason.TheVariants as reason
 use Rattle.pv_words.specs.declared.device.Said.{Said}
 use Rattle.pv_words.specs.declared.grant.Hold.{Hold}
 use Rattle.pv_words.specs.Plan.{Plan, Finished, Make, Want, mapped}
+use Rattle.link_core.specs.declared.link.Put.{Put}
 use Rattle.link_core.specs.Activities.{unmaps}
-use Rattle.device_core.specs.Order.{Stand, Between, During, MayStep, Steps}
+use Rattle.device_core.specs.Order.{Order, Stand, Between, During, GoesOn, MayStep, Steps}
 use Rattle.device_core.specs.Site.{Site}
 use Rattle.device_service.specs.declared.backend.Activity.{Activity}
 use Rattle.device_service.specs.declared.backend.Activity.TheVariants as activity
@@ -15,8 +16,10 @@ use Rattle.device_service.specs.declared.backend.Backend.{Backend}
 use Rattle.device_service.specs.declared.serve.Serve.{Ghosts}
 use Rattle.device_service.specs.Activity.{hand_part, is_connecting, is_leaving}
 use Rattle.device_service.specs.Claims.{site_of}
+use Rattle.device_service.specs.Goes.{Begins}
 use Rattle.device_service.specs.Parts as of_parts
-use Rattle.device_service.specs.Work.{Work, End, Took, Own, Done, Answered, Slept, Denied, Shut, connected, device}
+use Rattle.device_service.specs.Raising.{raises_in}
+use Rattle.device_service.specs.Work.{Work, End, Took, Own, Done, Answered, Slept, Raised, Denied, Shut, connected, device, with_owed}
 
 -- A Connect or a Close of which no access is left keeps its reason; so it would be for a domain that has become smaller.
 abbrev pub why_of : {A V : Type 0} → End A V → Reason
@@ -90,11 +93,32 @@ module _ {S E : Type 0} {g : Ghosts S E} where
   stand_in site d w activity.Taking = During w (mapped Took (of_parts.take_left d.at d.parts))
   stand_in site d w activity.Working = During w (mapped Own (g.left site d.service))
   stand_in site d w activity.Serving = During w (mapped Done (g.left site d.service))
-  stand_in site d w activity.Answering = During w (mapped Answered (of_parts.answer_left (hand_part d.hand) d.reply d.parts))
+  stand_in site d w activity.Answering = During w (mapped Answered (of_parts.answer_left (hand_part d.hand) d.outgoing d.parts))
+  stand_in site d w (activity.Raising part) = During w (mapped (Raised part d.cause) (of_parts.raise_left part d.outgoing d.parts))
   stand_in site d w activity.Sleeping = During w (mapped Slept (of_parts.sleep_left d.parts))
 
   unfoldable pub stand_of : Site → Backend S E g → Stand (Work g.Known E) (End g.End E)
   stand_of site d = stand_in site d (work_of d) d.activity
+
+  -- what is left of a Raise in this part
+  abbrev pub raise_left : Backend S E g → ℕ → Plan Put
+  raise_left d part = of_parts.raise_left part d.outgoing d.parts
+
+  -- a Raise of these words there, for this event
+  abbrev pub raises_at : Backend S E g → Option E → ℕ → List ℕ → Order (Work g.Known E) (End g.End E)
+  raises_at d cause part words = raises_in g.service (work_of d) cause part words (slice_get (of_parts.joined_of d.parts) part)
+
+  -- the order of work where no reason is kept: an event that is owed is first
+  abbrev pub pays_at : Site → Backend S E g → Order (Work g.Known E) (End g.End E)
+  pays_at site d = with_owed g.service site (work_of d) (g.service.owes (g.knows d.service))
+
+  -- the first step of what the order of work gives, and one of a Raise
+  abbrev pub BeginsAt : Site → Order (Work g.Known E) (End g.End E) → Option Access → Option Said → Backend S E g → Type 0
+  BeginsAt site order access said new = Begins g.service site order access said (stand_of site new)
+
+  abbrev pub RaisesOn : Site → Backend S E g → ℕ → Option Access → Option Said → Backend S E g → Type 0
+  RaisesOn site old part access said new =
+      GoesOn (device g.service site) (work_of old) (mapped (Raised part old.cause) (raise_left old part)) access said (stand_of site new)
 
   -- the next access may be made
   abbrev pub MayStepAt : (Want → Type 0) → Site → Backend S E g → Type 0

@@ -7,10 +7,12 @@ ghost use Rattle.std.proofs.Props.{props};
 ghost use Rattle.device_service.specs.Facts.{stands_prop, wait_prop};
 ghost use Rattle.device_service.specs.Nodes.{Ringed};
 ghost use Rattle.device_service.specs.Parts as of_parts;
+ghost use Rattle.device_service.specs.Raising.{raises_on};
 ghost use Rattle.device_service.specs.Waits.{WaitAt};
 ghost use Rattle.device_service.specs.Work.{part_in};
 
 mod connecting;
+mod raising;
 mod serving;
 
 use crate::parts::Parts;
@@ -39,6 +41,8 @@ pub enum Activity {
     Serving,
     /// The request in hand is answered.
     Answering,
+    /// An event is put into the event page of this part: the oldest that waits, or one that is owed.
+    Raising(u8),
     /// A Sleep over all parts.
     Sleeping,
 }
@@ -57,20 +61,23 @@ pub struct Backend<S: Serve + Drop> {
     closing: bool,
     // The reason for which it is to be closed.
     kept: Option<Reason>,
-    // The request in hand, and the reply that an Answer under way stores.
+    // The request in hand, and the words that an Answer or a Raise under way stores.
     hand: Option<Hand>,
-    reply: [u32; 16],
+    outgoing: [u32; 16],
     // The part of the last Look that found requests, and how many are left of them.
     at: u8,
     left: u32,
     round: Round,
     // The host's events that wait, oldest first.
     waiting: Queue<S::Event>,
+    // The one of them that a Raise is for; none where it is for an event that is owed.
+    cause: Option<S::Event>,
     service: S,
     activity: Activity,
     ghost dom_is: { of_parts.dom_of parts ≡ dom.0 },
     ghost kind_is: { of_parts.kind_of parts ≡ S.service.kind },
     ghost stands: { StandsAs activity (is_open activity closing connection.back) (of_parts.doing_of parts) at hand } by { Prim.hlevel (props, stands_prop) },
+    ghost raises: { raises_on activity outgoing parts ≡ true },
     ghost at_in: { at < of_parts.count_of parts },
     ghost round_in: { part_in round < of_parts.count_of parts },
     ghost hand_in: { (h : Hand) → hand ≡ Some h → h.part < of_parts.count_of parts },
@@ -127,11 +134,12 @@ impl<S: Serve + Drop> Backend<S> {
             closing: false,
             kept: None,
             hand: None,
-            reply: [0; 16],
+            outgoing: [0; 16],
             at: 0,
             left: 0,
             round: Round::Looks(0, false),
             waiting,
+            cause: None,
             service,
             activity: Activity::Between,
         })
@@ -218,6 +226,7 @@ impl<S: Serve + Drop> Backend<S> {
             Activity::Working => self.work(words),
             Activity::Serving => self.go_on_serving(words),
             Activity::Answering => self.answer(words),
+            Activity::Raising(part) => self.raise(words, part),
             Activity::Sleeping => self.sleep(words),
         }
     }
@@ -236,6 +245,9 @@ impl<S: Serve + Drop> Backend<S> {
         }
         if let Some(why) = self.kept {
             return self.close(words, why);
+        }
+        if let Some(part) = self.owed() {
+            return self.pay(words, part);
         }
         match self.connection.action() {
             Action::Connect => self.begin_connect(words),
@@ -257,6 +269,9 @@ impl<S: Serve + Drop> Backend<S> {
             return true;
         }
         if self.kept.is_some() {
+            return true;
+        }
+        if self.owed().is_some() {
             return true;
         }
         match self.connection.action() {

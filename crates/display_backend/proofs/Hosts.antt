@@ -42,6 +42,7 @@ module _ {S E : Type 0} {g : Ghosts S E} where
   refuses_in site d w activity.Working e = refl
   refuses_in site d w activity.Serving e = refl
   refuses_in site d w activity.Answering e = refl
+  refuses_in site d w (activity.Raising part) e = refl
   refuses_in site d w activity.Sleeping e = refl
 
   -- an activity that is under way changes nothing of what is refused

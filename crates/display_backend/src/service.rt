@@ -236,10 +236,6 @@ impl Serve for Service {
 
     ghost refuses = { λ b es e. refl };
 
-    ghost raises_none = { λ x e. refl };
-
-    ghost owes_none = { λ x. refl };
-
     fn keeps_laws() {}
 
     fn tells_held() {}
@@ -307,6 +303,33 @@ impl Serve for Service {
             now: Now::Over,
         }
     }
+
+    fn event_words(&self, _event: Waiting, _prod: u32) -> Option<[u32; 16]> {
+        None
+    }
+
+    fn owed_part(&self) -> Option<u8> {
+        None
+    }
+
+    fn owed_words(&self, _prod: u32) -> [u32; 16] {
+        [0; 16]
+    }
+
+    fn put(&mut self, event: Option<Waiting>) -> Said
+        requires idle { going_of self.old ≡ false }
+        ensures said { result ≡ display.put (known_of self.old) event }
+        ensures knows { known_of self.new ≡ display.after_put (known_of self.old) event }
+        ensures idle { going_of self.new ≡ false }
+    {
+        Said::Full(0)
+    }
+
+    fn found_full(&mut self, event: Option<Waiting>)
+        requires idle { going_of self.old ≡ false }
+        ensures knows { known_of self.new ≡ display.after_full (known_of self.old) event }
+        ensures idle { going_of self.new ≡ false }
+    {}
 
     fn go_on<W: Words>(&mut self, dom: DomId, parts: u8, words: &mut W) -> Deed {
         if let Course::Frees(cookie) = self.course {

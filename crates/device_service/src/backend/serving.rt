@@ -175,6 +175,11 @@ impl<S: Serve + Drop> Backend<S> {
         ensures stays { AccessIn (held_of self.old) result.access }
         ensures same { Same self.old self.new }
     {
+        let part = S::part_of(event);
+        let prod = self.parts.in_prod(part);
+        if let Some(outgoing) = self.service.event_words(event, prod) {
+            return self.begin_raise(words, part, Some(event), outgoing);
+        }
         let deed = self.service.serve(self.dom, self.parts.len(), words, event);
         match deed.now {
             Now::GoesOn => self.activity = Activity::Serving,
@@ -221,7 +226,7 @@ impl<S: Serve + Drop> Backend<S> {
         ensures stays { AccessIn (of_parts.held_of self.old.parts) result.access }
         ensures same { Same self.old self.new }
     {
-        self.reply = self.service.reply();
+        self.outgoing = self.service.reply();
         self.answer(words)
     }
 
@@ -231,8 +236,8 @@ impl<S: Serve + Drop> Backend<S> {
         requires opened { is_open self.old.activity self.old.closing self.old.connection.back ≡ true }
         requires hand { is_some self.old.hand ≡ true }
         requires ready { S.service.ready (S.knows self.old.service) ≡ true }
-        requires may { MayGo (W.may words.old) (of_parts.answer_left (hand_part self.old.hand) self.old.reply self.old.parts) }
-        ensures goes { (site : Site) → GoesOn (device S.service site) (work_of self.old) (mapped Answered (of_parts.answer_left (hand_part self.old.hand) self.old.reply self.old.parts)) result.access result.said (stand_of site self.new) }
+        requires may { MayGo (W.may words.old) (of_parts.answer_left (hand_part self.old.hand) self.old.outgoing self.old.parts) }
+        ensures goes { (site : Site) → GoesOn (device S.service site) (work_of self.old) (mapped Answered (of_parts.answer_left (hand_part self.old.hand) self.old.outgoing self.old.parts)) result.access result.said (stand_of site self.new) }
         ensures made { Makes W.makes words.old result.access words.new }
         ensures stays { AccessIn (of_parts.held_of self.old.parts) result.access }
         ensures same { Same self.old self.new }
@@ -240,7 +245,7 @@ impl<S: Serve + Drop> Backend<S> {
         let Some(hand) = self.hand else {
             unreachable!();
         };
-        let turn = self.parts.answer_step(words, hand.part, &self.reply);
+        let turn = self.parts.answer_step(words, hand.part, &self.outgoing);
         let access = turn.access;
         let Some(notified) = turn.done else {
             self.activity = Activity::Answering;

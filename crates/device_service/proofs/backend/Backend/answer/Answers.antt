@@ -19,10 +19,10 @@ returns-in_default-done-clause-goes g c = λ site.
     let turn = c.answer_step-turn in
     let w = serving_work d in
     let part : c.in-Some.hand.part ≡ hand_part d.hand = ap hand_part (sym c.in-Some.is) in
-    goes_on g.S.Serve.service site (λ x. Answered x) (work_of d) w _ (of_parts.answer_left (hand_part d.hand) d.reply d.parts) turn.result.access (of_parts.answer_left (hand_part d.hand) d.reply turn.new.self)
+    goes_on g.S.Serve.service site (λ x. Answered x) (work_of d) w _ (of_parts.answer_left (hand_part d.hand) d.outgoing d.parts) turn.result.access (of_parts.answer_left (hand_part d.hand) d.outgoing turn.new.self)
     (serving_is d (serving_at d.activity activity.Answering refl c.requires.serving))
     (ap (λ (js : List Joined). record w { parts = js }) (rw c.in_default-done.is at turn.ensures.joined))
-    (subst (λ k. Turns (of_parts.answer_left k d.reply d.parts) turn.result.access None (of_parts.answer_left k d.reply turn.new.self)) part (rw c.in_default-done.is at turn.ensures.turns))
+    (subst (λ k. Turns (of_parts.answer_left k d.outgoing d.parts) turn.result.access None (of_parts.answer_left k d.outgoing turn.new.self)) part (rw c.in_default-done.is at turn.ensures.turns))
 
 pub returns-in_default-done-clause-stays : goal.returns-in_default-done-clause-stays
 returns-in_default-done-clause-stays g c = c.answer_step-turn.ensures.stays
@@ -44,9 +44,9 @@ returns-clause-goes g c = λ site.
     let status = c.answered-status.result in
     let fits_in : SFits w32 status = search rules in
     let told = to_z-of_z w32 status fits_in in
-    goes_out s site (λ x. Answered x) (work_of d) w _ (of_parts.answer_left (hand_part d.hand) d.reply d.parts) turn.result.access n (of_parts.answer_left (hand_part d.hand) d.reply turn.new.self) _
+    goes_out s site (λ x. Answered x) (work_of d) w _ (of_parts.answer_left (hand_part d.hand) d.outgoing d.parts) turn.result.access n (of_parts.answer_left (hand_part d.hand) d.outgoing turn.new.self) _
     (serving_is d (serving_at d.activity activity.Answering refl c.requires.serving))
-    (subst (λ k. Turns (of_parts.answer_left k d.reply d.parts) turn.result.access (Some n) (of_parts.answer_left k d.reply turn.new.self)) part (rw c.in-Some-done.is at turn.ensures.turns))
+    (subst (λ k. Turns (of_parts.answer_left k d.outgoing d.parts) turn.result.access (Some n) (of_parts.answer_left k d.outgoing turn.new.self)) part (rw c.in-Some-done.is at turn.ensures.turns))
     (answered_said s site w h _ n c.in-Some.is (told ∙ c.answered-status.ensures.status))
     (settled_answer s site w h n _ _ c.in-Some.is (rw c.in-Some-done.is at turn.ensures.joined) c.answered-status.ensures.knows)
 

@@ -7,10 +7,13 @@ use Rattle.device_core.specs.Site.{Site}
 use Rattle.device_service.specs.declared.backend.Activity.{Activity}
 use Rattle.device_service.specs.Activity.{is_connected, is_open}
 use Rattle.device_service.specs.Claims.{site_of}
+use Rattle.device_service.specs.Parts.{doing_of, is_open as parts_open}
 use Rattle.device_service.specs.Stand.{dom_of, held_of, parts_of, work_of}
-use Rattle.device_service.specs.Work.{Left, Renewed, choice, close, with_action, with_hand}
+use Rattle.device_service.specs.Work.{Left, Renewed, choice, close, with_action, with_hand, with_owed}
 use Rattle.device_service.proofs.Choices.{action_is, apart_is, begins_entering, begins_rest, closing_is, connected_is, kept_is, left_entering, renew_apart, renew_entering}
 use Rattle.device_service.proofs.Deeds.{begins_as, may_as}
+use Rattle.device_service.proofs.Leaving.{known_between, rests_between}
+use Rattle.device_service.proofs.Raising.{opened_by, owed_is}
 use Rattle.device_service.proofs.Works.{between_as}
 use Rattle.device_service.proofs.backend.Backend.begin.Goals as goal
 
@@ -52,7 +55,8 @@ begin_connect-requires-clause-may g c =
     let w = work_of d in
     let site : Site = site_of (g.W.Words.frames_of c.args.words.now) (g.W.Words.grants_of c.args.words.now) (dom_of d) (parts_of d) in
     let none : d.kept ≡ None = c.in_default.is in
-    let is = action_is s site w (action.Connect) c.if-self.false none (g.S.Serve.owes_none w.service) (sym c.action.ensures ∙ c.in-Connect.is) in
+    let quiet = c.owed.ensures.none c.in_default-owed.is site in
+    let is = action_is s site w (action.Connect) c.if-self.false none quiet (sym c.action.ensures ∙ c.in-Connect.is) in
     may_as s site (g.W.Words.may c.args.words.now) (choice s site w) (with_action s site w action.Connect) is c.requires.may
 
 pub returns-in-Connect-clause-begins : goal.returns-in-Connect-clause-begins
@@ -63,7 +67,8 @@ returns-in-Connect-clause-begins g c =
     let w = work_of d in
     let site : Site = site_of (g.W.Words.frames_of c.args.words.now) (g.W.Words.grants_of c.args.words.now) (dom_of d) (parts_of d) in
     let none : d.kept ≡ None = c.in_default.is in
-    let is = action_is s site w (action.Connect) c.if-self.false none (g.S.Serve.owes_none w.service) (sym c.action.ensures ∙ c.in-Connect.is) in
+    let quiet = c.owed.ensures.none c.in_default-owed.is site in
+    let is = action_is s site w (action.Connect) c.if-self.false none quiet (sym c.action.ensures ∙ c.in-Connect.is) in
     begins_as s site (choice s site w) (with_action s site w action.Connect) c.begin_connect.result.access c.begin_connect.result.said _ is c.begin_connect.ensures.begins
 
 pub close-requires-in-Close-clause-may : goal.close-requires-in-Close-clause-may
@@ -74,7 +79,8 @@ close-requires-in-Close-clause-may g c =
     let w = work_of d in
     let site : Site = site_of (g.W.Words.frames_of c.args.words.now) (g.W.Words.grants_of c.args.words.now) (dom_of d) (parts_of d) in
     let none : d.kept ≡ None = c.in_default.is in
-    let is = action_is s site w (action.Close c.in-Close.s) c.if-self.false none (g.S.Serve.owes_none w.service) (sym c.action.ensures ∙ c.in-Close.is) in
+    let quiet = c.owed.ensures.none c.in_default-owed.is site in
+    let is = action_is s site w (action.Close c.in-Close.s) c.if-self.false none quiet (sym c.action.ensures ∙ c.in-Close.is) in
     may_as s site (g.W.Words.may c.args.words.now) (choice s site w) (close s w (reason.Asked c.in-Close.s)) is c.requires.may
 
 pub returns-in-Close-clause-begins : goal.returns-in-Close-clause-begins
@@ -85,7 +91,8 @@ returns-in-Close-clause-begins g c =
     let w = work_of d in
     let site : Site = site_of (g.W.Words.frames_of c.args.words.now) (g.W.Words.grants_of c.args.words.now) (dom_of d) (parts_of d) in
     let none : d.kept ≡ None = c.in_default.is in
-    let is = action_is s site w (action.Close c.in-Close.s) c.if-self.false none (g.S.Serve.owes_none w.service) (sym c.action.ensures ∙ c.in-Close.is) in
+    let quiet = c.owed.ensures.none c.in_default-owed.is site in
+    let is = action_is s site w (action.Close c.in-Close.s) c.if-self.false none quiet (sym c.action.ensures ∙ c.in-Close.is) in
     begins_as s site (choice s site w) (close s w (reason.Asked c.in-Close.s)) c.close-in-Close.result.access c.close-in-Close.result.said _ is (c.close-in-Close.ensures.begins site)
 
 pub returns-in-Renew-clause-begins : goal.returns-in-Renew-clause-begins
@@ -96,7 +103,8 @@ returns-in-Renew-clause-begins g c =
     let w = work_of d in
     let site : Site = site_of (g.W.Words.frames_of c.args.words.now) (g.W.Words.grants_of c.args.words.now) (dom_of d) (parts_of d) in
     let none : d.kept ≡ None = c.in_default.is in
-    let is = action_is s site w (action.Renew) c.if-self.false none (g.S.Serve.owes_none w.service) (sym c.action.ensures ∙ c.in-Renew.is) in
+    let quiet = c.owed.ensures.none c.in_default-owed.is site in
+    let is = action_is s site w (action.Renew) c.if-self.false none quiet (sym c.action.ensures ∙ c.in-Renew.is) in
     let renew = renew_entering s site w in
     begins_entering s site (choice s site w) w Renewed state.InitWait _ _ _ is renew.0 c.enter-in-Renew.ensures.access c.enter-in-Renew.ensures.said (c.enter-in-Renew.ensures.stand site ∙ ap (λ x. Between x) renew.1)
 
@@ -120,7 +128,8 @@ serve-requires-clause-may g c =
     let w = work_of d in
     let site : Site = site_of (g.W.Words.frames_of c.args.words.now) (g.W.Words.grants_of c.args.words.now) (dom_of d) (parts_of d) in
     let none : d.kept ≡ None = c.in_default.is in
-    let is = connected_is s site w c.if-self.false none (g.S.Serve.owes_none w.service) (sym c.action.ensures ∙ c.in-Stay.is) (sym c.back.ensures ∙ c.in-Connected.is) in
+    let quiet = c.owed.ensures.none c.in_default-owed.is site in
+    let is = connected_is s site w c.if-self.false none quiet (sym c.action.ensures ∙ c.in-Stay.is) (sym c.back.ensures ∙ c.in-Connected.is) in
     may_as s site (g.W.Words.may c.args.words.now) (choice s site w) (with_hand s site w d.hand) is c.requires.may
 
 pub returns-in-Connected-clause-begins : goal.returns-in-Connected-clause-begins
@@ -131,7 +140,8 @@ returns-in-Connected-clause-begins g c =
     let w = work_of d in
     let site : Site = site_of (g.W.Words.frames_of c.args.words.now) (g.W.Words.grants_of c.args.words.now) (dom_of d) (parts_of d) in
     let none : d.kept ≡ None = c.in_default.is in
-    let is = connected_is s site w c.if-self.false none (g.S.Serve.owes_none w.service) (sym c.action.ensures ∙ c.in-Stay.is) (sym c.back.ensures ∙ c.in-Connected.is) in
+    let quiet = c.owed.ensures.none c.in_default-owed.is site in
+    let is = connected_is s site w c.if-self.false none quiet (sym c.action.ensures ∙ c.in-Stay.is) (sym c.back.ensures ∙ c.in-Connected.is) in
     begins_as s site (choice s site w) (with_hand s site w d.hand) c.serve.result.access c.serve.result.said _ is c.serve.ensures.begins
 
 pub returns-in-Close-clause-stays : goal.returns-in-Close-clause-stays
@@ -150,10 +160,42 @@ returns-in_default-back g c =
     let w = work_of d in
     let site : Site = site_of (g.W.Words.frames_of c.args.words.now) (g.W.Words.grants_of c.args.words.now) (dom_of d) (parts_of d) in
     let none : d.kept ≡ None = c.in_default.is in
-    let is = apart_is s site w c.if-self.false none (g.S.Serve.owes_none w.service) (sym c.action.ensures ∙ c.in-Stay.is) (λ e. c.in_default-back.not-Connected (c.back.ensures ∙ e)) in
+    let quiet = c.owed.ensures.none c.in_default-owed.is site in
+    let is = apart_is s site w c.if-self.false none quiet (sym c.action.ensures ∙ c.in-Stay.is) (λ e. c.in_default-back.not-Connected (c.back.ensures ∙ e)) in
     record {
       begins = begins_rest s site (choice s site w) w c.idle.result.access c.idle.result.said _ is c.idle.ensures.access c.idle.ensures.said (between_as site d c.requires.between);
       made = rw c.idle.ensures.access refl;
       stays = rw c.idle.ensures.access tt;
       same = (refl, refl, refl);
     }
+
+pub pay-requires-clause-opened : goal.pay-requires-clause-opened
+pay-requires-clause-opened g c =
+    let d = c.args.self.now in
+    let owed = c.owed.ensures.some c.in-Some-owed.part c.in-Some-owed.is in
+    let o = is_open d.activity d.closing d.connection.back in
+    opened_by o (ap parts_open (sym (rests_between d.activity o (doing_of d.parts) d.at d.hand c.requires.between d.stands)) ∙ owed.connected)
+
+pub pay-requires-clause-may : goal.pay-requires-clause-may
+unfolding work_of
+pay-requires-clause-may g c =
+    let d = c.args.self.now in
+    let s = g.S.Serve.service in
+    let w = work_of d in
+    let x = g.S.Serve.knows d.service in
+    let site : Site = site_of (g.W.Words.frames_of c.args.words.now) (g.W.Words.grants_of c.args.words.now) (dom_of d) (parts_of d) in
+    let none : d.kept ≡ None = c.in_default.is in
+    let is = owed_is s site w x c.if-self.false none (known_between s.stripped d.activity x c.requires.between) in
+    may_as s site (g.W.Words.may c.args.words.now) (choice s site w) (with_owed s site w (s.owes x)) is c.requires.may
+
+pub returns-in-Some-owed-clause-begins : goal.returns-in-Some-owed-clause-begins
+unfolding work_of
+returns-in-Some-owed-clause-begins g c =
+    let d = c.args.self.now in
+    let s = g.S.Serve.service in
+    let w = work_of d in
+    let x = g.S.Serve.knows d.service in
+    let site : Site = site_of (g.W.Words.frames_of c.args.words.now) (g.W.Words.grants_of c.args.words.now) (dom_of d) (parts_of d) in
+    let none : d.kept ≡ None = c.in_default.is in
+    let is = owed_is s site w x c.if-self.false none (known_between s.stripped d.activity x c.requires.between) in
+    begins_as s site (choice s site w) (with_owed s site w (s.owes x)) c.pay.result.access c.pay.result.said _ is (c.pay.ensures.begins site)

@@ -60,7 +60,7 @@ returns-clause-err g c =
     err_only c.push.result _
     (λ why e.
     let same : c.push.new.self ≡ d.waiting = c.push.ensures.waits ∙ ap (λ (r : Result (Unit {0}) HostRefusal). unless (refusal_in r) d.waiting (Some c.in-Some.event)) e in
-    same_backend _ d record { dev = refl; dom = refl; connection = refl; seen = refl; read = refl; parts = refl; closing = refl; kept = refl; hand = refl; reply = refl; at = refl; left = refl; round = refl; waiting = same; service = refl; activity = refl })
+    same_backend _ d record { dev = refl; dom = refl; connection = refl; seen = refl; read = refl; parts = refl; closing = refl; kept = refl; hand = refl; outgoing = refl; at = refl; left = refl; round = refl; waiting = same; cause = refl; service = refl; activity = refl })
 
 pub returns-clause-held : goal.returns-clause-held
 unfolding held_of

@@ -17,6 +17,7 @@ invariant_of-result g c =
       dom_is = p.ensures.dom;
       kind_is = p.ensures.kind ∙ c.is_ringed.ensures;
       stands = p.ensures.bare ∙ sym (ap (λ (k : Connection). resting (is_connected k.back)) c.new-3.ensures);
+      raises = refl;
       at_in = within_first _ _ p.ensures.count c.requires.some;
       round_in = within_first _ _ p.ensures.count c.requires.some;
       hand_in = λ h e. none_in_hand h e;

@@ -15,6 +15,7 @@ invariant_of-self g c =
       dom_is = d.dom_is;
       kind_is = d.kind_is;
       stands = bare_between d.activity _ _ d.at d.hand c.requires.between c.requires.apart d.stands;
+      raises = refl;
       at_in = d.at_in;
       round_in = d.round_in;
       hand_in = λ h e. none_in_hand h e;

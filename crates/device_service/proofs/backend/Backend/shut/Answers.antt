@@ -29,6 +29,7 @@ invariant_of-self g c =
       dom_is = same.dom ∙ d.dom_is;
       kind_is = same.kind ∙ d.kind_is;
       stands = c.given_up.ensures.doing;
+      raises = refl;
       at_in = within_same _ _ _ same.count d.at_in;
       round_in = within_same _ _ _ same.count d.round_in;
       hand_in = λ h e. none_in_hand h e;

@@ -7,10 +7,12 @@ use Rattle.device_service.specs.Activity.{StandsAs, hand_part, is_answering, is_
 use Rattle.device_service.specs.Claims.{site_of}
 use Rattle.device_service.specs.Doing.{uses_ring}
 use Rattle.device_service.specs.Parts as of_parts
+use Rattle.device_service.specs.Raising.{raises_on}
 use Rattle.device_service.specs.Stand.{dom_of, given_up, held_of, leaving_plan, parts_of, work_of}
-use Rattle.device_service.specs.Work.{Answered, Done, Own, Slept, Took, choice, connected}
+use Rattle.device_service.specs.Work.{Answered, Done, Own, Raised, Slept, Took, choice, connected}
 use Rattle.device_service.proofs.Deeds.{may_mapped}
 use Rattle.device_service.proofs.Out.{known_left, known_out, leaves_bare, may_first, may_in, may_out, steps_begin, steps_in, steps_on, steps_out}
+use Rattle.device_service.proofs.Raising.{raising_there}
 use Rattle.device_service.proofs.Serving.{in_parts, rings_asleep, rings_in_use}
 use Rattle.device_service.proofs.backend.Backend.step.Goals as goal
 
@@ -143,14 +145,14 @@ answer-requires-clause-may g c =
     let d = c.args.self.now in
     let s = g.S.Serve.service in
     let site : Site = site_of (g.W.Words.frames_of c.args.words.now) (g.W.Words.grants_of c.args.words.now) (dom_of d) (parts_of d) in
-    may_mapped (g.W.Words.may c.args.words.now) (of_parts.answer_left (hand_part d.hand) d.reply d.parts) (λ x. Answered x) (may_in site d (g.W.Words.may c.args.words.now) activity.Answering c.in-Answering.is c.requires)
+    may_mapped (g.W.Words.may c.args.words.now) (of_parts.answer_left (hand_part d.hand) d.outgoing d.parts) (λ x. Answered x) (may_in site d (g.W.Words.may c.args.words.now) activity.Answering c.in-Answering.is c.requires)
 
 pub returns-in-Answering-clause-steps : goal.returns-in-Answering-clause-steps
 returns-in-Answering-clause-steps g c =
     let d = c.args.self.now in
     let s = g.S.Serve.service in
     let site : Site = site_of (g.W.Words.frames_of c.args.words.now) (g.W.Words.grants_of c.args.words.now) (dom_of d) (parts_of d) in
-    steps_on site d (λ x. Answered x) activity.Answering (of_parts.answer_left (hand_part d.hand) d.reply d.parts) c.answer.result.access c.answer.result.said _ c.in-Answering.is refl (c.answer.ensures.goes site)
+    steps_on site d (λ x. Answered x) activity.Answering (of_parts.answer_left (hand_part d.hand) d.outgoing d.parts) c.answer.result.access c.answer.result.said _ c.in-Answering.is refl (c.answer.ensures.goes site)
 
 pub answer-requires-clause-serving : goal.answer-requires-clause-serving
 answer-requires-clause-serving g c =
@@ -212,3 +214,38 @@ sleep-requires-clause-ringed g c =
     let d = c.args.self.now in
     let stands = subst (λ (a : Activity). StandsAs a (is_open d.activity d.closing d.connection.back) (of_parts.doing_of d.parts) d.at d.hand) c.in-Sleeping.is d.stands in
     sym d.kind_is ∙ rings_in_use d.parts (rings_asleep (of_parts.doing_of d.parts) stands.1)
+
+pub raise-requires-clause-may : goal.raise-requires-clause-may
+raise-requires-clause-may g c =
+    let d = c.args.self.now in
+    let part = c.in-Raising.part in
+    let site : Site = site_of (g.W.Words.frames_of c.args.words.now) (g.W.Words.grants_of c.args.words.now) (dom_of d) (parts_of d) in
+    may_mapped (g.W.Words.may c.args.words.now) (of_parts.raise_left part d.outgoing d.parts) (Raised part d.cause) (may_in site d (g.W.Words.may c.args.words.now) (activity.Raising part) c.in-Raising.is c.requires)
+
+pub returns-in-Raising-clause-steps : goal.returns-in-Raising-clause-steps
+returns-in-Raising-clause-steps g c =
+    let d = c.args.self.now in
+    let part = c.in-Raising.part in
+    let site : Site = site_of (g.W.Words.frames_of c.args.words.now) (g.W.Words.grants_of c.args.words.now) (dom_of d) (parts_of d) in
+    steps_on site d (Raised part d.cause) (activity.Raising part) (of_parts.raise_left part d.outgoing d.parts) c.raise.result.access c.raise.result.said _ c.in-Raising.is refl (c.raise.ensures.goes site)
+
+pub raise-requires-clause-serving : goal.raise-requires-clause-serving
+raise-requires-clause-serving g c =
+    inr c.in-Raising.is
+
+pub raise-requires-clause-opened : goal.raise-requires-clause-opened
+raise-requires-clause-opened g c =
+    let d = c.args.self.now in
+    let stands = subst (λ (a : Activity). StandsAs a (is_open d.activity d.closing d.connection.back) (of_parts.doing_of d.parts) d.at d.hand) c.in-Raising.is d.stands in
+    stands.0
+
+pub raise-requires-clause-part : goal.raise-requires-clause-part
+raise-requires-clause-part g c =
+    let d = c.args.self.now in
+    let stands = subst (λ (a : Activity). StandsAs a (is_open d.activity d.closing d.connection.back) (of_parts.doing_of d.parts) d.at d.hand) c.in-Raising.is d.stands in
+    raising_there d.parts c.in-Raising.part stands.1
+
+pub raise-requires-clause-begun : goal.raise-requires-clause-begun
+raise-requires-clause-begun g c =
+    let d = c.args.self.now in
+    subst (λ (a : Activity). raises_on a d.outgoing d.parts ≡ true) c.in-Raising.is d.raises

@@ -153,6 +153,7 @@ fn cleared(gref: u32) -> Access {
     Access::Clear(Place::Grant(DomId(1), GrantRef(gref), Half::Flags), 24, 25)
 }
 
+#[tactic(auto, using(page_directory::proofs::Releases::may_any))]
 fn unmaps(store: &mut Store, words: &mut Domain) -> Option<Access> {
     if store.is_bare() {
         return None;
@@ -160,6 +161,7 @@ fn unmaps(store: &mut Store, words: &mut Domain) -> Option<Access> {
     Some(store.unmap_first(words))
 }
 
+#[tactic(auto, using(page_directory::proofs::Releases::may_any))]
 fn unmaps_of(store: &mut Store, cookie: u64, words: &mut Domain) -> Option<Access>
     ensures { (stock_of store.new).mapped ≡ (stock_of store.old).mapped }
 {

@@ -1,16 +1,20 @@
 -- The buffers without the pages that were given up: fields and order stay, and what becomes of them.
-use Rattle.std.proofs.Common.{◌≡◌, ℕ, zero, suc, ◌+◌, ◌<◌, Bool, true, false, cond, not, List, [], ◌∷◌, ◌++◌, drop, length, slice_get, slice_set, Option, Some, None, is_some, eqb, refl, sym, ap, ◌∙◌, arith, subst}
+use Rattle.std.proofs.Common.{◌≡◌, ℕ, zero, suc, ◌+◌, ◌<◌, Bool, true, false, cond, not, List, [], ◌∷◌, ◌++◌, drop, length, get_or, slice_get, slice_set, Option, Some, None, is_some, eqb, refl, sym, ap, ◌∙◌, arith, subst}
 use Rattle.std.proofs.lemmas.Bool.{eqb-true}
 use Rattle.std.specs.List.{remove}
 use Rattle.std.specs.Option.{option_map}
+use Rattle.pv_words.specs.declared.access.Access.{Access}
 use Rattle.pv_words.specs.declared.grant.Hold.{Hold}
+use Rattle.pv_words.specs.Release.{Drops}
 use Rattle.displ_wire.specs.declared.Create.{Create}
 use Rattle.display_buffers.specs.Buffers.{AreDistinct, IsFresh, cookies, has_cookie, with_buffer, without_buffer}
 use Rattle.display_buffers.proofs.Rows.{without_fresh}
 use Rattle.page_directory.specs.declared.release.Release.{Release}
 use Rattle.page_directory.specs.Release.{left_of}
+use Rattle.page_directory.proofs.Releases.{drops_as, drops_rest}
 use Rattle.display_backend.specs.Stock.{Held, with_pages}
 use Rattle.display_backend.specs.Left.{left_by, left_in, pages_at, less_at, IsFirst}
+use Rattle.display_backend.proofs.Places.{pages_less}
 
 -- the cookies stay, and where they stand
 pub cookies_left : (bs : List Held) (rs : List Release) → cookies (left_in bs rs) ≡ cookies bs
@@ -45,14 +49,13 @@ some_mapped f None = refl
 some_mapped f (Some x) = refl
 
 -- what is left of the pages at a place
-pages_here : (bs : List Held) (rs : List Release) (k : ℕ) (r : Release) (pages : List Hold) → slice_get rs k ≡ Some r → option_map (λ (b : Held). b.pages) (slice_get bs k) ≡ Some pages → pages_at (left_in bs rs) k ≡ left_of r pages
-pages_here [] rs k r pages by there = let wrong : ⊥ = cc in absurd wrong
-pages_here (b ∷ bs) [] k r pages by there = let wrong : ⊥ = cc in absurd wrong
-pages_here (b ∷ bs) (q ∷ rs) zero r pages by there =
+pages_here : (bs : List Held) (rs : List Release) (k : ℕ) (r : Release) (pages : List Hold) → k < length rs → r ≡ get_or rs k r → option_map (λ (b : Held). b.pages) (slice_get bs k) ≡ Some pages → pages_at (left_in bs rs) k ≡ left_of r pages
+pages_here [] rs k r pages within by there = let wrong : ⊥ = cc in absurd wrong
+pages_here (b ∷ bs) [] k r pages within by there = absurd (omega (arith, within))
+pages_here (b ∷ bs) (q ∷ rs) zero r pages within by there =
     let same : b.pages ≡ pages = cc in
-    let this : q ≡ r = cc in
-    ap (left_of q) same ∙ ap (λ x. left_of x pages) this
-pages_here (b ∷ bs) (q ∷ rs) (suc k) r pages by there = pages_here bs rs k r pages by there
+    ap (left_of q) same ∙ ap (λ x. left_of x pages) (sym by)
+pages_here (b ∷ bs) (q ∷ rs) (suc k) r pages within by there = pages_here bs rs k r pages (omega (arith, within)) by there
 
 -- one page of them more is given up
 less_here : (bs : List Held) (rs : List Release) (k : ℕ) (r : Release) (pages : List Hold) → k < length rs → option_map (λ (b : Held). b.pages) (slice_get bs k) ≡ Some pages → left_of r pages ≡ drop 1 (pages_at (left_in bs rs) k) → left_in bs (slice_set rs k r) ≡ less_at (left_in bs rs) k
@@ -64,14 +67,22 @@ less_here (b ∷ bs) (q ∷ rs) zero r pages within there less =
 less_here (b ∷ bs) (q ∷ rs) (suc k) r pages within there less =
     ap (λ cs. with_pages b (left_of q b.pages) ∷ cs) (less_here bs rs k r pages (omega (arith, within)) there less)
 
-module _ (bs left : List Held) (rs : List Release) (view : left_in bs rs ≡ left) (k : ℕ) (pages : List Hold) (there : option_map (λ (b : Held). b.pages) (slice_get bs k) ≡ Some pages) where
-  pub pages_left : (r : Release) → slice_get rs k ≡ Some r → pages_at left k ≡ left_of r pages
-  pages_left r by = ap (λ cs. pages_at cs k) (sym view) ∙ pages_here bs rs k r pages by there
+module _ (bs left : List Held) (rs : List Release) (view : left_in bs rs ≡ left) (k : ℕ) (within : k < length rs) (pages : List Hold) (there : option_map (λ (b : Held). b.pages) (slice_get bs k) ≡ Some pages) where
+  pub pages_left : (r : Release) → r ≡ get_or rs k r → pages_at left k ≡ left_of r pages
+  pages_left r by = ap (λ cs. pages_at cs k) (sym view) ∙ pages_here bs rs k r pages within by there
 
-  pub less_left : (r : Release) → k < length rs → left_of r pages ≡ drop 1 (pages_at left k) → left_in bs (slice_set rs k r) ≡ less_at left k
-  less_left r within less =
+  less_left : (r : Release) → left_of r pages ≡ drop 1 (pages_at left k) → left_in bs (slice_set rs k r) ≡ less_at left k
+  less_left r less =
       less_here bs rs k r pages within there (less ∙ ap (λ cs. drop 1 (pages_at cs k)) (sym view))
       ∙ ap (λ cs. less_at cs k) view
+
+  -- the Release at this place makes a step
+  pub step_left : (r q : Release) (a : Access) → r ≡ get_or rs k r → Drops (left_of r pages) a (left_of q pages) → Drops (pages_at left k) a (pages_at (left_in bs (slice_set rs k q)) k) × (left_in bs (slice_set rs k q) ≡ less_at left k)
+  step_left r q a by drops =
+      let was = pages_left r by in
+      let rest = less_left q (drops_rest (left_of r pages) (left_of q pages) a drops ∙ ap (drop 1) (sym was)) in
+      let now = ap (λ cs. pages_at cs k) rest ∙ pages_less left k in
+      (drops_as (left_of r pages) (pages_at left k) (left_of q pages) (pages_at (left_in bs (slice_set rs k q)) k) a (ap (λ hs. slice_get hs 0) was) drops now, rest)
 
 -- a buffer comes with what is left of its pages
 pub created_left : (bs : List Held) (rs : List Release) (c : Create) (pages : List Hold) (r : Release) → length rs ≡ length bs → left_in (with_buffer bs c pages) (rs ++ r ∷ []) ≡ with_buffer (left_in bs rs) c (left_of r pages)

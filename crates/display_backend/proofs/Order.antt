@@ -1,6 +1,6 @@
 -- What giving up pages comes to: order, and how often each page is held.
-use Rattle.std.proofs.Common.{◌≡◌, ℕ, Bool, true, false, cond, not, nat_lt, List, [], ◌∷◌, ◌++◌, drop, length, refl, sym, ap, ◌∙◌, arith, subst, append-nil, append_assoc}
-use Rattle.std.proofs.lemmas.Bool.{eqb-true}
+use Rattle.std.proofs.Common.{◌≡◌, ℕ, suc, Bool, true, false, cond, not, nat_lt, List, [], ◌∷◌, ◌++◌, drop, length, refl, sym, ap, ◌∙◌, arith, subst, append-nil, append_assoc}
+use Rattle.std.proofs.lemmas.Bool.{eqb-true, lt-ltb}
 use Rattle.pv_words.specs.declared.grant.Hold.{Hold}
 use Rattle.displ_wire.specs.declared.Create.{Create}
 use Rattle.display_buffers.specs.Buffers.{AreDistinct, IsFresh, cookies, has_cookie, with_buffer, without_buffer}
@@ -10,13 +10,14 @@ use Rattle.page_directory.proofs.Counts.{times_append}
 use Rattle.display_backend.specs.Stock.{Stock, Held, pages_of, buffer_pages, pages_under, has_pages, with_pages, less_first, less_where, less_one, bared, all_bared, stripped, without_first_in, without_first_of, without_first, created, destroyed}
 
 -- the first page of all goes first
-first_in : (bs : List Held) → buffer_pages (without_first_in bs) ≡ drop 1 (buffer_pages bs)
+pub first_in : (bs : List Held) → buffer_pages (without_first_in bs) ≡ drop 1 (buffer_pages bs)
 first_in [] = refl
 first_in (b ∷ bs) = by_pages b.pages refl (first_in bs)
   where
     by_pages : (pages : List Hold) → b.pages ≡ pages → buffer_pages (without_first_in bs) ≡ drop 1 (buffer_pages bs) → buffer_pages (cond (nat_lt 0 (length pages)) (with_pages b (drop 1 pages) ∷ bs) (b ∷ without_first_in bs)) ≡ drop 1 (pages ++ buffer_pages bs)
     by_pages [] e later = ap (λ pages. pages ++ buffer_pages (without_first_in bs)) e ∙ later
-    by_pages (h ∷ hs) e later = refl
+    by_pages (h ∷ hs) e later =
+        ap (λ t. buffer_pages (cond t (with_pages b hs ∷ bs) (b ∷ without_first_in bs))) (lt-ltb 0 (suc (length hs)) (omega arith))
 
 first_of : (mapped : List Hold) (bs : List Held) → pages_of (without_first_of mapped bs) ≡ drop 1 (mapped ++ buffer_pages bs)
 first_of [] bs = first_in bs

@@ -90,6 +90,12 @@ page_there (b ∷ bs) i (suc k) j is =
     let at : i ≡ length b.pages + (before + j) = omega (arith, is.1, length-append b.pages (buffer_pages (take k bs))) in
     get_second b.pages (buffer_pages bs) i (before + j) at ∙ page_there bs (before + j) k j (is.0, refl)
 
+-- the first of all is the first of its buffer
+pub first_alike : (bs : List Held) (k j : ℕ) → IsPage bs 0 k j → slice_get (pages_at bs k) 0 ≡ slice_get (buffer_pages bs) 0
+first_alike bs k j is =
+    let e : j ≡ 0 = omega (arith, is.1) in
+    sym (page_there bs 0 k j is ∙ ap (slice_get (pages_at bs k)) e)
+
 -- the buffer that has the first of them is the first that has one
 pub first_there : (bs : List Held) (k j : ℕ) → IsPage bs 0 k j → IsFirst has_pages bs k
 first_there [] k j is = absurd (omega (arith, is.0))

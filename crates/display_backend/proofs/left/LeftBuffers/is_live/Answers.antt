@@ -2,7 +2,7 @@ use Rattle.std.proofs.Common.{sym, ap, ◌∙◌, is_some}
 use Rattle.display_buffers.specs.Buffers.{buffer_of, cookies}
 use Rattle.display_buffers.proofs.Checks.{live_by}
 use Rattle.display_backend.specs.Stock.{Held}
-use Rattle.display_backend.proofs.Lefts.{cookies_left}
+use Rattle.display_backend.proofs.Lefts.{cookies_left, some_mapped}
 use Rattle.display_backend.proofs.left.LeftBuffers.is_live.Goals as goal
 
 pub returns : goal.returns

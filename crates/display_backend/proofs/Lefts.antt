@@ -13,7 +13,7 @@ use Rattle.page_directory.specs.declared.release.Release.{Release}
 use Rattle.page_directory.specs.Release.{left_of}
 use Rattle.page_directory.proofs.Releases.{drops_as, drops_rest}
 use Rattle.display_backend.specs.Stock.{Held, with_pages}
-use Rattle.display_backend.specs.Left.{left_by, left_in, pages_at, less_at, IsFirst}
+use Rattle.display_backend.specs.Left.{left_in, pages_at, less_at, IsFirst}
 use Rattle.display_backend.proofs.Places.{pages_less}
 
 -- the cookies stay, and where they stand

@@ -1,12 +1,10 @@
 -- Buffers by their places in a list.
-use Rattle.std.proofs.Common.{◌≡◌, ℕ, zero, suc, ◌+◌, ◌<◌, ◌≤◌, Bool, true, false, cond, not, List, [], ◌∷◌, ◌++◌, drop, take, length, length-append, slice_get, Option, Some, nat_lt, refl, sym, ap, ◌∙◌, arith, subst}
+use Rattle.std.proofs.Common.{◌≡◌, ℕ, zero, suc, ◌+◌, ◌<◌, Bool, true, false, cond, not, List, [], ◌∷◌, drop, take, length, length-append, slice_get, Some, refl, sym, ap, ◌∙◌, arith, subst}
 use Rattle.std.proofs.lemmas.Bool.{le-ltb, lt-ltb}
 use Rattle.std.specs.List.{AllByRecursion}
 use Rattle.std.specs.Option.{option_map}
-use Rattle.pv_words.specs.declared.access.Access.{Access}
-use Rattle.pv_words.specs.declared.grant.Hold.{Hold}
 use Rattle.display_buffers.specs.Buffers.{has_cookie, without_buffer}
-use Rattle.display_backend.specs.Stock.{Held, buffer_pages, has_pages, less_first, less_where, pages_under, less_one}
+use Rattle.display_backend.specs.Stock.{Held, buffer_pages, has_pages, less_first, less_where, pages_under}
 use Rattle.display_backend.specs.Left.{pages_at, less_at, IsFirst, IsPage}
 use Rattle.display_backend.proofs.Gets.{get_first, get_second}
 

@@ -1,5 +1,5 @@
 -- What a step of a display's service comes to.
-use Rattle.std.proofs.Common.{◌≡◌, ℕ, ℤ, ◌<◌, ◌++◌, Bool, true, false, cond, nat_lt, List, [], ◌∷◌, drop, length, Option, Some, None, slice_get, refl, sym, ap, subst, ◌∙◌, arith}
+use Rattle.std.proofs.Common.{◌≡◌, ℕ, ℤ, ◌<◌, ◌++◌, true, false, nat_lt, List, [], ◌∷◌, length, Option, Some, None, refl, sym, ap, subst, ◌∙◌, arith}
 use Rattle.std.proofs.lemmas.Bool.{true≢false}
 use Rattle.pv_words.specs.declared.access.Access.{Access}
 use Rattle.pv_words.specs.declared.device.Said.{Said}
@@ -8,12 +8,11 @@ use Rattle.pv_words.specs.declared.grant.Hold.{Hold}
 use Rattle.pv_words.specs.declared.place.Place.TheVariants.{Cell, Grant}
 use Rattle.pv_words.specs.Plan as plan
 use Rattle.pv_words.specs.Plan.{Plan, Finished, Make, Want, Load, Store, Swap, Clear, MayGo, Turns, IsUnfinished, joined, mapped, wanted}
-use Rattle.pv_words.specs.Mapping.{unmap_want}
 use Rattle.displ_wire.specs.declared.Asked.{Asked}
 use Rattle.displ_wire.specs.declared.Asked.TheVariants as asked
 use Rattle.displ_wire.specs.declared.Create.{Create}
 use Rattle.displ_wire.specs.declared.Request.{Request}
-use Rattle.display_buffers.specs.Buffers.{check_of, has_cookie}
+use Rattle.display_buffers.specs.Buffers.{check_of}
 use Rattle.page_directory.specs.declared.walk.Walked.{Walked}
 use Rattle.page_directory.specs.declared.walk.Walked.TheVariants as walked
 use Rattle.page_directory.specs.Joins.{TurnsOrEnds}
@@ -131,7 +130,7 @@ pub free_ends : (x y : Known) (p : Plan Ending) (hs rest : List Hold) (a : Acces
 free_ends x y p hs rest a left is drops e n = (
   Finished Freed,
   subst (λ (z : Plan Ending). plan.Goes z a (Finished Freed)) (sym is)
-  (subst (λ (z : List Hold). plan.Goes (unmaps hs (Finished Freed)) a (unmaps z (Finished Freed))) e (drops_goes hs rest a (Finished Freed) drops)),
+      (subst (λ (z : List Hold). plan.Goes (unmaps hs (Finished Freed)) a (unmaps z (Finished Freed))) e (drops_goes hs rest a (Finished Freed) drops)),
   (refl, refl, n),
 )
 

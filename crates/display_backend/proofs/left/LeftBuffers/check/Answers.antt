@@ -1,5 +1,5 @@
 use Rattle.std.proofs.Common.{sym, ap, ◌∙◌}
-use Rattle.display_buffers.specs.Buffers.{check_of, cookies}
+use Rattle.display_buffers.specs.Buffers.{cookies}
 use Rattle.display_buffers.proofs.Checks.{check_by}
 use Rattle.display_backend.proofs.Lefts.{cookies_left}
 use Rattle.display_backend.proofs.left.LeftBuffers.check.Goals as goal

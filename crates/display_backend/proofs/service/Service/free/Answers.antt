@@ -1,15 +1,15 @@
-use Rattle.std.proofs.Common.{◌≡◌, ◌<◌, [], length, sym, ap, ◌∙◌, arith}
+use Rattle.std.proofs.Common.{◌≡◌, ◌<◌, [], length, ap, arith}
 use Rattle.pv_words.specs.Plan.{Finished}
 use Rattle.display_backend.specs.Course.{left_at}
 use Rattle.display_backend.specs.Known.{known_of, left_of}
 use Rattle.display_backend.specs.Service.{Freed}
 use Rattle.display_backend.specs.Stock.{Stock, pages_under}
-use Rattle.display_backend.specs.Store.{stock_of, count_of}
+use Rattle.display_backend.specs.Store.{stock_of}
 use Rattle.display_backend.specs.declared.course.Progress.TheVariants as progress
 use Rattle.display_backend.proofs.Freeing.{unmap_lies}
 use Rattle.device_service.proofs.Held.{nil_of}
 use Rattle.page_directory.proofs.Releases.{may_first}
-use Rattle.display_backend.proofs.Serviced.{free_ends, free_goes, knowing, releases, stock_freed, stock_less}
+use Rattle.display_backend.proofs.Serviced.{free_ends, free_goes, knowing, stock_freed, stock_less}
 use Rattle.display_backend.proofs.service.Service.free.Goals as goal
 
 pub unmap_of-requires-clause-may : goal.unmap_of-requires-clause-may

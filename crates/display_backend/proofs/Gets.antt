@@ -1,12 +1,7 @@
--- An element of a list that is cut, or joined to another.
-use Rattle.std.proofs.Common.{◌≡◌, ℕ, zero, suc, ◌+◌, ◌<◌, List, [], ◌∷◌, ◌++◌, drop, length, slice_get, refl, ap, ◌∙◌, arith}
+-- An element of two lists that are joined.
+use Rattle.std.proofs.Common.{◌≡◌, ℕ, zero, suc, ◌+◌, ◌<◌, List, [], ◌∷◌, ◌++◌, length, slice_get, refl, ap, arith}
 
 module _ {X : Type 0} where
-  pub get_drop : (n i : ℕ) (xs : List X) → slice_get (drop n xs) i ≡ slice_get xs (n + i)
-  get_drop zero i xs = let e : i ≡ 0 + i = omega arith in ap (slice_get xs) e
-  get_drop (suc n) i [] = refl
-  get_drop (suc n) i (x ∷ xs) = let e : suc (n + i) ≡ suc n + i = omega arith in get_drop n i xs ∙ ap (slice_get (x ∷ xs)) e
-
   pub get_first : (xs ys : List X) (i : ℕ) → i < length xs → slice_get (xs ++ ys) i ≡ slice_get xs i
   get_first [] ys i within = absurd (omega (arith, within))
   get_first (x ∷ xs) ys zero within = refl

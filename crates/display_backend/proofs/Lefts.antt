@@ -1,150 +1,121 @@
 -- The buffers without the pages that were given up: fields and order stay, and what becomes of them.
-use Rattle.std.proofs.Common.{◌≡◌, ℕ, zero, suc, ◌+◌, ◌-◌, ◌<◌, Bool, true, false, cond, not, List, [], ◌∷◌, ◌++◌, drop, length, length-drop, slice_get, slice_index, slice_index_or, slice_set, Option, Some, None, is_some, nat_le, eqb, refl, sym, ap, ◌∙◌, arith, subst}
-use Rattle.std.proofs.lemmas.Bool.{eqb-true, eq-eqb}
-use Rattle.std.proofs.lemmas.List.{drop-drop, get_or_read}
+use Rattle.std.proofs.Common.{◌≡◌, ℕ, zero, suc, ◌+◌, ◌<◌, Bool, true, false, cond, not, List, [], ◌∷◌, ◌++◌, drop, length, get_or, slice_get, slice_set, Option, Some, None, is_some, eqb, refl, sym, ap, ◌∙◌, arith, subst}
+use Rattle.std.proofs.lemmas.Bool.{eqb-true}
 use Rattle.std.specs.List.{remove}
 use Rattle.std.specs.Option.{option_map}
+use Rattle.pv_words.specs.declared.access.Access.{Access}
 use Rattle.pv_words.specs.declared.grant.Hold.{Hold}
+use Rattle.pv_words.specs.Release.{Drops}
 use Rattle.displ_wire.specs.declared.Create.{Create}
-use Rattle.display_buffers.specs.Buffers.{AreDistinct, IsFresh, buffer_of, check_of, cookies, has_cookie, is_in_range, made_of, with_buffer, without_buffer}
-use Rattle.display_buffers.proofs.Checks.{answer_of}
+use Rattle.display_buffers.specs.Buffers.{AreDistinct, IsFresh, cookies, has_cookie, with_buffer, without_buffer}
 use Rattle.display_buffers.proofs.Rows.{without_fresh}
+use Rattle.page_directory.specs.declared.release.Release.{Release}
+use Rattle.page_directory.specs.Release.{left_of}
+use Rattle.page_directory.proofs.Releases.{drops_as, drops_rest}
 use Rattle.display_backend.specs.Stock.{Held, with_pages}
-use Rattle.display_backend.proofs.Gets.{get_drop}
 use Rattle.display_backend.specs.Left.{left_in, pages_at, less_at, IsFirst}
+use Rattle.display_backend.proofs.Places.{pages_less}
 
-pub length_left : (bs : List Held) (gone : List ℕ) → length (left_in bs gone) ≡ length bs
-length_left [] gone = refl
-length_left (b ∷ bs) [] = ap suc (length_left bs [])
-length_left (b ∷ bs) (n ∷ ns) = ap suc (length_left bs ns)
+-- the cookies stay, and where they stand
+pub cookies_left : (bs : List Held) (rs : List Release) → cookies (left_in bs rs) ≡ cookies bs
+cookies_left [] rs = refl
+cookies_left (b ∷ bs) rs = ap (λ ns. b.buffer.cookie ∷ ns) (cookies_left bs (drop 1 rs))
 
--- whether a cookie is live doesn't depend on the pages
-pub live_left : (cookie : ℕ) (bs : List Held) (gone : List ℕ) → is_some (buffer_of cookie (left_in bs gone)) ≡ is_some (buffer_of cookie bs)
-live_left cookie [] gone = refl
-live_left cookie (b ∷ bs) [] = same (has_cookie cookie b) (live_left cookie bs [])
-  where
-    same : (t : Bool) → is_some (buffer_of cookie (left_in bs [])) ≡ is_some (buffer_of cookie bs) → is_some (cond t (Some b) (buffer_of cookie (left_in bs []))) ≡ is_some (cond t (Some b) (buffer_of cookie bs))
-    same true later = refl
-    same false later = later
-live_left cookie (b ∷ bs) (n ∷ ns) = same (has_cookie cookie b) (live_left cookie bs ns)
-  where
-    same : (t : Bool) → is_some (buffer_of cookie (left_in bs ns)) ≡ is_some (buffer_of cookie bs) → is_some (cond t (Some (with_pages b (drop n b.pages))) (buffer_of cookie (left_in bs ns))) ≡ is_some (cond t (Some b) (buffer_of cookie bs))
-    same true later = refl
-    same false later = later
+pub length_left : (bs : List Held) (rs : List Release) → length (left_in bs rs) ≡ length bs
+length_left [] rs = refl
+length_left (b ∷ bs) rs = ap suc (length_left bs (drop 1 rs))
+
+pub count_left : (bs left : List Held) (rs : List Release) → left_in bs rs ≡ left → length left ≡ length bs
+count_left bs left rs view = ap length (sym view) ∙ length_left bs rs
+
+pub first_left : (cookie : ℕ) (bs : List Held) (rs : List Release) (k : ℕ) → IsFirst (has_cookie cookie) (left_in bs rs) k → IsFirst (has_cookie cookie) bs k
+first_left cookie [] rs k first = first
+first_left cookie (b ∷ bs) rs zero first = first
+first_left cookie (b ∷ bs) rs (suc k) first = (first.0, first_left cookie bs (drop 1 rs) k first.1)
+
+cookie_here : (bs : List Held) (rs : List Release) (k cookie there : ℕ) → option_map (λ (b : Held). b.buffer.cookie) (slice_get bs k) ≡ Some there → option_map (has_cookie cookie) (slice_get (left_in bs rs) k) ≡ Some (eqb there cookie)
+cookie_here [] rs k cookie there at = let wrong : ⊥ = cc in absurd wrong
+cookie_here (b ∷ bs) rs zero cookie there at = let same : b.buffer.cookie ≡ there = cc in ap (λ n. Some (eqb n cookie)) same
+cookie_here (b ∷ bs) rs (suc k) cookie there at = cookie_here bs (drop 1 rs) k cookie there at
+
+pub cookie_left : (bs left : List Held) (rs : List Release) → left_in bs rs ≡ left → (k cookie there : ℕ) (t : Bool) → option_map (λ (b : Held). b.buffer.cookie) (slice_get bs k) ≡ Some there → eqb there cookie ≡ t → option_map (has_cookie cookie) (slice_get left k) ≡ Some t
+cookie_left bs left rs view k cookie there t at test =
+    ap (λ cs. option_map (has_cookie cookie) (slice_get cs k)) (sym view)
+    ∙ cookie_here bs rs k cookie there at
+    ∙ ap (λ u. let o : Option Bool = Some u in o) test
 
 pub some_mapped : {X Y : Type 0} (f : X → Y) (o : Option X) → is_some (option_map f o) ≡ is_some o
 some_mapped f None = refl
 some_mapped f (Some x) = refl
 
--- nor do the checks of a CREATE
-pub check_left : (bs : List Held) (gone : List ℕ) (c : Create) → check_of bs c ≡ check_of (left_in bs gone) c
-check_left bs gone c =
-    sym
-    (ap (λ t. answer_of (eqb c.flags 0) t (nat_le 64 (length (left_in bs gone))) (is_in_range (made_of c))) (live_left c.dbuf_cookie bs gone)
-    ∙ ap (λ n. answer_of (eqb c.flags 0) (is_some (buffer_of c.dbuf_cookie bs)) (nat_le 64 n) (is_in_range (made_of c))) (length_left bs gone))
-
 -- what is left of the pages at a place
-pub pages_left : (bs : List Held) (gone : List ℕ) (k : ℕ) (pages : List Hold) → option_map (λ (b : Held). b.pages) (slice_get bs k) ≡ Some pages → pages_at (left_in bs gone) k ≡ drop (slice_index gone k) pages
-pages_left [] gone k pages there = let wrong : ⊥ = cc in absurd wrong
-pages_left (b ∷ bs) [] zero pages there = cc
-pages_left (b ∷ bs) [] (suc k) pages there = pages_left bs [] k pages there
-pages_left (b ∷ bs) (n ∷ ns) zero pages there = let same : b.pages ≡ pages = cc in ap (drop n) same
-pages_left (b ∷ bs) (n ∷ ns) (suc k) pages there = pages_left bs ns k pages there
+pages_here : (bs : List Held) (rs : List Release) (k : ℕ) (r : Release) (pages : List Hold) → k < length rs → r ≡ get_or rs k r → option_map (λ (b : Held). b.pages) (slice_get bs k) ≡ Some pages → pages_at (left_in bs rs) k ≡ left_of r pages
+pages_here [] rs k r pages within by there = let wrong : ⊥ = cc in absurd wrong
+pages_here (b ∷ bs) [] k r pages within by there = absurd (omega (arith, within))
+pages_here (b ∷ bs) (q ∷ rs) zero r pages within by there =
+    let same : b.pages ≡ pages = cc in
+    ap (left_of q) same ∙ ap (λ x. left_of x pages) (sym by)
+pages_here (b ∷ bs) (q ∷ rs) (suc k) r pages within by there = pages_here bs rs k r pages (omega (arith, within)) by there
 
--- the same by the number that was read there, where all that is left is this list
-module _ (bs : List Held) (gone : List ℕ) (left : List Held) (view : left_in bs gone ≡ left) where
-  pub count_left : length left ≡ length bs
-  count_left = ap length (sym view) ∙ length_left bs gone
+-- one page of them more is given up
+less_here : (bs : List Held) (rs : List Release) (k : ℕ) (r : Release) (pages : List Hold) → k < length rs → option_map (λ (b : Held). b.pages) (slice_get bs k) ≡ Some pages → left_of r pages ≡ drop 1 (pages_at (left_in bs rs) k) → left_in bs (slice_set rs k r) ≡ less_at (left_in bs rs) k
+less_here [] rs k r pages within there less = refl
+less_here (b ∷ bs) [] k r pages within there less = absurd (omega (arith, within))
+less_here (b ∷ bs) (q ∷ rs) zero r pages within there less =
+    let same : b.pages ≡ pages = cc in
+    ap (λ hs. with_pages b hs ∷ left_in bs rs) (ap (left_of r) same ∙ less)
+less_here (b ∷ bs) (q ∷ rs) (suc k) r pages within there less =
+    ap (λ cs. with_pages b (left_of q b.pages) ∷ cs) (less_here bs rs k r pages (omega (arith, within)) there less)
 
-  module _ (k n : ℕ) (pages : List Hold) (within : k < length gone) (read : n ≡ slice_index_or gone k n) (there : option_map (λ (b : Held). b.pages) (slice_get bs k) ≡ Some pages) where
-    left_is : pages_at left k ≡ drop n pages
-    left_is =
-        ap (λ cs. pages_at cs k) (sym view)
-        ∙ pages_left bs gone k pages there
-        ∙ ap (λ m. drop m pages) (sym (get_or_read gone k n within read 0))
+module _ (bs left : List Held) (rs : List Release) (view : left_in bs rs ≡ left) (k : ℕ) (within : k < length rs) (pages : List Hold) (there : option_map (λ (b : Held). b.pages) (slice_get bs k) ≡ Some pages) where
+  pub pages_left : (r : Release) → r ≡ get_or rs k r → pages_at left k ≡ left_of r pages
+  pages_left r by = ap (λ cs. pages_at cs k) (sym view) ∙ pages_here bs rs k r pages within by there
 
-    pub left_count : length (pages_at left k) ≡ length pages - n
-    left_count = ap length left_is ∙ length-drop n pages
+  less_left : (r : Release) → left_of r pages ≡ drop 1 (pages_at left k) → left_in bs (slice_set rs k r) ≡ less_at left k
+  less_left r less =
+      less_here bs rs k r pages within there (less ∙ ap (λ cs. drop 1 (pages_at cs k)) (sym view))
+      ∙ ap (λ cs. less_at cs k) view
 
-    pub left_get : (i : ℕ) → slice_get (pages_at left k) i ≡ slice_get pages (n + i)
-    left_get i = ap (λ hs. slice_get hs i) left_is ∙ get_drop n i pages
+  -- the Release at this place makes a step
+  pub step_left : (r q : Release) (a : Access) → r ≡ get_or rs k r → Drops (left_of r pages) a (left_of q pages) → Drops (pages_at left k) a (pages_at (left_in bs (slice_set rs k q)) k) × (left_in bs (slice_set rs k q) ≡ less_at left k)
+  step_left r q a by drops =
+      let was = pages_left r by in
+      let rest = less_left q (drops_rest (left_of r pages) (left_of q pages) a drops ∙ ap (drop 1) (sym was)) in
+      let now = ap (λ cs. pages_at cs k) rest ∙ pages_less left k in
+      (drops_as (left_of r pages) (pages_at left k) (left_of q pages) (pages_at (left_in bs (slice_set rs k q)) k) a (ap (λ hs. slice_get hs 0) was) drops now, rest)
 
--- a cookie at a place
-cookie_here : (bs : List Held) (gone : List ℕ) (k cookie there : ℕ) → option_map (λ (b : Held). b.buffer.cookie) (slice_get bs k) ≡ Some there → option_map (has_cookie cookie) (slice_get (left_in bs gone) k) ≡ Some (eqb there cookie)
-cookie_here [] gone k cookie there at = let wrong : ⊥ = cc in absurd wrong
-cookie_here (b ∷ bs) [] zero cookie there at = let same : b.buffer.cookie ≡ there = cc in ap (λ n. Some (eqb n cookie)) same
-cookie_here (b ∷ bs) [] (suc k) cookie there at = cookie_here bs [] k cookie there at
-cookie_here (b ∷ bs) (n ∷ ns) zero cookie there at = let same : b.buffer.cookie ≡ there = cc in ap (λ m. Some (eqb m cookie)) same
-cookie_here (b ∷ bs) (n ∷ ns) (suc k) cookie there at = cookie_here bs ns k cookie there at
+-- a buffer comes with what is left of its pages
+pub created_left : (bs : List Held) (rs : List Release) (c : Create) (pages : List Hold) (r : Release) → length rs ≡ length bs → left_in (with_buffer bs c pages) (rs ++ r ∷ []) ≡ with_buffer (left_in bs rs) c (left_of r pages)
+created_left [] [] c pages r long = refl
+created_left [] (q ∷ rs) c pages r long = absurd (omega (arith, long))
+created_left (b ∷ bs) [] c pages r long = absurd (omega (arith, long))
+created_left (b ∷ bs) (q ∷ rs) c pages r long =
+    ap (λ cs. with_pages b (left_of q b.pages) ∷ cs) (created_left bs rs c pages r (omega (arith, long)))
 
-pub cookie_left : (bs : List Held) (gone : List ℕ) (left : List Held) → left_in bs gone ≡ left → (k cookie there : ℕ) (t : Bool) → option_map (λ (b : Held). b.buffer.cookie) (slice_get bs k) ≡ Some there → eqb there cookie ≡ t → option_map (has_cookie cookie) (slice_get left k) ≡ Some t
-cookie_left bs gone left view k cookie there t at test =
-    ap (λ cs. option_map (has_cookie cookie) (slice_get cs k)) (sym view)
-    ∙ cookie_here bs gone k cookie there at
-    ∙ ap (λ u. let o : Option Bool = Some u in o) test
-
--- a buffer comes with its pages, less those that were given up
-pub created_left : (bs : List Held) (gone : List ℕ) (c : Create) (pages : List Hold) (less : ℕ) → length gone ≡ length bs → left_in (with_buffer bs c pages) (gone ++ less ∷ []) ≡ with_buffer (left_in bs gone) c (drop less pages)
-created_left [] [] c pages less long = refl
-created_left [] (n ∷ ns) c pages less long = absurd (omega (arith, long))
-created_left (b ∷ bs) [] c pages less long = absurd (omega (arith, long))
-created_left (b ∷ bs) (n ∷ ns) c pages less long = ap (λ cs. with_pages b (drop n b.pages) ∷ cs) (created_left bs ns c pages less (omega (arith, long)))
-
--- one more page is given up
-less_here : (bs : List Held) (gone : List ℕ) (k : ℕ) → k < length gone → left_in bs (slice_set gone k (slice_index gone k + 1)) ≡ less_at (left_in bs gone) k
-less_here bs [] k within = absurd (omega (arith, within))
-less_here [] (n ∷ ns) k within = refl
-less_here (b ∷ bs) (n ∷ ns) zero within =
-    ap (λ pages. with_pages b pages ∷ left_in bs ns) (sym (drop-drop 1 n b.pages))
-less_here (b ∷ bs) (n ∷ ns) (suc k) within = ap (λ cs. with_pages b (drop n b.pages) ∷ cs) (less_here bs ns k (omega (arith, within)))
-
-pub less_left : (bs : List Held) (gone : List ℕ) (left : List Held) → left_in bs gone ≡ left → (k n : ℕ) → k < length gone → n ≡ slice_index_or gone k n → left_in bs (slice_set gone k (n + 1)) ≡ less_at left k
-less_left bs gone left view k n within read =
-    ap (λ m. left_in bs (slice_set gone k (m + 1))) (get_or_read gone k n within read 0)
-    ∙ less_here bs gone k within
-    ∙ ap (λ cs. less_at cs k) view
-
--- the cookies stay, and where they stand
-pub cookies_left : (bs : List Held) (gone : List ℕ) → cookies (left_in bs gone) ≡ cookies bs
-cookies_left [] gone = refl
-cookies_left (b ∷ bs) [] = ap (λ ns. b.buffer.cookie ∷ ns) (cookies_left bs [])
-cookies_left (b ∷ bs) (n ∷ ns) = ap (λ ms. b.buffer.cookie ∷ ms) (cookies_left bs ns)
-
-pub first_left : (cookie : ℕ) (bs : List Held) (gone : List ℕ) (k : ℕ) → IsFirst (has_cookie cookie) (left_in bs gone) k → IsFirst (has_cookie cookie) bs k
-first_left cookie [] gone k first = first
-first_left cookie (b ∷ bs) [] zero first = first
-first_left cookie (b ∷ bs) [] (suc k) first = (first.0, first_left cookie bs [] k first.1)
-first_left cookie (b ∷ bs) (n ∷ ns) zero first = first
-first_left cookie (b ∷ bs) (n ∷ ns) (suc k) first = (first.0, first_left cookie bs ns k first.1)
-
--- the only buffer of a cookie goes, with its number
+-- the only buffer of a cookie goes, with its Release
 fresh_rest : (cookie : ℕ) (b : Held) (bs : List Held) → has_cookie cookie b ≡ true → AreDistinct (cookies (b ∷ bs)) → IsFresh cookie (cookies bs)
 fresh_rest cookie b bs e distinct = subst (λ n. IsFresh n (cookies bs)) (eqb-true _ _ e) distinct.0
 
-pub first_cookie : (cookie : ℕ) (bs : List Held) → option_map (λ (b : Held). b.buffer.cookie) (slice_get bs 0) ≡ Some cookie → IsFirst (has_cookie cookie) bs 0
-first_cookie cookie [] here = let wrong : ⊥ = cc in wrong
-first_cookie cookie (b ∷ bs) here = let same : b.buffer.cookie ≡ cookie = cc in eq-eqb _ _ same
+-- the first buffer goes or stays, and the others without that of the cookie
+with_test : (cookie : ℕ) (b : Held) (bs : List Held) (t : Bool) → has_cookie cookie b ≡ t → without_buffer cookie (b ∷ bs) ≡ cond (not t) (b ∷ without_buffer cookie bs) (without_buffer cookie bs)
+with_test cookie b bs t test = ap (λ u. cond (not u) (b ∷ without_buffer cookie bs) (without_buffer cookie bs)) test
 
 pub length_without : (cookie : ℕ) (bs : List Held) (k : ℕ) → IsFirst (has_cookie cookie) bs k → AreDistinct (cookies bs) → length (without_buffer cookie bs) + 1 ≡ length bs
 length_without cookie [] k first distinct = absurd first
 length_without cookie (b ∷ bs) zero first distinct =
-    let gone = ap (λ t. length (cond (not t) (b ∷ without_buffer cookie bs) (without_buffer cookie bs))) first in
-    let rest = ap length (without_fresh cookie bs (fresh_rest cookie b bs first distinct)) in
-    omega (arith, gone, rest)
+    omega (arith, ap length (with_test cookie b bs true first), ap length (without_fresh cookie bs (fresh_rest cookie b bs first distinct)))
 length_without cookie (b ∷ bs) (suc k) first distinct =
-    let stays = ap (λ t. length (cond (not t) (b ∷ without_buffer cookie bs) (without_buffer cookie bs))) first.0 in
-    omega (arith, stays, length_without cookie bs k first.1 distinct.1)
+    omega (arith, ap length (with_test cookie b bs false first.0), length_without cookie bs k first.1 distinct.1)
 
-pub destroyed_left : (cookie : ℕ) (bs : List Held) (gone : List ℕ) (k : ℕ) → IsFirst (has_cookie cookie) bs k → AreDistinct (cookies bs) → length gone ≡ length bs → left_in (without_buffer cookie bs) (remove gone k) ≡ without_buffer cookie (left_in bs gone)
-destroyed_left cookie [] gone k first distinct long = absurd first
+pub destroyed_left : (cookie : ℕ) (bs : List Held) (rs : List Release) (k : ℕ) → IsFirst (has_cookie cookie) bs k → AreDistinct (cookies bs) → length rs ≡ length bs → left_in (without_buffer cookie bs) (remove rs k) ≡ without_buffer cookie (left_in bs rs)
+destroyed_left cookie [] rs k first distinct long = absurd first
 destroyed_left cookie (b ∷ bs) [] k first distinct long = absurd (omega (arith, long))
-destroyed_left cookie (b ∷ bs) (n ∷ ns) zero first distinct long =
+destroyed_left cookie (b ∷ bs) (r ∷ rs) zero first distinct long =
     let fresh = fresh_rest cookie b bs first distinct in
-    ap (λ t. left_in (cond (not t) (b ∷ without_buffer cookie bs) (without_buffer cookie bs)) ns) first
-    ∙ ap (λ cs. left_in cs ns) (without_fresh cookie bs fresh)
-    ∙ sym (without_fresh cookie (left_in bs ns) (subst (IsFresh cookie) (sym (cookies_left bs ns)) fresh))
-    ∙ ap (λ t. cond (not t) (with_pages b (drop n b.pages) ∷ without_buffer cookie (left_in bs ns)) (without_buffer cookie (left_in bs ns))) (sym first)
-destroyed_left cookie (b ∷ bs) (n ∷ ns) (suc k) first distinct long =
-    ap (λ t. left_in (cond (not t) (b ∷ without_buffer cookie bs) (without_buffer cookie bs)) (remove (n ∷ ns) (suc k))) first.0
-    ∙ ap (λ cs. with_pages b (drop n b.pages) ∷ cs) (destroyed_left cookie bs ns k first.1 distinct.1 (omega (arith, long)))
-    ∙ ap (λ t. cond (not t) (with_pages b (drop n b.pages) ∷ without_buffer cookie (left_in bs ns)) (without_buffer cookie (left_in bs ns))) (sym first.0)
+    ap (λ cs. left_in cs rs) (with_test cookie b bs true first ∙ without_fresh cookie bs fresh)
+    ∙ sym (without_fresh cookie (left_in bs rs) (subst (IsFresh cookie) (sym (cookies_left bs rs)) fresh))
+    ∙ sym (with_test cookie (with_pages b (left_of r b.pages)) (left_in bs rs) true first)
+destroyed_left cookie (b ∷ bs) (r ∷ rs) (suc k) first distinct long =
+    ap (λ cs. left_in cs (r ∷ remove rs k)) (with_test cookie b bs false first.0)
+    ∙ ap (λ cs. with_pages b (left_of r b.pages) ∷ cs) (destroyed_left cookie bs rs k first.1 distinct.1 (omega (arith, long)))
+    ∙ sym (with_test cookie (with_pages b (left_of r b.pages)) (left_in bs rs) false first.0)

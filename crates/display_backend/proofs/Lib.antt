@@ -11,4 +11,3 @@ pub mod Numbered
 pub mod Order
 pub mod Places
 pub mod Serviced
-pub mod StockPages

@@ -1,22 +1,23 @@
 -- What giving up pages comes to: order, and how often each page is held.
-use Rattle.std.proofs.Common.{◌≡◌, ℕ, Bool, true, false, cond, not, List, [], ◌∷◌, ◌++◌, drop, refl, sym, ap, ◌∙◌, arith, subst, append-nil, append_assoc}
-use Rattle.std.proofs.lemmas.Bool.{eqb-true}
+use Rattle.std.proofs.Common.{◌≡◌, ℕ, suc, Bool, true, false, cond, not, nat_lt, List, [], ◌∷◌, ◌++◌, drop, length, refl, sym, ap, ◌∙◌, arith, subst, append-nil, append_assoc}
+use Rattle.std.proofs.lemmas.Bool.{eqb-true, lt-ltb}
 use Rattle.pv_words.specs.declared.grant.Hold.{Hold}
 use Rattle.displ_wire.specs.declared.Create.{Create}
 use Rattle.display_buffers.specs.Buffers.{AreDistinct, IsFresh, cookies, has_cookie, with_buffer, without_buffer}
 use Rattle.display_buffers.proofs.Rows.{without_fresh}
 use Rattle.page_directory.specs.Same.{AreSame, times}
 use Rattle.page_directory.proofs.Counts.{times_append}
-use Rattle.display_backend.specs.Stock.{Stock, Held, pages_of, buffer_pages, pages_under, with_pages, less_one, bared, all_bared, stripped, first_less, without_first_in, without_first_of, without_first, created, destroyed}
+use Rattle.display_backend.specs.Stock.{Stock, Held, pages_of, buffer_pages, pages_under, has_pages, with_pages, less_first, less_where, less_one, bared, all_bared, stripped, without_first_in, without_first_of, without_first, created, destroyed}
 
 -- the first page of all goes first
-first_in : (bs : List Held) → buffer_pages (without_first_in bs) ≡ drop 1 (buffer_pages bs)
+pub first_in : (bs : List Held) → buffer_pages (without_first_in bs) ≡ drop 1 (buffer_pages bs)
 first_in [] = refl
 first_in (b ∷ bs) = by_pages b.pages refl (first_in bs)
   where
-    by_pages : (pages : List Hold) → b.pages ≡ pages → buffer_pages (without_first_in bs) ≡ drop 1 (buffer_pages bs) → buffer_pages (first_less (b ∷ without_first_in bs) pages (with_pages b (drop 1 pages) ∷ bs)) ≡ drop 1 (pages ++ buffer_pages bs)
+    by_pages : (pages : List Hold) → b.pages ≡ pages → buffer_pages (without_first_in bs) ≡ drop 1 (buffer_pages bs) → buffer_pages (cond (nat_lt 0 (length pages)) (with_pages b (drop 1 pages) ∷ bs) (b ∷ without_first_in bs)) ≡ drop 1 (pages ++ buffer_pages bs)
     by_pages [] e later = ap (λ pages. pages ++ buffer_pages (without_first_in bs)) e ∙ later
-    by_pages (h ∷ hs) e later = refl
+    by_pages (h ∷ hs) e later =
+        ap (λ t. buffer_pages (cond t (with_pages b hs ∷ bs) (b ∷ without_first_in bs))) (lt-ltb 0 (suc (length hs)) (omega arith))
 
 first_of : (mapped : List Hold) (bs : List Held) → pages_of (without_first_of mapped bs) ≡ drop 1 (mapped ++ buffer_pages bs)
 first_of [] bs = first_in bs
@@ -25,17 +26,40 @@ first_of (h ∷ hs) bs = refl
 pub first_goes : (s : Stock) → pages_of (without_first s) ≡ drop 1 (pages_of s)
 first_goes s = first_of s.mapped s.buffers
 
--- the buffers stay, but for their pages
-bared_in : (bs : List Held) → all_bared (without_first_in bs) ≡ all_bared bs
-bared_in [] = refl
-bared_in (b ∷ bs) = by_pages b.pages (bared_in bs)
-  where
-    by_pages : (pages : List Hold) → all_bared (without_first_in bs) ≡ all_bared bs → all_bared (first_less (b ∷ without_first_in bs) pages (with_pages b (drop 1 pages) ∷ bs)) ≡ all_bared (b ∷ bs)
-    by_pages [] later = ap (λ cs. with_pages b [] ∷ cs) later
-    by_pages (h ∷ hs) later = refl
+-- the first buffer that passes is without its first page
+module _ (p : Held → Bool) where
+  -- the buffers stay, but for their pages
+  bared_in : (bs : List Held) → all_bared (less_where p bs) ≡ all_bared bs
+  bared_in [] = refl
+  bared_in (b ∷ bs) = by_test (p b) (bared_in bs)
+    where
+      by_test : (t : Bool) → all_bared (less_where p bs) ≡ all_bared bs → all_bared (cond t (less_first b ∷ bs) (b ∷ less_where p bs)) ≡ all_bared (b ∷ bs)
+      by_test true later = refl
+      by_test false later = ap (λ cs. with_pages b [] ∷ cs) later
+
+  -- a buffer that has no page has none still
+  none_under_less : (cookie : ℕ) (bs : List Held) → pages_under cookie bs ≡ [] → pages_under cookie (less_where p bs) ≡ []
+  none_under_less cookie [] e = refl
+  none_under_less cookie (b ∷ bs) e = by_test (p b) (none_under_less cookie bs)
+    where
+      gone : (u : Bool) → cond u b.pages (pages_under cookie bs) ≡ [] → cond u (drop 1 b.pages) (pages_under cookie bs) ≡ []
+      gone true none = ap (drop 1) none
+      gone false none = none
+
+      stays : (u : Bool) → cond u b.pages (pages_under cookie bs) ≡ [] → (pages_under cookie bs ≡ [] → pages_under cookie (less_where p bs) ≡ []) → cond u b.pages (pages_under cookie (less_where p bs)) ≡ []
+      stays true none later = none
+      stays false none later = later none
+
+      by_test : (t : Bool) → (pages_under cookie bs ≡ [] → pages_under cookie (less_where p bs) ≡ []) → pages_under cookie (cond t (less_first b ∷ bs) (b ∷ less_where p bs)) ≡ []
+      by_test true later = gone (has_cookie cookie b) e
+      by_test false later = stays (has_cookie cookie b) e later
+
+pub under_less : (cookie : ℕ) (mapped : List Hold) (bs : List Held) → pages_under cookie bs ≡ [] → pages_under cookie (without_first_of mapped bs).buffers ≡ []
+under_less cookie [] bs e = none_under_less has_pages cookie bs e
+under_less cookie (h ∷ hs) bs e = e
 
 bared_of : (mapped : List Hold) (bs : List Held) → stripped (without_first_of mapped bs) ≡ record { mapped = []; buffers = all_bared bs }
-bared_of [] bs = ap (λ (cs : List Held). let s : Stock = record { mapped = []; buffers = cs } in s) (bared_in bs)
+bared_of [] bs = ap (λ (cs : List Held). let s : Stock = record { mapped = []; buffers = cs } in s) (bared_in has_pages bs)
 bared_of (h ∷ hs) bs = refl
 
 pub buffers_stay : (s : Stock) → stripped (without_first s) ≡ stripped s

@@ -1,5 +1,5 @@
 -- What a step of a display's service comes to.
-use Rattle.std.proofs.Common.{◌≡◌, ℕ, ℤ, ◌<◌, ◌++◌, Bool, true, false, cond, nat_lt, List, [], ◌∷◌, drop, length, Option, Some, None, slice_get, refl, sym, ap, subst, ◌∙◌, arith}
+use Rattle.std.proofs.Common.{◌≡◌, ℕ, ℤ, ◌<◌, ◌++◌, true, false, nat_lt, List, [], ◌∷◌, length, Option, Some, None, refl, sym, ap, subst, ◌∙◌, arith}
 use Rattle.std.proofs.lemmas.Bool.{true≢false}
 use Rattle.pv_words.specs.declared.access.Access.{Access}
 use Rattle.pv_words.specs.declared.device.Said.{Said}
@@ -8,12 +8,11 @@ use Rattle.pv_words.specs.declared.grant.Hold.{Hold}
 use Rattle.pv_words.specs.declared.place.Place.TheVariants.{Cell, Grant}
 use Rattle.pv_words.specs.Plan as plan
 use Rattle.pv_words.specs.Plan.{Plan, Finished, Make, Want, Load, Store, Swap, Clear, MayGo, Turns, IsUnfinished, joined, mapped, wanted}
-use Rattle.pv_words.specs.Mapping.{unmap_want}
 use Rattle.displ_wire.specs.declared.Asked.{Asked}
 use Rattle.displ_wire.specs.declared.Asked.TheVariants as asked
 use Rattle.displ_wire.specs.declared.Create.{Create}
 use Rattle.displ_wire.specs.declared.Request.{Request}
-use Rattle.display_buffers.specs.Buffers.{check_of, has_cookie}
+use Rattle.display_buffers.specs.Buffers.{check_of}
 use Rattle.page_directory.specs.declared.walk.Walked.{Walked}
 use Rattle.page_directory.specs.declared.walk.Walked.TheVariants as walked
 use Rattle.page_directory.specs.Joins.{TurnsOrEnds}
@@ -21,7 +20,7 @@ use Rattle.page_directory.specs.declared.walk.Walk.{Walk}
 use Rattle.page_directory.specs.WalkLeft.{PagesByAccess, walk_left, dom_of, held_by}
 use Rattle.link_core.specs.Activities.{unmaps}
 use Rattle.link_core.specs.Stays.{LiesIn, AccessIn}
-use Rattle.device_service.specs.Dropping.{Drops}
+use Rattle.pv_words.specs.Release.{Drops}
 use Rattle.device_service.specs.declared.deed.Now.{Now}
 use Rattle.device_service.specs.declared.deed.Now.TheVariants.{GoesOn, Over}
 use Rattle.device_service.specs.Operating.{Comes, Continues, Leaves}
@@ -31,13 +30,14 @@ use Rattle.display_backend.specs.declared.course.Progress.{Progress}
 use Rattle.display_backend.specs.declared.course.Progress.TheVariants as progress
 use Rattle.display_backend.specs.Course.{Goes, is_under_way, is_walk_of, pages_walked, stock_at, left_at, Creates, Destroys, ComesTo, InHand, HasDestroy, Releases, Stands}
 use Rattle.display_backend.specs.Service.{Known, Ending, Listed, Freed, after_walk, display, has_work, ready_at, ready_for, reply_for, says_at}
-use Rattle.display_backend.specs.Stock.{Stock, Held, pages_of, pages_under, with_pages, less_one, bared, stripped, first_less, without_first_in, without_first_of, without_first}
+use Rattle.display_backend.specs.Stock.{Stock, Held, pages_of, pages_under, less_one, bared, stripped, without_first}
 use Rattle.display_backend.specs.Names.{numbered}
 use Rattle.display_backend.specs.Reply.{reply_to}
 use Rattle.display_backend.specs.Verdict.{status_in, verdict}
-use Rattle.display_backend.proofs.Freeing.{Clears, bare_freed}
+use Rattle.page_directory.proofs.Releases.{drops_goes}
+use Rattle.display_backend.proofs.Freeing.{bare_freed}
 use Rattle.display_backend.proofs.Numbered.{AreLike, like_verdict, numbered_all_bared, numbered_bared, same_check}
-use Rattle.display_backend.proofs.Order.{buffers_stay, first_of_one, none_under, others_stay}
+use Rattle.display_backend.proofs.Order.{buffers_stay, none_under, others_stay, under_less}
 use Rattle.device_service.proofs.Serving.{in_service}
 use Rattle.device_core.specs.Site.{Site}
 use Rattle.device_service.specs.Claims.{site_of}
@@ -112,46 +112,29 @@ pub in_none : (access : Option Access) (held pages : List Hold) → held ≡ [] 
 in_none None held pages e h = tt
 in_none (Some a) held pages e h = lies_in_none (wanted a) pages (subst (λ (hs : List Hold). LiesIn hs (wanted a)) e h)
 
--- the first page of a list is unmapped
-pub may_unmap : {A : Type 0} (may : Want → Type 0) (hs : List Hold) (more : Plan A) → MayGo may (unmaps hs more) → (h : Hold) → slice_get hs 0 ≡ Some h → may (unmap_want h)
-may_unmap may [] more m h e = let wrong : ⊥ = cc in absurd wrong
-may_unmap may (x ∷ xs) more m h e =
-    let same : x ≡ h = cc in
-    subst (λ (y : Hold). may (unmap_want y)) same m
-
-pub drops_first : (hs left : List Hold) (a : Access) → 0 < length hs → Clears hs a → left ≡ drop 1 hs → Drops hs a left
-drops_first [] left a some clears e = absurd (omega (arith, some))
-drops_first (h ∷ hs) left a some clears e = (clears h refl, e)
-
 -- the Release of a DESTROY
-unmap_goes : (hs : List Hold) (more : Plan Ending) (a : Access) → 0 < length hs → Clears hs a → plan.Goes (unmaps hs more) a (unmaps (drop 1 hs) more)
-unmap_goes [] more a some clears = absurd (omega (arith, some))
-unmap_goes (h ∷ hs) more a some clears = (clears h refl, refl)
-
 free_left_on : (x y : Known) (hs : List Hold) (left : Plan Ending) → 0 < length hs → y ≡ x → left ≡ unmaps hs (Finished Freed) → Leaves display x (unmaps hs (Finished Freed)) GoesOn None y left
 free_left_on x y [] left some e l = absurd (omega (arith, some))
 free_left_on x y (h ∷ hs) left some e l = (refl, refl, e, l)
 
 -- more pages are left
-pub free_goes : (x y : Known) (p : Plan Ending) (hs rest : List Hold) (a : Access) (left : Plan Ending) → p ≡ unmaps hs (Finished Freed) → 0 < length hs → Clears hs a → rest ≡ drop 1 hs → 0 < length rest → y ≡ x → left ≡ unmaps rest (Finished Freed) → Continues display x p (Some a) GoesOn None y left
-free_goes x y p hs rest a left is some clears e more same l = (
+pub free_goes : (x y : Known) (p : Plan Ending) (hs rest : List Hold) (a : Access) (left : Plan Ending) → p ≡ unmaps hs (Finished Freed) → Drops hs a rest → 0 < length rest → y ≡ x → left ≡ unmaps rest (Finished Freed) → Continues display x p (Some a) GoesOn None y left
+free_goes x y p hs rest a left is drops more same l = (
   unmaps rest (Finished Freed),
-  subst (λ (z : Plan Ending). plan.Goes z a (unmaps rest (Finished Freed))) (sym is) (subst (λ (z : List Hold). plan.Goes (unmaps hs (Finished Freed)) a (unmaps z (Finished Freed))) (sym e) (unmap_goes hs (Finished Freed) a some clears)),
+  subst (λ (z : Plan Ending). plan.Goes z a (unmaps rest (Finished Freed))) (sym is) (drops_goes hs rest a (Finished Freed) drops),
   free_left_on x y rest left more same l,
 )
 
 -- none is left
-pub free_ends : (x y : Known) (p : Plan Ending) (hs : List Hold) (a : Access) (left : Plan Ending) → p ≡ unmaps hs (Finished Freed) → 0 < length hs → Clears hs a → drop 1 hs ≡ [] → y ≡ record x { progress = progress.Released } → Continues display x p (Some a) Over None y left
-free_ends x y p hs a left is some clears e n = (
+pub free_ends : (x y : Known) (p : Plan Ending) (hs rest : List Hold) (a : Access) (left : Plan Ending) → p ≡ unmaps hs (Finished Freed) → Drops hs a rest → rest ≡ [] → y ≡ record x { progress = progress.Released } → Continues display x p (Some a) Over None y left
+free_ends x y p hs rest a left is drops e n = (
   Finished Freed,
-  subst (λ (z : Plan Ending). plan.Goes z a (Finished Freed)) (sym is) (subst (λ (z : List Hold). plan.Goes (unmaps hs (Finished Freed)) a (unmaps z (Finished Freed))) e (unmap_goes hs (Finished Freed) a some clears)),
+  subst (λ (z : Plan Ending). plan.Goes z a (Finished Freed)) (sym is)
+      (subst (λ (z : List Hold). plan.Goes (unmaps hs (Finished Freed)) a (unmaps z (Finished Freed))) e (drops_goes hs rest a (Finished Freed) drops)),
   (refl, refl, n),
 )
 
 module _ (course : Course) (cookie : ℕ) (s t : Stock) (is : course ≡ Frees cookie) (less : t ≡ stock s.mapped (less_one cookie s.buffers)) where
-  pub left_under : pages_under cookie t.buffers ≡ drop 1 (pages_under cookie s.buffers)
-  left_under = ap (λ (x : Stock). pages_under cookie x.buffers) less ∙ first_of_one cookie s.buffers
-
   -- what is given up stays the same
   pub stock_less : stock_at course t ≡ stock_at course s
   stock_less =
@@ -192,28 +175,6 @@ ready_freeing course cookie hand p s count is st =
     ∙ ready_destroy cookie hand p s (releases course cookie hand p s.buffers count is st).destroys
 
 -- the first of all pages is given up: what is known of the request in hand stays
-under_first : (cookie : ℕ) (bs : List Held) → pages_under cookie bs ≡ [] → pages_under cookie (without_first_in bs) ≡ []
-under_first cookie [] e = refl
-under_first cookie (b ∷ bs) e = by_pages b.pages refl (has_cookie cookie b) refl e (under_first cookie bs)
-  where
-    by_pages : (pages : List Hold) → b.pages ≡ pages → (t : Bool) → has_cookie cookie b ≡ t → cond (has_cookie cookie b) b.pages (pages_under cookie bs) ≡ [] → (pages_under cookie bs ≡ [] → pages_under cookie (without_first_in bs) ≡ []) → pages_under cookie (first_less (b ∷ without_first_in bs) pages (with_pages b (drop 1 pages) ∷ bs)) ≡ []
-    by_pages [] is true f e later =
-        ap (λ t. cond t b.pages (pages_under cookie (without_first_in bs))) f ∙ is
-    by_pages [] is false f e later =
-        ap (λ t. cond t b.pages (pages_under cookie (without_first_in bs))) f
-        ∙ later (sym (ap (λ t. cond t b.pages (pages_under cookie bs)) f) ∙ e)
-    by_pages (h ∷ hs) is true f e later =
-        let none : h ∷ hs ≡ [] = sym is ∙ (sym (ap (λ t. cond t b.pages (pages_under cookie bs)) f) ∙ e) in
-        let wrong : ⊥ = cc none in
-        absurd wrong
-    by_pages (h ∷ hs) is false f e later =
-        ap (λ t. cond t hs (pages_under cookie bs)) f
-        ∙ (sym (ap (λ t. cond t b.pages (pages_under cookie bs)) f) ∙ e)
-
-under_less : (cookie : ℕ) (mapped : List Hold) (bs : List Held) → pages_under cookie bs ≡ [] → pages_under cookie (without_first_of mapped bs).buffers ≡ []
-under_less cookie [] bs e = under_first cookie bs e
-under_less cookie (h ∷ hs) bs e = e
-
 like_less : (s : Stock) → AreLike (without_first s).buffers s.buffers
 like_less s =
     sym (numbered_all_bared (without_first s).buffers [])

@@ -1,13 +1,16 @@
 -- Where a display stands: where its backend does.
-use Rattle.std.specs.Prelude.{◌≡◌, ℕ, List}
+use Rattle.std.specs.Prelude.{◌≡◌, ℕ, Bool, not, List}
 use Rattle.pv_words.specs.declared.grant.Hold.{Hold}
-use Rattle.device_core.specs.Order.{Stand}
+use Rattle.pv_words.specs.declared.words.Words.{Ghosts as Words}
+use Rattle.pv_words.specs.Plan.{Want}
+use Rattle.device_core.specs.Order.{Heard, MayStep, News, Stand, Steps, at_rest, next}
 use Rattle.device_core.specs.Site.{Site}
+use Rattle.device_core.specs.declared.step.Step.{Step}
 use Rattle.device_service.specs.Stand as backend
-use Rattle.device_service.specs.Work.{Work, End}
+use Rattle.device_service.specs.Work.{Work, End, device}
 use Rattle.display_backend.specs.declared.display.Display.{Display}
 use Rattle.display_backend.specs.declared.waiting.Waiting.{Waiting}
-use Rattle.display_backend.specs.Service.{Known, Ending}
+use Rattle.display_backend.specs.Service.{Known, Ending, display}
 
 -- its number
 abbrev pub dev_of : Display → ℕ
@@ -33,6 +36,10 @@ Same old new = (whose new ≡ whose old) × (parts_of new ≡ parts_of old)
 abbrev pub site_of : (frames grants : ℕ → ℕ) → Display → Site
 site_of frames grants d = backend.site_at frames grants d.backend
 
+-- the display over these words, whose members a clause names all together by `W.Words`
+abbrev pub site_over : {W : Type 0} → Words W → W → Display → Site
+site_over m words d = site_of (m.frames_of words) (m.grants_of words) d
+
 -- all pages that it holds: those of a walk, those of buffers, then those of its parts
 abbrev pub held_of : Display → List Hold
 held_of d = backend.held_of d.backend
@@ -42,3 +49,19 @@ work_of d = backend.work_of d.backend
 
 abbrev pub stand_of : Site → Display → Stand (Work Known Waiting) (End Ending Waiting)
 stand_of site d = backend.stand_of site d.backend
+
+-- wherever it is, it goes on from where it stands by this news
+abbrev pub Hears : Display → News → Display → Type 0
+Hears old news new = (site : Site) → stand_of site new ≡ next (device display site) (stand_of site old) (Heard news)
+
+-- what comes next there may be made
+abbrev pub MayStepAt : (Want → Type 0) → Site → Display → Type 0
+MayStepAt may site d = MayStep may (device display site) (stand_of site d)
+
+-- it made this step there, which is the next one
+abbrev pub StepsAt : Site → Display → Step → Display → Type 0
+StepsAt site old step new = Steps (device display site) (stand_of site old) step.access step.said (stand_of site new)
+
+-- whether something comes next, wherever it is
+abbrev pub IsDue : Display → Bool → Type 0
+IsDue d due = (site : Site) → site.parts ≡ parts_of d → due ≡ not (at_rest (device display site) (stand_of site d))

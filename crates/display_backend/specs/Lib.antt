@@ -6,6 +6,7 @@ pub mod Known
 pub mod Laws
 pub mod Left
 pub mod Names
+pub mod Over
 pub mod Reply
 pub mod Service
 pub mod Stock

@@ -1,6 +1,6 @@
 //! The display device.
 
-ghost use Rattle.std.specs.Prelude.{◌≡◌, ◌<◌, ◌≤◌, [], IfOk, OnErr, not, true, length, slice_get, Some};
+ghost use Rattle.std.specs.Prelude.{◌≡◌, ◌<◌, ◌≤◌, [], IfOk, OnErr, true, length, slice_get, Some};
 
 use crate::service::Service;
 use device_core::Step;
@@ -19,10 +19,11 @@ impl Display {
     ghost use Rattle.pv_words.specs.Plan.{Makes};
     ghost use Rattle.host_events.specs.Queue.{refusal_in};
     ghost use Rattle.link_core.specs.Stays.{AccessIn};
-    ghost use Rattle.device_core.specs.Order.{Between, MayStep, Steps, Heard, Sets, Hosts, next, at_rest, work_at};
+    ghost use Rattle.device_core.specs.Order.{Between, Sets, Hosts, work_at};
     ghost use Rattle.device_core.specs.Site.{Site};
-    ghost use Rattle.device_service.specs.Work.{device, first_work, refused_at};
-    ghost use Rattle.display_backend.specs.Display.{dev_of, dom_of, parts_of, held_of, site_of, stand_of};
+    ghost use Rattle.device_service.specs.Work.{first_work, refused_at};
+    ghost use Rattle.display_backend.specs.Display.{Hears, IsDue, MayStepAt, StepsAt};
+    ghost use Rattle.display_backend.specs.Display.{dev_of, dom_of, parts_of, held_of, site_over, stand_of};
     ghost use Rattle.display_backend.specs.Laws.{HoldsAsMany, HoldsPage};
     ghost use Rattle.display_backend.specs.Service.{display};
     ghost use Rattle.display_backend.specs.Waiting.{is_for};
@@ -51,7 +52,7 @@ impl Display {
 
     /// Hears that the frontend set its state, while its nodes stand so.
     pub fn bus(&mut self, front: State, nodes: &Nodes)
-        ensures hears { (site : Site) → stand_of site self.new ≡ next (device display site) (stand_of site self.old) (Heard (Sets front nodes.now)) }
+        ensures hears { Hears self.old (Sets front nodes.now) self.new }
         ensures dev { dev_of self.new ≡ dev_of self.old }
         ensures dom { dom_of self.new ≡ dom_of self.old }
         ensures parts { parts_of self.new ≡ parts_of self.old }
@@ -64,7 +65,7 @@ impl Display {
     /// NotConnected exactly where the backend isn't Connected, and else Full exactly where 64 wait; a refusal changes nothing.
     pub fn host(&mut self, e: HostEvent) -> Result<(), HostRefusal>
         requires { is_for (parts_of self.old) e ≡ true }
-        ensures hears { (site : Site) → stand_of site self.new ≡ next (device display site) (stand_of site self.old) (Heard (Hosts e)) }
+        ensures hears { Hears self.old (Hosts e) self.new }
         ensures refusal { (site : Site) → refusal_in result ≡ refused_at display (work_at (stand_of site self.old)) e }
         ensures err { OnErr result (self.new ≡ self.old) }
         ensures dev { dev_of self.new ≡ dev_of self.old }
@@ -97,8 +98,8 @@ impl Display {
     /// where the order of work has nothing left. An access to a cell lies in the frame of a page that the display holds
     /// before the step, and one that may write in a page that is held for writing.
     pub fn step<W: Words>(&mut self, words: &mut W) -> Step
-        requires { MayStep (W.may words.old) (device display (site_of (W.frames_of words.old) (W.grants_of words.old) self.old)) (stand_of (site_of (W.frames_of words.old) (W.grants_of words.old) self.old) self.old) }
-        ensures steps { Steps (device display (site_of (W.frames_of words.old) (W.grants_of words.old) self.old)) (stand_of (site_of (W.frames_of words.old) (W.grants_of words.old) self.old) self.old) result.access result.said (stand_of (site_of (W.frames_of words.old) (W.grants_of words.old) self.old) self.new) }
+        requires { MayStepAt (W.may words.old) (site_over W.Words words.old self.old) self.old }
+        ensures steps { StepsAt (site_over W.Words words.old self.old) self.old result self.new }
         ensures made { Makes W.makes words.old result.access words.new }
         ensures stays { AccessIn (held_of self.old) result.access }
         ensures dev { dev_of self.new ≡ dev_of self.old }
@@ -110,7 +111,7 @@ impl Display {
 
     /// Whether the next step isn't idle.
     pub fn due(&self) -> bool
-        ensures { (site : Site) → site.parts ≡ parts_of self.now → result ≡ not (at_rest (device display site) (stand_of site self.now)) }
+        ensures { IsDue self.now result }
     {
         self.backend.due()
     }

@@ -1,15 +1,17 @@
 // The live buffers of a display, with what is left of the pages of each.
 
-ghost use Rattle.std.specs.Prelude.{◌≡◌, ◌<◌, ◌≤◌, ◌*◌, [], drop, length, slice_get, is_some, Some, Ok, IfOk};
+ghost use Rattle.std.specs.Prelude.{◌≡◌, ◌<◌, ◌≤◌, ◌*◌, [], length, slice_get, is_some, Some, Ok, IfOk};
+ghost use Rattle.pv_words.specs.Release.{Drops, MayDrop};
+ghost use Rattle.page_directory.specs.Release.{left_of};
 ghost use Rattle.display_buffers.specs.Buffers.{AreDistinct, buffer_of, check_of, cookies, has_cookie, with_buffer, without_buffer};
 ghost use Rattle.display_buffers.specs.Pixels.{page_count};
 ghost use Rattle.display_backend.specs.Stock.{buffer_pages, without_first_in};
-ghost use Rattle.display_backend.specs.Left.{Finds, has_pages, less_at, pages_at};
+ghost use Rattle.display_backend.specs.Left.{Finds, IsPage, less_at, pages_at};
 
 use displ_wire::{Create, Refused};
 use display_buffers::Buffers;
-use page_directory::Pages;
-use pv_words::Hold;
+use page_directory::{Pages, Release};
+use pv_words::{Access, Hold, Words};
 use std::alloc::{AllocError, Global};
 use std::marker::Model;
 
@@ -17,14 +19,14 @@ use std::marker::Model;
 const BUFFER_LIMIT: usize = 64;
 
 // How many pages a buffer may have.
-const PAGE_LIMIT: u32 = 8192;
+pub(crate) const PAGE_LIMIT: u32 = 8192;
 
 // The live buffers of a display, in order of creation. A contract sees each with the pages that are left of it.
 #[derive(Drop)]
 pub(crate) struct LeftBuffers {
     buffers: Buffers<Pages>,
-    // How many pages of each buffer were given up, in order of creation.
-    gone: Vec<u32>,
+    // How far the pages of each buffer are given up, in order of creation.
+    releases: Vec<Release>,
 }
 
 impl Model for LeftBuffers {
@@ -34,9 +36,9 @@ impl Model for LeftBuffers {
 
     ghost Value = { List Held };
 
-    ghost view = { λ b. left_in b.buffers b.gone.items };
+    ghost view = { λ b. left_in b.buffers b.releases.items };
 
-    ghost invariant = { λ b. (vec_len b.gone ≡ length b.buffers) × (64 ≤ vec_capacity b.gone) };
+    ghost invariant = { λ b. (vec_len b.releases ≡ length b.buffers) × (64 ≤ vec_capacity b.releases) };
 }
 
 impl LeftBuffers {
@@ -45,8 +47,8 @@ impl LeftBuffers {
         ensures { IfOk result (λ b. b ≡ []) }
     {
         let buffers = Buffers::new(alloc)?;
-        let gone = Vec::with_capacity(alloc, BUFFER_LIMIT)?;
-        Ok(LeftBuffers { buffers, gone })
+        let releases = Vec::with_capacity(alloc, BUFFER_LIMIT)?;
+        Ok(LeftBuffers { buffers, releases })
     }
 
     // The first check of a CREATE that fails, of those that need no memory and no page.
@@ -63,14 +65,14 @@ impl LeftBuffers {
         self.buffers.get(cookie).is_some()
     }
 
-    // Makes the buffer that a CREATE asks for, of these pages, of which so many were given up.
-    pub(crate) fn create(&mut self, c: &Create, pages: Pages, gone: u32)
+    // Makes the buffer that a CREATE asks for, of what is left of these pages.
+    pub(crate) fn create(&mut self, c: &Create, pages: Pages, release: Release)
         requires checked { check_of self.old c.now ≡ Ok tt }
         requires count { length pages ≡ page_count c.now.buffer_sz }
-        ensures { self.new ≡ with_buffer self.old c.now (drop gone pages) }
+        ensures { self.new ≡ with_buffer self.old c.now (left_of release pages) }
     {
         self.buffers.create(c, pages);
-        self.gone.push_reserved(gone);
+        self.releases.push_reserved(release);
     }
 
     // Takes away the buffer of a cookie.
@@ -81,15 +83,15 @@ impl LeftBuffers {
             return;
         };
         let _ = self.buffers.destroy(cookie);
-        let _ = self.gone.remove(at as usize);
+        let _ = self.releases.remove(at as usize);
     }
 
     // Takes away all buffers.
     pub(crate) fn clear(&mut self)
         ensures { self.new ≡ [] }
     {
-        remove_all(&mut self.buffers);
-        self.gone.clear();
+        self.buffers.clear();
+        self.releases.clear();
     }
 
     // How many buffers there are, under different cookies.
@@ -108,17 +110,16 @@ impl LeftBuffers {
         ensures few { result ≤ 8192 }
     {
         let pages = self.buffers.pages_at(k);
-        pages.len().saturating_sub(self.gone[k as usize])
+        prove!(pages.len() <= PAGE_LIMIT);
+        self.releases[k as usize].left(pages)
     }
 
     // The page of this number of those that are left of the buffer at this place.
-    pub(crate) fn hold_at(&self, k: u32, i: u32) -> Hold
+    fn hold_at(&self, k: u32, i: u32) -> Hold
         requires { i < length (pages_at self.now k) }
         ensures { slice_get (pages_at self.now k) i ≡ Some result }
     {
-        let pages = self.buffers.pages_at(k);
-        prove!(pages.len() <= PAGE_LIMIT);
-        pages.get(self.gone[k as usize] + i)
+        self.releases[k as usize].get(self.buffers.pages_at(k), i)
     }
 
     // Where the buffer of a cookie stands. No other has this cookie.
@@ -128,18 +129,6 @@ impl LeftBuffers {
     {
         for k in 0..self.count() {
             if self.buffers.cookie_at(k) == cookie {
-                return Some(k);
-            }
-        }
-        None
-    }
-
-    // Where the first buffer that has a page stands.
-    fn first(&self) -> Option<u32>
-        ensures { Finds has_pages self.now result }
-    {
-        for k in 0..self.count() {
-            if self.held_at(k) > 0 {
                 return Some(k);
             }
         }
@@ -158,47 +147,55 @@ impl LeftBuffers {
         held
     }
 
-    // The page of this number of those that are left of all buffers.
-    pub(crate) fn hold(&self, i: u32) -> Hold
+    // Where the page of this number stands, of those that are left of all buffers: the place of its buffer, and its number
+    // among the pages of that.
+    fn find(&self, i: u32) -> (u32, u32)
         requires { i < length (buffer_pages self.now) }
-        ensures { slice_get (buffer_pages self.now) i ≡ Some result }
+        ensures { IsPage self.now i result.0 result.1 }
     {
         let mut rest = i;
         for k in 0..self.count() {
             let held = self.held_at(k);
             if rest < held {
-                return self.hold_at(k, rest);
+                return (k, rest);
             }
             rest -= held;
         }
         unreachable!()
     }
 
-    // Gives up the first page of the buffer at this place.
-    pub(crate) fn give_up_at(&mut self, k: u32)
-        requires { 0 < length (pages_at self.old k) }
-        ensures { self.new ≡ less_at self.old k }
+    // The page of this number of those that are left of all buffers.
+    pub(crate) fn hold(&self, i: u32) -> Hold
+        requires { i < length (buffer_pages self.now) }
+        ensures { slice_get (buffer_pages self.now) i ≡ Some result }
     {
-        prove!(self.gone[k as usize] < self.buffers.pages_at(k).len());
-        self.gone[k as usize] += 1;
+        let (k, j) = self.find(i);
+        self.hold_at(k, j)
     }
 
-    // Gives up the first page of the first buffer that has one.
-    pub(crate) fn give_up_first(&mut self)
-        ensures { self.new ≡ without_first_in self.old }
+    // Unmaps the first page that is left of the buffer at this place.
+    pub(crate) fn unmap_at<W: Words>(&mut self, k: u32, words: &mut W) -> Access
+        requires some { 0 < length (pages_at self.old k) }
+        requires may { MayDrop (W.may words.old) (pages_at self.old k) }
+        ensures drops { Drops (pages_at self.old k) result (pages_at self.new k) }
+        ensures less { self.new ≡ less_at self.old k }
+        ensures made { W.makes words.old result words.new }
     {
-        if let Some(k) = self.first() {
-            self.give_up_at(k);
-        }
+        let mut release = self.releases[k as usize];
+        let access = release.step(self.buffers.pages_at(k), words);
+        self.releases[k as usize] = release;
+        access
     }
-}
 
-// Takes away all buffers of a table.
-fn remove_all(buffers: &mut Buffers<Pages>)
-    ensures { buffers.new ≡ [] }
-{
-    while buffers.live() > 0 {
-        let cookie = buffers.cookie_at(0);
-        let _ = buffers.destroy(cookie);
+    // Unmaps the first page that is left of all buffers.
+    pub(crate) fn unmap_first<W: Words>(&mut self, words: &mut W) -> Access
+        requires some { 0 < length (buffer_pages self.old) }
+        requires may { MayDrop (W.may words.old) (buffer_pages self.old) }
+        ensures drops { Drops (buffer_pages self.old) result (buffer_pages self.new) }
+        ensures less { self.new ≡ without_first_in self.old }
+        ensures made { W.makes words.old result words.new }
+    {
+        let (k, _) = self.find(0);
+        self.unmap_at(k, words)
     }
 }

@@ -35,24 +35,20 @@ pub struct Service {
 impl Service {
     ghost use Rattle.std.specs.Prelude.{ℕ, ◌≤◌, true, List, []};
     ghost use Rattle.pv_words.specs.declared.grant.Hold.{Hold};
-    ghost use Rattle.pv_words.specs.Plan.{Finished, MayGo, Makes, mapped};
-    ghost use Rattle.displ_wire.specs.declared.Asked.TheVariants as asked;
-    ghost use Rattle.pv_words.specs.declared.grant.Mode.TheVariants.{Read};
-    ghost use Rattle.page_directory.specs.declared.walk.Walked.TheVariants as walked;
-    ghost use Rattle.page_directory.specs.Walking as walking;
-    ghost use Rattle.page_directory.specs.Walking.{walk_plan};
-    ghost use Rattle.page_directory.specs.WalkLeft.{walk_left, held_by, count_of as walk_count};
+    ghost use Rattle.pv_words.specs.Plan.{Finished, MayGo, Makes};
+    ghost use Rattle.page_directory.specs.WalkLeft.{held_by, count_of as walk_count};
     ghost use Rattle.page_directory.specs.WalkLeft.{dom_of as walked_dom, is_over as is_walked};
     ghost use Rattle.link_core.specs.Activities.{unmaps};
     ghost use Rattle.link_core.specs.Stays.{AccessIn};
     ghost use Rattle.device_core.specs.Site.{Site};
-    ghost use Rattle.device_service.specs.Claims.{site_of};
-    ghost use Rattle.device_service.specs.Operating.{Begins, Comes, Continues, is_going};
+    ghost use Rattle.device_service.specs.Operating.{is_going};
     ghost use Rattle.display_backend.specs.declared.course.Progress.TheVariants as progress;
     ghost use Rattle.display_backend.specs.declared.course.Course.TheVariants as course;
     ghost use Rattle.display_backend.specs.Course.{HasCreate};
     ghost use Rattle.display_backend.specs.Known.{known_of, going_of, left_of, is_of, held_of};
-    ghost use Rattle.display_backend.specs.Service.{Freed, Listed, after_walk, display, job_of, says_at};
+    ghost use Rattle.display_backend.specs.Over.{BeginsCreate, GoesOn, HasCreateFor, HasCreateOf};
+    ghost use Rattle.display_backend.specs.Over.{WalksOn, create_walk, site_over, walk_over};
+    ghost use Rattle.display_backend.specs.Service.{Freed, Listed, after_walk, display, says_at};
     ghost use Rattle.display_backend.specs.Stock.{pages_under};
     ghost use Rattle.xenbus_states.specs.Nodes.{no_nodes};
 
@@ -86,10 +82,10 @@ impl Service {
     fn map<W: Words>(&mut self, words: &mut W, dom: DomId, create: &Create) -> Deed
         requires idle { self.old.course ≡ course.Rests }
         requires decided { self.old.progress ≡ progress.Decided }
-        requires creates { (count : ℕ) → count ≡ walking.pages_of create.now.buffer_sz → HasCreate self.old.hand (stock_of self.old.store).buffers count }
+        requires creates { HasCreateOf self.old.hand (stock_of self.old.store).buffers create.now.buffer_sz }
         requires size { (0 < create.now.buffer_sz) × (create.now.buffer_sz ≤ 33554432) }
-        requires may { MayGo (W.may words.old) (walk_plan (W.frames_of words.old dom.0) (W.grants_of words.old dom.0) dom.0 create.now.gref_directory Read (walking.pages_of create.now.buffer_sz)) }
-        ensures begins { (parts : ℕ) → Begins display (job_of (site_of (W.frames_of words.old) (W.grants_of words.old) dom.0 parts) (known_of self.old) (asked.Create create.now)) result.access result.now result.said (known_of self.new) (left_of (site_of (W.frames_of words.old) (W.grants_of words.old) dom.0 parts) self.new) }
+        requires may { MayGo (W.may words.old) (create_walk W.Words words.old dom.0 create.now) }
+        ensures begins { (parts : ℕ) → BeginsCreate (site_over W.Words words.old dom.0 parts) self.old create.now result self.new }
         ensures made { Makes W.makes words.old result.access words.new }
         ensures stays { (pages : List Hold) → AccessIn pages result.access }
         ensures going { going_of self.new ≡ is_going result.now }
@@ -115,8 +111,8 @@ impl Service {
         requires decided { self.old.progress ≡ progress.Decided }
         requires creates { HasCreate self.old.hand (stock_of self.old.store).buffers (walk_count walk) }
         requires going { is_walked walk ≡ false }
-        requires may { MayGo (W.may words.old) (walk_left (W.frames_of words.old (walked_dom walk)) (W.grants_of words.old (walked_dom walk)) walk) }
-        ensures comes { (parts : ℕ) → Comes display (known_of self.old) (mapped Listed (walk_left (W.frames_of words.old (walked_dom walk)) (W.grants_of words.old (walked_dom walk)) walk)) result.access result.now result.said (known_of self.new) (left_of (site_of (W.frames_of words.old) (W.grants_of words.old) (walked_dom walk) parts) self.new) }
+        requires may { MayGo (W.may words.old) (walk_over W.Words words.old walk) }
+        ensures comes { WalksOn W.Words words.old self.old walk result self.new }
         ensures made { Makes W.makes words.old result.access words.new }
         ensures stays { AccessIn (held_by walk) result.access }
         ensures going { going_of self.new ≡ is_going result.now }
@@ -144,7 +140,7 @@ impl Service {
     // What the walk of a CREATE came to.
     fn listed(&mut self, end: Walked) -> Option<Said>
         requires idle { self.old.course ≡ course.Rests }
-        requires creates { (pages : List Hold) → end ≡ walked.Pages pages → HasCreate self.old.hand (stock_of self.old.store).buffers (length pages) }
+        requires creates { HasCreateFor self.old.hand (stock_of self.old.store).buffers end }
         ensures says { result ≡ says_at (Listed end) }
         ensures knows { known_of self.new ≡ after_walk (known_of self.old) end }
         ensures rests { self.new.course ≡ course.Rests }
@@ -166,7 +162,7 @@ impl Service {
     fn free<W: Words>(&mut self, words: &mut W, cookie: u64) -> Deed
         requires freeing { self.old.course ≡ course.Frees cookie }
         requires may { MayGo (W.may words.old) (unmaps (pages_under cookie (stock_of self.old.store).buffers) (Finished Freed)) }
-        ensures goes { (site : Site) → Continues display (known_of self.old) (left_of site self.old) result.access result.now result.said (known_of self.new) (left_of site self.new) }
+        ensures goes { (site : Site) → GoesOn site self.old result self.new }
         ensures made { Makes W.makes words.old result.access words.new }
         ensures stays { (pages : List Hold) → AccessIn pages result.access }
         ensures going { going_of self.new ≡ is_going result.now }

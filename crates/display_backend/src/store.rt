@@ -1,13 +1,13 @@
 //! The live buffers of a display, and the pages that are held for buffers.
 
-ghost use Rattle.std.specs.Prelude.{◌≡◌, ◌+◌, ◌<◌, ◌≤◌, ◌==◌, [], true, length, slice_get, Some, Ok, IfOk, is_some};
+ghost use Rattle.std.specs.Prelude.{◌≡◌, ◌<◌, ◌≤◌, ◌==◌, [], length, slice_get, Some, Ok, IfOk, is_some};
 ghost use Rattle.display_buffers.specs.Buffers.{buffer_of, check_of};
 ghost use Rattle.display_buffers.specs.Pixels.{page_count};
 
-use crate::left::LeftBuffers;
+use crate::left::{LeftBuffers, PAGE_LIMIT};
 use displ_wire::{Create, Refused};
-use page_directory::Pages;
-use pv_words::{Access, Hold, Words, unmap};
+use page_directory::{Pages, Release};
+use pv_words::{Access, Hold, Words};
 use std::alloc::{AllocError, Global};
 
 /// The live buffers of a display, in order of creation, and the pages that are held for buffers. The room for all buffers
@@ -15,29 +15,25 @@ use std::alloc::{AllocError, Global};
 #[derive(Drop)]
 pub struct Store {
     buffers: LeftBuffers,
-    // The pages that were mapped for a CREATE that isn't answered, and how many of them were given up.
-    mapped: Option<Pages>,
-    mapped_gone: u32,
+    // The pages that were mapped for a CREATE that isn't answered, and how far they are given up.
+    mapped: Pages,
+    release: Release,
 }
 
-#[tactic(auto, unfolding(crate::specs::Store::is_whole, crate::specs::Store::stock_of, crate::specs::Store::count_of))]
+#[tactic(auto, unfolding(crate::specs::Store::stock_of, crate::specs::Store::count_of))]
 impl Store {
-    ghost use Rattle.std.specs.Prelude.{List};
-    ghost use Rattle.pv_words.specs.declared.grant.Hold.{Hold};
-    ghost use Rattle.pv_words.specs.Plan.{wanted};
-    ghost use Rattle.pv_words.specs.Mapping.{unmap_want};
-    ghost use Rattle.display_backend.specs.Stock.{Stock, no_stock, pages_of, pages_under, less_one, without_first, created, destroyed};
-    ghost use Rattle.display_backend.specs.Store.{stock_of, is_whole, count_of};
+    ghost use Rattle.pv_words.specs.Release.{Drops, MayDrop};
+    ghost use Rattle.display_backend.specs.Stock.{Stock, no_stock, pages_of, pages_under, without_one, without_first, created, destroyed};
+    ghost use Rattle.display_backend.specs.Store.{stock_of, count_of};
 
     /// No buffer and no page.
     pub fn new(alloc: Global) -> Result<Store, AllocError>
         ensures empty { IfOk result (λ s. stock_of s ≡ no_stock) }
-        ensures whole { IfOk result (λ s. is_whole s ≡ true) }
     {
         Ok(Store {
             buffers: LeftBuffers::new(alloc)?,
-            mapped: None,
-            mapped_gone: 0,
+            mapped: Pages::none(alloc),
+            release: Release::new(),
         })
     }
 
@@ -58,11 +54,10 @@ impl Store {
     /// Keeps the pages that were mapped for a CREATE.
     pub fn keep(&mut self, pages: Pages)
         ensures stock { stock_of self.new ≡ record { mapped = pages; buffers = (stock_of self.old).buffers } }
-        ensures whole { is_whole self.new ≡ true }
         ensures count { count_of self.new ≡ length pages }
     {
-        self.mapped = Some(pages);
-        self.mapped_gone = 0;
+        self.mapped = pages;
+        self.release = Release::new();
     }
 
     /// Makes the buffer that a CREATE asks for, of the pages that were mapped for it.
@@ -70,20 +65,16 @@ impl Store {
         requires checked { check_of (stock_of self.old).buffers c.now ≡ Ok tt }
         requires count { count_of self.old ≡ page_count c.now.buffer_sz }
         ensures stock { stock_of self.new ≡ created (stock_of self.old) c.now }
-        ensures still { is_whole self.new ≡ true }
     {
-        let Some(pages) = self.mapped.take() else {
-            unreachable!();
-        };
-        self.buffers.create(c, pages, self.mapped_gone);
-        self.mapped_gone = 0;
+        let pages = self.mapped.take();
+        self.buffers.create(c, pages, self.release);
+        self.release = Release::new();
     }
 
     /// Takes away the buffer of a cookie, whose pages are given up.
     pub fn destroy(&mut self, cookie: u64)
         requires bare { pages_under cookie (stock_of self.old).buffers ≡ [] }
         ensures stock { stock_of self.new ≡ destroyed (stock_of self.old) cookie }
-        ensures whole { is_whole self.new ≡ is_whole self.old }
     {
         self.buffers.destroy(cookie);
     }
@@ -92,23 +83,19 @@ impl Store {
     pub fn clear(&mut self)
         requires { pages_of (stock_of self.old) ≡ [] }
         ensures stock { stock_of self.new ≡ no_stock }
-        ensures whole { is_whole self.new ≡ true }
     {
         self.buffers.clear();
-        self.mapped = None;
-        self.mapped_gone = 0;
+        let _ = self.mapped.take();
+        self.release = Release::new();
     }
 
     // How many pages are left that were mapped for a CREATE.
     fn mapped_held(&self) -> u32
         ensures count { result ≡ length (stock_of self.now).mapped }
         ensures few { result ≤ 8192 }
-        ensures place { 0 < result → self.now.mapped_gone + result ≤ 8192 }
     {
-        match &self.mapped {
-            Some(pages) => pages.len().saturating_sub(self.mapped_gone),
-            None => 0,
-        }
+        prove!(self.mapped.len() <= PAGE_LIMIT);
+        self.release.left(&self.mapped)
     }
 
     /// How many pages are held, at most 532480 (65 times 8192).
@@ -135,10 +122,7 @@ impl Store {
         if i >= held {
             return self.buffers.hold(i - held);
         }
-        let Some(pages) = &self.mapped else {
-            unreachable!();
-        };
-        pages.get(self.mapped_gone + i)
+        self.release.get(&self.mapped, i)
     }
 
     /// How many pages are held of the buffer of this cookie.
@@ -154,35 +138,30 @@ impl Store {
     /// Unmaps the first of all pages.
     pub fn unmap_first<W: Words>(&mut self, words: &mut W) -> Access
         requires some { 0 < length (pages_of (stock_of self.old)) }
-        requires may { (h : Hold) → slice_get (pages_of (stock_of self.old)) 0 ≡ Some h → W.may words.old (unmap_want h) }
-        ensures access { (h : Hold) → slice_get (pages_of (stock_of self.old)) 0 ≡ Some h → wanted result ≡ unmap_want h }
-        ensures made { W.makes words.old result words.new }
+        requires may { MayDrop (W.may words.old) (pages_of (stock_of self.old)) }
+        ensures drops { Drops (pages_of (stock_of self.old)) result (pages_of (stock_of self.new)) }
         ensures stock { stock_of self.new ≡ without_first (stock_of self.old) }
         ensures count { count_of self.new ≡ count_of self.old }
+        ensures made { W.makes words.old result words.new }
     {
-        let hold = self.hold_at(0);
         if self.mapped_held() > 0 {
-            self.mapped_gone += 1;
-        } else {
-            self.buffers.give_up_first();
+            return self.release.step(&self.mapped, words);
         }
-        unmap(&hold, words)
+        self.buffers.unmap_first(words)
     }
 
     /// Unmaps the first page of the buffer of this cookie.
     pub fn unmap_of<W: Words>(&mut self, cookie: u64, words: &mut W) -> Access
         requires some { 0 < length (pages_under cookie (stock_of self.old).buffers) }
-        requires may { (h : Hold) → slice_get (pages_under cookie (stock_of self.old).buffers) 0 ≡ Some h → W.may words.old (unmap_want h) }
-        ensures access { (h : Hold) → slice_get (pages_under cookie (stock_of self.old).buffers) 0 ≡ Some h → wanted result ≡ unmap_want h }
+        requires may { MayDrop (W.may words.old) (pages_under cookie (stock_of self.old).buffers) }
+        ensures drops { Drops (pages_under cookie (stock_of self.old).buffers) result (pages_under cookie (stock_of self.new).buffers) }
+        ensures stock { stock_of self.new ≡ without_one (stock_of self.old) cookie }
+        ensures count { count_of self.new ≡ count_of self.old }
         ensures made { W.makes words.old result words.new }
-        ensures stock { stock_of self.new ≡ record { mapped = (stock_of self.old).mapped; buffers = less_one cookie (stock_of self.old).buffers } }
-        ensures whole { is_whole self.new ≡ is_whole self.old }
     {
         let Some(k) = self.buffers.place_of(cookie) else {
             unreachable!();
         };
-        let hold = self.buffers.hold_at(k, 0);
-        self.buffers.give_up_at(k);
-        unmap(&hold, words)
+        self.buffers.unmap_at(k, words)
     }
 }

@@ -18,15 +18,15 @@ struct Domain {
 }
 
 impl Words for Domain {
-    ghost use Rattle.std.specs.Prelude.{◌≡◌, true, None, false};
-    ghost use Rattle.pv_words.specs.Port.{no_listing};
-    ghost use Rattle.pv_words.specs.declared.access.Access.TheVariants.{Load, Store, Cas, Clear};
+    ghost use Rattle.std.specs.Prelude.{◌≡◌};
+    ghost use Rattle.pv_words.specs.FreePort.{free_port};
+    ghost use Rattle.pv_words.proofs.FreePort.{stays_free, finds_any};
 
     ghost frames_of = { λ w d. w.frames };
 
     ghost grants_of = { λ w d. w.frames };
 
-    ghost port = { λ w. record { device = None; serves = λ dom. true; everywhere = true; keeps = λ dom. false; opens = λ dom gref. None; listed = λ d. no_listing; told = λ at. None } };
+    ghost port = { λ w. free_port };
 
     ghost may = { λ w want. Unit {0} };
 
@@ -38,9 +38,9 @@ impl Words for Domain {
 
     ghost allows = { λ w want h. tt };
 
-    ghost leaves = { λ old a new made. record { device = refl; serves = λ dom. refl; everywhere = refl; keeps = λ dom. refl; opens = λ dom gref e. absurd (false≢true e); told = λ at v range e unwritten learns. absurd (false≢true e); listed = inl (refl, λ dom. refl) } };
+    ghost leaves = { λ old a new made. stays_free _ _ a };
 
-    ghost tells = { λ old. elim [ Load at v ↦ λ new made. (tt, tt) | Store at v ↦ λ new made. tt | Cas at from to seen ↦ λ new made. (tt, tt) | Clear at mask seen ↦ λ new made. (tt, tt) ] };
+    ghost tells = { λ old a new made. finds_any a };
 
     fn load(&mut self, at: Place) -> u32 {
         match at {
@@ -153,6 +153,7 @@ fn cleared(gref: u32) -> Access {
     Access::Clear(Place::Grant(DomId(1), GrantRef(gref), Half::Flags), 24, 25)
 }
 
+#[tactic(auto, using(page_directory::proofs::Releases::may_any))]
 fn unmaps(store: &mut Store, words: &mut Domain) -> Option<Access> {
     if store.is_bare() {
         return None;
@@ -160,6 +161,7 @@ fn unmaps(store: &mut Store, words: &mut Domain) -> Option<Access> {
     Some(store.unmap_first(words))
 }
 
+#[tactic(auto, using(page_directory::proofs::Releases::may_any))]
 fn unmaps_of(store: &mut Store, cookie: u64, words: &mut Domain) -> Option<Access>
     ensures { (stock_of store.new).mapped ≡ (stock_of store.old).mapped }
 {

@@ -1,5 +1,5 @@
 -- Pages that are given up, one after another.
-use Rattle.std.proofs.Common.{◌≡◌, ℕ, zero, suc, ◌+◌, ◌<◌, List, [], ◌∷◌, drop, length, slice_get, Some, refl, ap, ◌∙◌, arith, subst}
+use Rattle.std.proofs.Common.{◌≡◌, ℕ, zero, suc, ◌+◌, List, [], ◌∷◌, drop, slice_get, Some, refl, ap, ◌∙◌, arith, subst}
 use Rattle.pv_words.specs.declared.access.Access.{Access}
 use Rattle.pv_words.specs.declared.grant.Hold.{Hold}
 use Rattle.pv_words.specs.Plan.{Plan, Want, Goes, MayGo, wanted}
@@ -35,3 +35,18 @@ drops_this (k ∷ hs) left h a first clears rest = let same : h ≡ k = cc in (c
 pub drops_goes : {A : Type 0} (hs left : List Hold) (a : Access) (more : Plan A) → Drops hs a left → Goes (unmaps hs more) a (unmaps left more)
 drops_goes [] left a more d = absurd d
 drops_goes (h ∷ hs) left a more d = (d.0, ap (λ ks. unmaps ks more) d.1)
+
+pub drops_rest : (hs left : List Hold) (a : Access) → Drops hs a left → left ≡ drop 1 hs
+drops_rest [] left a d = absurd d
+drops_rest (h ∷ hs) left a d = d.1
+
+-- a list that begins with the same page may give it up just as well
+pub may_as : (may : Want → Type 0) (hs ks : List Hold) → slice_get ks 0 ≡ slice_get hs 0 → MayDrop may hs → MayDrop may ks
+may_as may hs [] same m = tt
+may_as may [] (k ∷ ks) same m = let wrong : ⊥ = cc in absurd wrong
+may_as may (h ∷ hs) (k ∷ ks) same m = let e : h ≡ k = cc in subst (λ x. may (unmap_want x)) e m
+
+pub drops_as : (hs ks left rest : List Hold) (a : Access) → slice_get ks 0 ≡ slice_get hs 0 → Drops hs a left → rest ≡ drop 1 ks → Drops ks a rest
+drops_as [] ks left rest a same d e = absurd d
+drops_as (h ∷ hs) [] left rest a same d e = let wrong : ⊥ = cc in absurd wrong
+drops_as (h ∷ hs) (k ∷ ks) left rest a same d e = let f : h ≡ k = cc in (d.0 ∙ ap unmap_want f, e)

@@ -1,9 +1,11 @@
 //! The pages of a buffer.
 
-ghost use Rattle.std.specs.Prelude.{◌≡◌, ◌<◌, ◌==◌, length, slice_get, Some};
+ghost use Rattle.std.specs.Prelude.{◌≡◌, ◌<◌, ◌==◌, [], length, slice_get, Some};
 
 use pv_words::{Hold, PageList};
+use std::alloc::Global;
 use std::marker::Model;
+use std::mem;
 
 /// The pages of a buffer, in order, as the holds of the device that mapped them. A contract sees the list of the holds.
 #[derive(Drop)]
@@ -31,6 +33,22 @@ impl Pages {
         ensures { result ≡ holds.items }
     {
         Pages { holds }
+    }
+
+    /// No page.
+    pub fn none(alloc: Global) -> Pages
+        ensures { result ≡ [] }
+    {
+        Pages::new(Vec::new(alloc))
+    }
+
+    /// Takes the pages out, so that none is left.
+    pub fn take(&mut self) -> Pages
+        ensures pages { result ≡ self.old }
+        ensures none { self.new ≡ [] }
+    {
+        let alloc = *self.holds.allocator();
+        Pages::new(mem::replace(&mut self.holds, Vec::new(alloc)))
     }
 
     /// How many pages there are, at most 8192.

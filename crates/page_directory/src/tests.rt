@@ -298,3 +298,28 @@ fn tells_what_it_holds(rt: HostRuntime) -> Result<(), Fail> {
     }
     Ok(())
 }
+
+#[test]
+#[tactic(auto, using(crate::proofs::Releases::may_any))]
+fn gives_up_each_page_once(rt: HostRuntime) -> Result<(), Fail> {
+    let mut words = granted(rt.alloc())?;
+    let mut walk = Walk::new(rt.alloc(), DomId(1), 4096 * 3, GrantRef(2), Mode::Write)?;
+    let (_, end) = walked(&mut words, &mut walk);
+    let Some(Walked::Pages(list)) = end else {
+        return Err("no pages".into());
+    };
+    let mut release = Release::new();
+    for gref in 3..6 {
+        if release.left(&list) == 0 {
+            return Err("no page is left".into());
+        }
+        assert_eq!(rt; release.get(&list, 0), page(gref, Mode::Write));
+        let entry = Place::Grant(DomId(1), GrantRef(gref), Half::Flags);
+        assert_eq!(rt;
+            release.step(&list, &mut words),
+            Access::Clear(entry, 24, 25)
+        );
+    }
+    assert_eq!(rt; release.left(&list), 0);
+    Ok(())
+}

@@ -1,10 +1,11 @@
-use Rattle.std.proofs.Common.{ap, ◌∙◌}
-use Rattle.display_buffers.specs.Buffers.{check_of}
-use Rattle.display_backend.proofs.Lefts.{check_left}
+use Rattle.std.proofs.Common.{sym, ap, ◌∙◌}
+use Rattle.display_buffers.specs.Buffers.{cookies}
+use Rattle.display_buffers.proofs.Checks.{check_by}
+use Rattle.display_backend.proofs.Lefts.{cookies_left}
 use Rattle.display_backend.proofs.left.LeftBuffers.check.Goals as goal
 
 pub returns : goal.returns
 returns c =
-    c.check.ensures
-    ∙ check_left c.self.inside.buffers c.self.inside.gone.items c.args.c.now
-    ∙ ap (λ bs. check_of bs c.args.c.now) c.self.view_is
+    let bs = c.self.inside.buffers in
+    let same = sym (cookies_left bs c.self.inside.releases.items) ∙ ap cookies c.self.view_is in
+    c.check.ensures ∙ check_by bs c.args.self.now same c.args.c.now

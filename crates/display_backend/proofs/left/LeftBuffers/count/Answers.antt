@@ -5,10 +5,10 @@ use Rattle.display_backend.proofs.left.LeftBuffers.count.Goals as goal
 
 pub returns-clause-count : goal.returns-clause-count
 returns-clause-count c =
-    omega (arith, c.live.ensures.count, count_left c.self.inside.buffers c.self.inside.gone.items c.args.self.now c.self.view_is)
+    omega (arith, c.live.ensures.count, count_left c.self.inside.buffers c.args.self.now c.self.inside.releases.items c.self.view_is)
 
 pub returns-clause-distinct : goal.returns-clause-distinct
 returns-clause-distinct c =
     subst AreDistinct
-    (sym (cookies_left c.self.inside.buffers c.self.inside.gone.items) ∙ ap cookies c.self.view_is)
+    (sym (cookies_left c.self.inside.buffers c.self.inside.releases.items) ∙ ap cookies c.self.view_is)
     c.live.ensures.sound.distinct

@@ -1,17 +1,17 @@
-use Rattle.std.proofs.Common.{◌+◌, ◌<◌, arith, ap, drop, length, length-append}
-use Rattle.display_backend.specs.Left.{pages_at}
+use Rattle.std.proofs.Common.{◌<◌, arith, ap, ◌∙◌, length}
+use Rattle.std.proofs.lemmas.List.{take_all}
 use Rattle.display_backend.specs.Stock.{buffer_pages}
-use Rattle.display_backend.proofs.Places.{pages_from}
+use Rattle.display_backend.proofs.Places.{pages_more}
 use Rattle.display_backend.proofs.left.LeftBuffers.held.Goals as goal
 
 pub loop-k-preserved : goal.loop-k-preserved
 loop-k-preserved c =
-    let bs = c.args.self.now in
-    let k = c.loop-k.k in
-    let within : k < length bs = omega arith in
-    let parts = ap length (pages_from bs k within) in
-    let both = length-append (pages_at bs k) (buffer_pages (drop (k + 1) bs)) in
+    let within : c.loop-k.k < length c.args.self.now = omega arith in
     record {
-      count = omega (arith, c.loop-k.invariant.count, c.held_at-held.ensures.count, parts, both);
+      count = omega (arith, c.loop-k.invariant.count, c.held_at-held.ensures.count, pages_more c.args.self.now c.loop-k.k within);
       few = omega (arith, c.loop-k.invariant.few, c.held_at-held.ensures.few);
     }
+
+pub returns-clause-count : goal.returns-clause-count
+returns-clause-count c =
+    c.loop-k.invariant.count ∙ ap (λ bs. length (buffer_pages bs)) (take_all c.loop-k.k c.args.self.now (omega arith))

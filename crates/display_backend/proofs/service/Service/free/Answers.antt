@@ -1,19 +1,20 @@
-use Rattle.std.proofs.Common.{◌≡◌, ◌<◌, [], length, sym, ap, ◌∙◌, arith}
+use Rattle.std.proofs.Common.{◌≡◌, ◌<◌, [], length, ap, arith}
 use Rattle.pv_words.specs.Plan.{Finished}
 use Rattle.display_backend.specs.Course.{left_at}
 use Rattle.display_backend.specs.Known.{known_of, left_of}
 use Rattle.display_backend.specs.Service.{Freed}
 use Rattle.display_backend.specs.Stock.{Stock, pages_under}
-use Rattle.display_backend.specs.Store.{stock_of, count_of}
+use Rattle.display_backend.specs.Store.{stock_of}
 use Rattle.display_backend.specs.declared.course.Progress.TheVariants as progress
 use Rattle.display_backend.proofs.Freeing.{unmap_lies}
 use Rattle.device_service.proofs.Held.{nil_of}
-use Rattle.display_backend.proofs.Serviced.{free_ends, free_goes, knowing, left_under, may_unmap, releases, stock_freed, stock_less}
+use Rattle.page_directory.proofs.Releases.{may_first}
+use Rattle.display_backend.proofs.Serviced.{free_ends, free_goes, knowing, stock_freed, stock_less}
 use Rattle.display_backend.proofs.service.Service.free.Goals as goal
 
 pub unmap_of-requires-clause-may : goal.unmap_of-requires-clause-may
 unmap_of-requires-clause-may g c =
-    may_unmap (g.W.Words.may c.args.words.now) (pages_under c.args.cookie (stock_of c.args.self.now.store).buffers) (Finished Freed) c.requires.may
+    may_first (g.W.Words.may c.args.words.now) (pages_under c.args.cookie (stock_of c.args.self.now.store).buffers) (Finished Freed) c.requires.may
 
 pub returns-then-held_of-gt0-clause-goes : goal.returns-then-held_of-gt0-clause-goes
 returns-then-held_of-gt0-clause-goes g c = λ site.
@@ -21,17 +22,17 @@ returns-then-held_of-gt0-clause-goes g c = λ site.
     let k = c.args.cookie in
     let s = stock_of d.store in
     let t = stock_of c.unmap_of.new.self in
-    let some = (releases d.course k d.hand d.progress s.buffers (count_of d.store) c.requires.freeing d.stands).some in
     let more : 0 < length (pages_under k t.buffers) = omega (arith, c.if-held_of-gt0.true, c.held_of.ensures) in
-    free_goes (known_of d) _ (left_of site d) (pages_under k s.buffers) (pages_under k t.buffers) c.unmap_of.result _ (ap (λ x. left_at site x s) c.requires.freeing) some c.unmap_of.ensures.access (left_under d.course k s t c.requires.freeing c.unmap_of.ensures.stock) more
+    free_goes (known_of d) _ (left_of site d) (pages_under k s.buffers) (pages_under k t.buffers) c.unmap_of.result _ (ap (λ x. left_at site x s) c.requires.freeing) c.unmap_of.ensures.drops more
     (ap (λ (x : Stock). knowing x d.hand d.progress) (stock_less d.course k s t c.requires.freeing c.unmap_of.ensures.stock))
     (ap (λ x. left_at site x t) c.requires.freeing)
 
 pub returns-then-held_of-gt0-clause-stays : goal.returns-then-held_of-gt0-clause-stays
 returns-then-held_of-gt0-clause-stays g c =
-    let d = c.args.self.now in
-    let s = stock_of d.store in
-    unmap_lies (pages_under c.args.cookie s.buffers) c.unmap_of.result (releases d.course c.args.cookie d.hand d.progress s.buffers (count_of d.store) c.requires.freeing d.stands).some c.unmap_of.ensures.access
+    let k = c.args.cookie in
+    let old = (stock_of c.args.self.now.store).buffers in
+    let new = (stock_of c.unmap_of.new.self).buffers in
+    unmap_lies (pages_under k old) (pages_under k new) c.unmap_of.result c.unmap_of.ensures.drops
 
 pub returns-clause-goes : goal.returns-clause-goes
 returns-clause-goes g c = λ site.
@@ -39,13 +40,13 @@ returns-clause-goes g c = λ site.
     let k = c.args.cookie in
     let s = stock_of d.store in
     let t = stock_of c.unmap_of.new.self in
-    let some = (releases d.course k d.hand d.progress s.buffers (count_of d.store) c.requires.freeing d.stands).some in
     let bare : pages_under k t.buffers ≡ [] = nil_of (pages_under k t.buffers) (omega (arith, c.if-held_of-gt0.false, c.held_of.ensures)) in
-    free_ends (known_of d) _ (left_of site d) (pages_under k s.buffers) c.unmap_of.result _ (ap (λ x. left_at site x s) c.requires.freeing) some c.unmap_of.ensures.access (sym (left_under d.course k s t c.requires.freeing c.unmap_of.ensures.stock) ∙ bare)
+    free_ends (known_of d) _ (left_of site d) (pages_under k s.buffers) (pages_under k t.buffers) c.unmap_of.result _ (ap (λ x. left_at site x s) c.requires.freeing) c.unmap_of.ensures.drops bare
     (ap (λ (x : Stock). knowing x d.hand progress.Released) (stock_freed d.course k s t c.requires.freeing c.unmap_of.ensures.stock bare))
 
 pub returns-clause-stays : goal.returns-clause-stays
 returns-clause-stays g c =
-    let d = c.args.self.now in
-    let s = stock_of d.store in
-    unmap_lies (pages_under c.args.cookie s.buffers) c.unmap_of.result (releases d.course c.args.cookie d.hand d.progress s.buffers (count_of d.store) c.requires.freeing d.stands).some c.unmap_of.ensures.access
+    let k = c.args.cookie in
+    let old = (stock_of c.args.self.now.store).buffers in
+    let new = (stock_of c.unmap_of.new.self).buffers in
+    unmap_lies (pages_under k old) (pages_under k new) c.unmap_of.result c.unmap_of.ensures.drops

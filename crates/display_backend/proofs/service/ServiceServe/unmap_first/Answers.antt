@@ -1,10 +1,9 @@
-use Rattle.std.proofs.Common.{◌<◌, length, sym, ap, subst, ◌∙◌}
-use Rattle.device_service.specs.Dropping.{Drops}
+use Rattle.std.proofs.Common.{sym, ap, subst}
+use Rattle.pv_words.specs.Release.{Drops}
 use Rattle.display_backend.specs.Course.{stock_at}
 use Rattle.display_backend.specs.Stock.{Stock, pages_of}
 use Rattle.display_backend.specs.Store.{stock_of, count_of}
-use Rattle.display_backend.proofs.Order.{first_goes}
-use Rattle.display_backend.proofs.Serviced.{at_rest, drops_first, knowing, stands_less, strips_less}
+use Rattle.display_backend.proofs.Serviced.{at_rest, knowing, stands_less, strips_less}
 use Rattle.display_backend.proofs.service.ServiceServe.unmap_first.Goals as goal
 
 pub invariant_of-self : goal.invariant_of-self
@@ -19,10 +18,8 @@ returns-clause-drops g c =
     let t = stock_of c.unmap_first.new.self in
     let old = at_rest d.course s c.requires.idle in
     let new = at_rest d.course t c.requires.idle in
-    let some : 0 < length (pages_of s) = subst (λ (x : Stock). 0 < length (pages_of x)) old c.requires.some in
-    let drops = drops_first (pages_of s) (pages_of t) c.unmap_first.result some c.unmap_first.ensures.access (ap pages_of c.unmap_first.ensures.stock ∙ first_goes s) in
     subst (λ (x : Stock). Drops (pages_of x) c.unmap_first.result (pages_of (stock_at d.course t))) (sym old)
-    (subst (λ (x : Stock). Drops (pages_of s) c.unmap_first.result (pages_of x)) (sym new) drops)
+    (subst (λ (x : Stock). Drops (pages_of s) c.unmap_first.result (pages_of x)) (sym new) c.unmap_first.ensures.drops)
 
 pub returns-clause-strips : goal.returns-clause-strips
 returns-clause-strips g c =

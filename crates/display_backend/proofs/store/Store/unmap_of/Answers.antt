@@ -1,8 +1,12 @@
-use Rattle.std.proofs.Common.{◌<◌, List, arith, sym, ap, ◌∙◌, length, slice_get}
-use Rattle.std.proofs.lemmas.Option.{same_Some}
-use Rattle.pv_words.specs.Mapping.{unmap_want}
+use Rattle.std.proofs.Common.{◌<◌, List, arith, ap, ◌∙◌, length, slice_get, subst}
+use Rattle.pv_words.specs.Release.{MayDrop}
+use Rattle.page_directory.specs.Release.{left_of}
+use Rattle.page_directory.proofs.Releases.{drops_as}
+use Rattle.display_buffers.specs.Buffers.{has_cookie}
 use Rattle.display_backend.specs.Stock.{Stock, Held, pages_under}
-use Rattle.display_backend.specs.Store.{stock_of, mapped_in}
+use Rattle.display_backend.specs.Left.{pages_at}
+use Rattle.display_backend.specs.Store.{stock_of}
+use Rattle.display_backend.proofs.Order.{first_of_one}
 use Rattle.display_backend.proofs.Places.{less_place, under_none, under_place}
 use Rattle.display_backend.proofs.store.Store.unmap_of.Goals as goal
 
@@ -13,29 +17,34 @@ unreachable-requires g c =
     let some : 0 < length (pages_under c.args.cookie c.args.self.now.buffers) = c.requires.some in
     omega (arith, some, none)
 
-pub hold_at-hold-requires : goal.hold_at-hold-requires
+pub unmap_at-requires-clause-some : goal.unmap_at-requires-clause-some
 unfolding stock_of
-hold_at-hold-requires g c =
+unmap_at-requires-clause-some g c =
     let here = ap length (under_place c.args.cookie c.args.self.now.buffers c.in-Some.k c.in-Some.ensures.place) in
     let some : 0 < length (pages_under c.args.cookie c.args.self.now.buffers) = c.requires.some in
     omega (arith, some, here)
 
-pub unmap-requires : goal.unmap-requires
+pub unmap_at-requires-clause-may : goal.unmap_at-requires-clause-may
 unfolding stock_of
-unmap-requires g c =
+unmap_at-requires-clause-may g c =
     let here = under_place c.args.cookie c.args.self.now.buffers c.in-Some.k c.in-Some.ensures.place in
-    c.requires.may c.hold_at-hold.result (ap (λ hs. slice_get hs 0) here ∙ c.hold_at-hold.ensures)
+    subst (MayDrop (g.W.Words.may c.args.words.now)) here c.requires.may
 
-pub returns-clause-access : goal.returns-clause-access
+pub returns-clause-drops : goal.returns-clause-drops
 unfolding stock_of
-returns-clause-access g c h first =
-    let here = under_place c.args.cookie c.args.self.now.buffers c.in-Some.k c.in-Some.ensures.place in
-    let same = same_Some c.hold_at-hold.result h (sym c.hold_at-hold.ensures ∙ sym (ap (λ hs. slice_get hs 0) here) ∙ first) in
-    c.unmap.ensures.clears ∙ ap unmap_want same
+returns-clause-drops g c =
+    let bs = c.args.self.now.buffers in
+    let new = c.unmap_at.new.self in
+    let k = c.in-Some.k in
+    let cookie = c.args.cookie in
+    let here = under_place cookie bs k c.in-Some.ensures.place in
+    let less = c.unmap_at.ensures.less ∙ less_place (has_cookie cookie) bs k c.in-Some.ensures.place in
+    drops_as (pages_at bs k) (pages_under cookie bs) (pages_at new k) (pages_under cookie new) c.unmap_at.result (ap (λ hs. slice_get hs 0) here) c.unmap_at.ensures.drops
+    (ap (pages_under cookie) less ∙ first_of_one cookie bs)
 
 pub returns-clause-stock : goal.returns-clause-stock
 unfolding stock_of
 returns-clause-stock g c =
     let old = c.args.self.now in
-    ap (λ (bs : List Held). let s : Stock = record { mapped = mapped_in old.mapped old.mapped_gone; buffers = bs } in s)
-    (c.give_up_at.ensures ∙ less_place c.args.cookie old.buffers c.in-Some.k c.in-Some.ensures.place)
+    ap (λ (bs : List Held). let s : Stock = record { mapped = left_of old.release old.mapped; buffers = bs } in s)
+    (c.unmap_at.ensures.less ∙ less_place (has_cookie c.args.cookie) old.buffers c.in-Some.k c.in-Some.ensures.place)

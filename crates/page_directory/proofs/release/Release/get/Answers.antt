@@ -1,4 +1,4 @@
-use Rattle.std.proofs.Common.{◌≡◌, ◌-◌, ◌<◌, arith, length, length-drop, ◌∙◌}
+use Rattle.std.proofs.Common.{arith, length-drop, ◌∙◌}
 use Rattle.page_directory.specs.Release.{left_of}
 use Rattle.page_directory.proofs.Releases.{get_drop}
 use Rattle.page_directory.proofs.release.Release.get.Goals as goal

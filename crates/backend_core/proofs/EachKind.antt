@@ -29,7 +29,7 @@ use Rattle.device_service.specs.Rows.{Event}
 use Rattle.device_service.specs.Truth.{IsSaidBy}
 use Rattle.device_service.specs.Work.{Work, End, choice, device}
 use Rattle.device_service.proofs.Claims.{services_keep, services_run}
-use Rattle.device_service.proofs.SoundWork.{Lawful}
+use Rattle.device_service.proofs.Soundness.Work.{Lawful}
 use Rattle.device_service.proofs.Standing as standing
 use Rattle.device_service.proofs.Telling.{readings_tell}
 use Rattle.device_service.proofs.Truth.{services_tell_truly}

@@ -33,7 +33,7 @@ use Rattle.device_service.specs.Parts.{Connected as Ends, JoinsByAccess, connect
 use Rattle.device_service.specs.Service.{Service}
 use Rattle.device_service.specs.Stand.{known_in, stand_at}
 use Rattle.device_service.specs.Work.{Work, End, Denied, Lacked, Looks, Met, beginning, connect_all, connect_parts, connected, device, said_at, settled, shut}
-use Rattle.device_service.proofs.Held.{has_right}
+use Rattle.device_service.proofs.Holding.Held.{has_right}
 use Rattle.device_service.proofs.PartsLaws.{joined_none}
 
 -- how a Connect of the parts ends

@@ -10,7 +10,7 @@ use Rattle.device_core.specs.Order.{Between, Stand, Went}
 use Rattle.device_core.specs.Site.{Site}
 use Rattle.device_service.specs.Dropping.{Drops, MayDrop}
 use Rattle.device_service.specs.Goes.{Closes, Comes, GoesOut}
-use Rattle.device_service.proofs.Held.{nil_of}
+use Rattle.device_service.proofs.Holding.Held.{nil_of}
 use Rattle.pv_words.specs.declared.device.HostRefusal.{HostRefusal}
 use Rattle.pv_words.specs.declared.device.Reason.{Reason}
 use Rattle.pv_words.specs.declared.grant.Hold.{Hold}

@@ -15,7 +15,7 @@ use Rattle.device_service.specs.Doing.{is_open}
 use Rattle.device_service.specs.Nodes.{Ringed}
 use Rattle.device_service.specs.Parts.{answer_from, answer_of, answered_if, joined_in, kind_in, look_of, raise_from, raise_of, raised_if, take_from, take_of}
 use Rattle.device_service.specs.Work.{counted, with_event}
-use Rattle.device_service.proofs.Held.{page_shown}
+use Rattle.device_service.proofs.Holding.Held.{page_shown}
 use Rattle.device_service.proofs.Lists.{get_map, get_set, map_set, map_set_same, within}
 
 some_is : (x y : Joined) → Some x ≡ Some y → x ≡ y

@@ -27,11 +27,11 @@ use Rattle.device_service.specs.Nodes.{Kind, Ringed, Refs, refs_at, refs_from}
 use Rattle.device_service.specs.Parts.{answer_left, answer_of, connect_from, connect_in, connect_left, connects, count_of, doing_of, dom_of, held_of, joined_in, joined_of, kept_by, kind_of, later, met_links, raise_left, raise_of, site_in, sleep_left, sleeping, slept_to, take_left, take_of}
 use Rattle.device_service.specs.Work.{all_pages, after_part, connect_parts, sleep_all}
 use Rattle.device_service.proofs.Connects.{Ending}
-use Rattle.device_service.proofs.Held.{bare_held, held_so_far, joined_held, nil_of}
+use Rattle.device_service.proofs.Holding.Held.{bare_held, held_so_far, joined_held, nil_of}
 use Rattle.device_service.proofs.Lists.{got}
 use Rattle.device_service.proofs.Opened.{answers_is, raises_is, rung_by, takes_is}
 use Rattle.device_service.proofs.Sleeps.{sleeping_at}
-use Rattle.device_service.proofs.SoundParts.{pages_last}
+use Rattle.device_service.proofs.Soundness.Parts.{pages_last}
 use Rattle.device_service.proofs.Wholes.{all_idle, all_met, bare_rest, connecting_fits, connecting_in}
 
 -- where a Take, an Answer and a Sleep begin

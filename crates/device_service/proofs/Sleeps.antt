@@ -11,7 +11,7 @@ use Rattle.device_service.specs.declared.parts.Doing.{Doing}
 use Rattle.device_service.specs.declared.parts.Doing.TheVariants as doing
 use Rattle.device_service.specs.Parts.{sleep_from, sleeping, slept_to}
 use Rattle.device_service.specs.Work.{ring_page, sleep_all, sleeps_on}
-use Rattle.device_service.proofs.Held.{page_shown}
+use Rattle.device_service.proofs.Holding.Held.{page_shown}
 use Rattle.device_service.proofs.Lists.{drop_get, drop_past, get_set, within}
 
 -- one that isn't under way begins at the first part

@@ -26,14 +26,14 @@ use Rattle.device_service.specs.Reading.{Naming, begins_by, begins_of, begins_ow
 use Rattle.device_service.specs.Service.{Owed}
 use Rattle.device_service.specs.Work.{Work, End, Left, Renewed, all_pages, beginning, choice, connect_all, device, entered, first_work, pays, settled, told, with_action, with_closing, with_kept, with_owed, with_state}
 use Rattle.xenbus_states.proofs.Actions.{connects_apart, closes_asked, renews_again, closed_apart}
-use Rattle.device_service.proofs.SoundBegins.{BeginsSo, begins_leaving, chosen, opened_at, plain_fits, same_work, shown_of}
-use Rattle.device_service.proofs.SoundConnect.{fits_all, found_all}
-use Rattle.device_service.proofs.SoundPlans.{Fit}
-use Rattle.device_service.proofs.SoundSame.{none_same}
-use Rattle.device_service.proofs.SoundServes.{begins_raising, begins_with_hand}
-use Rattle.device_service.proofs.SoundSettles.{no_reason, rests, settles}
-use Rattle.device_service.proofs.SoundTells.{quiet, tells}
-use Rattle.device_service.proofs.SoundWork.{Lawful, held_pages, TellsHeld, IsKept, Tells, site, learned, IsNamed, IsBare, IsDue, IsSane, EndsSo, EndsWell, bare_unless, hears_move, hears_owed, hears_said, hears_sane, hears_told, hears_well}
+use Rattle.device_service.proofs.Soundness.Begins.{BeginsSo, begins_leaving, chosen, opened_at, plain_fits, same_work, shown_of}
+use Rattle.device_service.proofs.Soundness.Connect.{fits_all, found_all}
+use Rattle.device_service.proofs.Soundness.Plans.{Fit}
+use Rattle.device_service.proofs.Soundness.Same.{none_same}
+use Rattle.device_service.proofs.Soundness.Serves.{begins_raising, begins_with_hand}
+use Rattle.device_service.proofs.Soundness.Settles.{no_reason, rests, settles}
+use Rattle.device_service.proofs.Soundness.Tells.{quiet, tells}
+use Rattle.device_service.proofs.Soundness.Work.{Lawful, held_pages, TellsHeld, IsKept, Tells, site, learned, IsNamed, IsBare, IsDue, IsSane, EndsSo, EndsWell, bare_unless, hears_move, hears_owed, hears_said, hears_sane, hears_told, hears_well}
 
 none_in : {A : Type 0} (x : Option A) → is_some x ≡ false → x ≡ None
 none_in None e = refl

@@ -14,7 +14,7 @@ use Rattle.device_core.proofs.Stations.{made_append}
 use Rattle.device_service.specs.Claims.{IsWork, first_station}
 use Rattle.device_service.specs.Work.{End, Work, device}
 use Rattle.device_service.proofs.Sound.{Lies, first_carried, first_good, sound}
-use Rattle.device_service.proofs.SoundWork.{Lawful, learned, site}
+use Rattle.device_service.proofs.Soundness.Work.{Lawful, learned, site}
 
 module _ {X A V Y M : Type 0} (D : Lawful X A V Y M) where
   open D use {s, t, r, known, frames, grants, dom, parts, l}

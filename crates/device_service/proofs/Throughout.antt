@@ -34,14 +34,14 @@ use Rattle.device_service.specs.Throughout.{HoldsThroughout}
 use Rattle.device_service.specs.Work.{Work, End, Took, Own, Done, Answered, Slept, Raised, Shut, after_answer, all_pages, connected, device, part_of, settled}
 use Rattle.device_service.proofs.InPages.{fits_before, in_answer, in_raise, in_sleeping, in_take, stays}
 use Rattle.device_service.proofs.PartsLaws.{held_bare, held_open, held_told, joined_count, joined_none}
-use Rattle.device_service.proofs.SameLength.{same_length, times_at}
+use Rattle.device_service.proofs.Holding.Lengths.{same_length, times_at}
 use Rattle.device_service.proofs.Sound.{Good, Lies, first_carried, first_good, fits_during, sound, tells_between}
-use Rattle.device_service.proofs.SoundConnect.{shut_pages}
-use Rattle.device_service.proofs.SoundParts.{counted_pages}
-use Rattle.device_service.proofs.SoundPlans.{Fit}
-use Rattle.device_service.proofs.SoundSame.{same_append}
-use Rattle.device_service.proofs.SoundServes.{raise_pages}
-use Rattle.device_service.proofs.SoundWork.{Lawful, EndsSo, IsSane, held_pages, learned, site, sleep_pages}
+use Rattle.device_service.proofs.Soundness.Connect.{shut_pages}
+use Rattle.device_service.proofs.Soundness.Parts.{counted_pages}
+use Rattle.device_service.proofs.Soundness.Plans.{Fit}
+use Rattle.device_service.proofs.Soundness.Same.{same_append}
+use Rattle.device_service.proofs.Soundness.Serves.{raise_pages}
+use Rattle.device_service.proofs.Soundness.Work.{Lawful, EndsSo, IsSane, held_pages, learned, site, sleep_pages}
 use Rattle.device_service.proofs.Unmapping.{unmaps_come}
 
 -- parts that rest hold the pages of what they are joined to

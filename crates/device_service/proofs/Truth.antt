@@ -18,7 +18,7 @@ use Rattle.device_service.specs.Service.{Service}
 use Rattle.device_service.specs.Truth.{AreSaid, IsSaidBy, ShowsReason, TellsTruly}
 use Rattle.device_service.specs.Work.{End, Work, device, said_at, settled}
 use Rattle.device_service.proofs.Sound.{Lies, first_carried, first_good, sound}
-use Rattle.device_service.proofs.SoundWork.{Lawful, learned, site}
+use Rattle.device_service.proofs.Soundness.Work.{Lawful, learned, site}
 
 module _ {X A V Y M : Type 0} (D : Lawful X A V Y M) where
   open D use {s, t, r, known, frames, grants, dom, parts, l}

@@ -12,7 +12,7 @@ use Rattle.device_service.specs.declared.parts.Doing.TheVariants as doing
 use Rattle.device_service.specs.Doing.{Fits, IsMet, Whole, all_held, bare_in, busy_in, is_mapping, is_open, met_in, part_in, uses_ring}
 use Rattle.device_service.specs.Parts.{MayServe, MaySleep, Rests, met_links, open_or, slept_to}
 use Rattle.device_service.specs.Work.{all_pages}
-use Rattle.device_service.proofs.Held.{held_bare, held_so_far}
+use Rattle.device_service.proofs.Holding.Held.{held_bare, held_so_far}
 use Rattle.device_service.proofs.Lists.{same_or_not, get_set, get_set_other, within}
 
 abbrev pub AllFit : (dom : ℕ) (ringed : Bool) (met bare busy : ℕ) → Bool → List Link → Type 0

@@ -5,7 +5,7 @@ use Rattle.pv_words.specs.declared.grant.Hold.{Hold}
 use Rattle.pv_words.specs.Release.{Drops}
 use Rattle.display_buffers.specs.Buffers.{has_cookie}
 use Rattle.link_core.specs.Stays.{AccessIn}
-use Rattle.device_service.proofs.Held.{in_unmap}
+use Rattle.device_service.proofs.Holding.Held.{in_unmap}
 use Rattle.display_backend.specs.Stock.{Held, pages_under, with_pages, bared}
 
 -- the first page of a list is given up by an access to no page

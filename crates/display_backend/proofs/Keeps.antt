@@ -50,8 +50,8 @@ use Rattle.display_backend.proofs.HasWork.{create_accepted, create_refused, dest
 use Rattle.display_backend.proofs.Names.{GoesFrom, names_none, none_bared, name_goes}
 use Rattle.display_backend.proofs.Numbered.{AreLike, like_length, like_sound, like_verdict, no_buffers, numbered_bared, numbered_all_bared, same_verdict, same_status, passes_by}
 use Rattle.display_backend.proofs.Order.{none_left, none_under, parted}
-use Rattle.device_service.proofs.SoundPlans.{fits_drop}
-use Rattle.device_service.proofs.SoundSame.{are_append, are_left, are_right, are_same}
+use Rattle.device_service.proofs.Soundness.Plans.{fits_drop}
+use Rattle.device_service.proofs.Soundness.Same.{are_append, are_left, are_right, are_same}
 use Rattle.device_core.specs.Site.{Site}
 use Rattle.device_service.specs.Service.{Runs}
 use Rattle.device_service.specs.Rows.{made_if}

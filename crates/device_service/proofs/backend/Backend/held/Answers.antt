@@ -1,6 +1,6 @@
 use Rattle.device_service.specs.Parts.{held_of as parts_held}
 use Rattle.device_service.specs.Stand.{held_of}
-use Rattle.device_service.proofs.HeldAll.{count_both}
+use Rattle.device_service.proofs.Holding.All.{count_both}
 use Rattle.device_service.proofs.Throughout.{counts_held}
 use Rattle.device_service.proofs.backend.Backend.held.Goals as goal
 

@@ -1,6 +1,6 @@
 use Rattle.device_service.specs.Parts.{held_of as parts_held}
 use Rattle.device_service.specs.Stand.{held_of}
-use Rattle.device_service.proofs.HeldAll.{at_first, at_second, within_second}
+use Rattle.device_service.proofs.Holding.All.{at_first, at_second, within_second}
 use Rattle.device_service.proofs.Throughout.{one_held}
 use Rattle.device_service.proofs.backend.Backend.hold_at.Goals as goal
 

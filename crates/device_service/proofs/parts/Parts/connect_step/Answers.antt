@@ -10,7 +10,7 @@ use Rattle.device_service.specs.Doing.{IsMet, all_held}
 use Rattle.device_service.specs.Nodes.{refs_at}
 use Rattle.device_service.specs.Parts.{MayDrop, connect_in, connect_left, count_of, doing_of, dom_of, held_of, joined_of, kind_in, kind_of, site_in}
 use Rattle.device_service.proofs.Connects.{came_rung, connect_next, connect_on, connect_over, joins_once, leads_as, leads_from, left_of, may_as, may_connect, may_first, never_connects, none_of, refused_at_once, refused_by, refused_on, undoing_is}
-use Rattle.device_service.proofs.Held.{here, in_all}
+use Rattle.device_service.proofs.Holding.Held.{here, in_all}
 use Rattle.device_service.proofs.Lists.{get_set_other, got}
 use Rattle.device_service.proofs.Wholes.{connecting_fits, connecting_in, held_refused, whole_mapping, whole_met, whole_next, whole_refused}
 use Rattle.device_service.proofs.parts.Parts.connect_step.Goals as goal

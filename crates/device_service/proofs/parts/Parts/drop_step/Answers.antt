@@ -5,7 +5,7 @@ use Rattle.pv_words.specs.Mapping.{unmap_want}
 use Rattle.link_core.specs.Link.{drop_left, held_of as link_held, rest_of}
 use Rattle.device_service.specs.Doing.{all_held}
 use Rattle.device_service.specs.Parts.{count_of, doing_of, dom_of, held_of, kind_of}
-use Rattle.device_service.proofs.Held.{cons_of, drop_clears, drops_as, first_drop, held_here, in_unmap, may_drop, same_access, within_held}
+use Rattle.device_service.proofs.Holding.Held.{cons_of, drop_clears, drops_as, first_drop, held_here, in_unmap, may_drop, same_access, within_held}
 use Rattle.device_service.proofs.Wholes.{given_idle, whole_dropped}
 use Rattle.device_service.proofs.parts.Parts.drop_step.Goals as goal
 

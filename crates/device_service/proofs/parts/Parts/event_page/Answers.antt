@@ -2,7 +2,7 @@ use Rattle.std.proofs.Common.{◌<◌, length, ap, ◌∙◌, arith}
 use Rattle.link_core.specs.Activities.{Joined}
 use Rattle.link_core.specs.Link.{joined_of as link_joined, held_of as link_held}
 use Rattle.device_service.specs.Parts.{count_of, doing_of, joined_of}
-use Rattle.device_service.proofs.Held.{here}
+use Rattle.device_service.proofs.Holding.Held.{here}
 use Rattle.device_service.proofs.Opened.{joined_here, event_last, holds_event}
 use Rattle.device_service.proofs.Wholes.{all_met}
 use Rattle.device_service.proofs.parts.Parts.event_page.Goals as goal

@@ -2,7 +2,7 @@ use Rattle.std.proofs.Common.{◌≡◌, ◌<◌, inl, inr, length, refl, ap, �
 use Rattle.link_core.specs.declared.link.Link.{Link}
 use Rattle.link_core.specs.Link.{held_of}
 use Rattle.device_service.proofs.Lists.{same_or_not, same_at, within}
-use Rattle.device_service.proofs.Held.{here}
+use Rattle.device_service.proofs.Holding.Held.{here}
 use Rattle.device_service.proofs.parts.Parts.first_held.Goals as goal
 
 pub loop-part-init : goal.loop-part-init

@@ -5,7 +5,7 @@ use Rattle.link_core.proofs.Links.{holds_at_most}
 use Rattle.device_service.specs.Doing.{all_held}
 use Rattle.device_service.specs.Parts.{held_of}
 use Rattle.device_service.proofs.Lists.{drop_get, drop_past}
-use Rattle.device_service.proofs.Held.{here}
+use Rattle.device_service.proofs.Holding.Held.{here}
 use Rattle.device_service.proofs.parts.Parts.held.Goals as goal
 
 pub overflow_add-count : goal.overflow_add-count

@@ -4,7 +4,7 @@ use Rattle.link_core.specs.Link.{held_of as link_held}
 use Rattle.device_service.specs.Doing.{all_held}
 use Rattle.device_service.specs.Parts.{held_of}
 use Rattle.device_service.proofs.Lists.{drop_get, drop_past, get_left, get_right}
-use Rattle.device_service.proofs.Held.{here}
+use Rattle.device_service.proofs.Holding.Held.{here}
 use Rattle.device_service.proofs.parts.Parts.hold_at.Goals as goal
 
 pub loop-part-init : goal.loop-part-init

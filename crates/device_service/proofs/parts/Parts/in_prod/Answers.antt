@@ -1,7 +1,7 @@
 use Rattle.std.proofs.Common.{◌<◌, length, ap, ◌∙◌, arith}
 use Rattle.link_core.specs.Activities.{Joined}
 use Rattle.device_service.specs.Parts.{count_of, doing_of, joined_of}
-use Rattle.device_service.proofs.Held.{here}
+use Rattle.device_service.proofs.Holding.Held.{here}
 use Rattle.device_service.proofs.Opened.{joined_here}
 use Rattle.device_service.proofs.parts.Parts.in_prod.Goals as goal
 

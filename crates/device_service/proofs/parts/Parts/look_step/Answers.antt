@@ -1,7 +1,7 @@
 use Rattle.std.proofs.Common.{◌<◌, length, refl, sym, subst, arith}
 use Rattle.pv_words.specs.Plan.{MayGo, Turns}
 use Rattle.device_service.specs.Parts.{count_of, doing_of, held_of, joined_of, kind_of}
-use Rattle.device_service.proofs.Held.{here, in_all}
+use Rattle.device_service.proofs.Holding.Held.{here, in_all}
 use Rattle.device_service.proofs.Opened.{looks_is, rung_by}
 use Rattle.device_service.proofs.Wholes.{all_met}
 use Rattle.device_service.proofs.parts.Parts.look_step.Goals as goal

@@ -2,7 +2,7 @@ use Rattle.std.proofs.Common.{◌≡◌, inl, inr, length-append, ◌+◌, true,
 use Rattle.link_core.specs.declared.link.Link.{Link}
 use Rattle.link_core.specs.Link.{dom_of as link_dom, held_of as link_held, idle}
 use Rattle.device_service.specs.Parts.{count_of, doing_of, dom_of, held_of, kind_of}
-use Rattle.device_service.proofs.Held.{bare_held}
+use Rattle.device_service.proofs.Holding.Held.{bare_held}
 use Rattle.device_service.proofs.Lists.{get_push}
 use Rattle.device_service.proofs.Wholes.{whole_bare}
 use Rattle.device_service.proofs.parts.Parts.new.Goals as goal

@@ -5,7 +5,7 @@ use Rattle.device_service.specs.declared.parts.Doing.{Doing}
 use Rattle.device_service.specs.declared.parts.Doing.TheVariants as doing
 use Rattle.device_service.specs.Doing.{Whole, is_open}
 use Rattle.device_service.specs.Parts.{count_of, doing_of, dom_of, held_of, joined_of, kind_of, open_or, raise_from, raise_left}
-use Rattle.device_service.proofs.Held.{held_set, here, in_all}
+use Rattle.device_service.proofs.Holding.Held.{held_set, here, in_all}
 use Rattle.device_service.proofs.Opened.{raised_set, pages_raised, may_at, leads_at}
 use Rattle.device_service.proofs.Wholes.{all_met, open_after, open_else, open_then, serving_open, whole_served}
 use Rattle.device_service.proofs.parts.Parts.raise_step.Goals as goal

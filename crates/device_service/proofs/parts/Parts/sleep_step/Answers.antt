@@ -7,7 +7,7 @@ use Rattle.link_core.specs.Link.{idle, sleep_left as link_left}
 use Rattle.device_service.specs.declared.parts.Doing.TheVariants as doing
 use Rattle.device_service.specs.Doing.{is_open}
 use Rattle.device_service.specs.Parts.{count_of, doing_of, dom_of, held_of, joined_of, kind_of, sleep_left, sleeping}
-use Rattle.device_service.proofs.Held.{held_set, here, in_all}
+use Rattle.device_service.proofs.Holding.Held.{held_set, here, in_all}
 use Rattle.device_service.proofs.Lists.{get_set_other, got}
 use Rattle.device_service.proofs.Opened.{joined_set, rung_by}
 use Rattle.device_service.proofs.Sleeps.{may_sleep, sleep_next, sleep_on, sleep_over}

@@ -5,7 +5,7 @@ use Rattle.device_service.specs.declared.parts.Doing.{Doing}
 use Rattle.device_service.specs.declared.parts.Doing.TheVariants as doing
 use Rattle.device_service.specs.Doing.{Whole, is_open}
 use Rattle.device_service.specs.Parts.{count_of, doing_of, dom_of, held_of, joined_of, kind_of, open_or, take_from, take_left}
-use Rattle.device_service.proofs.Held.{held_set, here, in_all}
+use Rattle.device_service.proofs.Holding.Held.{held_set, here, in_all}
 use Rattle.device_service.proofs.Opened.{joined_set, may_at, rung_by, turns_at}
 use Rattle.device_service.proofs.Wholes.{all_met, open_after, open_else, open_then, serving_open, whole_served}
 use Rattle.device_service.proofs.parts.Parts.take_step.Goals as goal

@@ -4,7 +4,7 @@ use Rattle.link_core.specs.Link.{drop_left, held_of as link_held, rest_of}
 use Rattle.device_service.specs.Doing.{all_held, busy_in}
 use Rattle.device_service.specs.Parts.{count_of, doing_of, dom_of, held_of, kind_of}
 use Rattle.device_service.proofs.Connects.{undo_goes, undone_at_once}
-use Rattle.device_service.proofs.Held.{bare_from, cons_of, drop_clears, first_drop, here, in_unmap, may_drop}
+use Rattle.device_service.proofs.Holding.Held.{bare_from, cons_of, drop_clears, first_drop, here, in_unmap, may_drop}
 use Rattle.device_service.proofs.Wholes.{given_idle, whole_dropped, whole_left}
 use Rattle.device_service.proofs.parts.Parts.undo.Goals as goal
 

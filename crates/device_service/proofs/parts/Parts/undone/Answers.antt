@@ -3,7 +3,7 @@ use Rattle.std.proofs.lemmas.Bool.Decides.{nat_tests}
 use Rattle.device_service.specs.declared.parts.Doing.{Doing}
 use Rattle.device_service.specs.Doing.{busy_in}
 use Rattle.device_service.specs.Parts.{connects, count_of, doing_of, dom_of, held_of, kind_of}
-use Rattle.device_service.proofs.Held.{nil_of, none_held, still_held}
+use Rattle.device_service.proofs.Holding.Held.{nil_of, none_held, still_held}
 use Rattle.device_service.proofs.Wholes.{whole_left}
 use Rattle.device_service.proofs.parts.Parts.undone.Goals as goal
 

@@ -7,7 +7,7 @@ use Rattle.display_backend.specs.Stock.{Stock, pages_under}
 use Rattle.display_backend.specs.Store.{stock_of}
 use Rattle.display_backend.specs.declared.course.Progress.TheVariants as progress
 use Rattle.display_backend.proofs.Freeing.{unmap_lies}
-use Rattle.device_service.proofs.Held.{nil_of}
+use Rattle.device_service.proofs.Holding.Held.{nil_of}
 use Rattle.page_directory.proofs.Releases.{may_first}
 use Rattle.display_backend.proofs.Serviced.{free_ends, free_goes, knowing, stock_freed, stock_less}
 use Rattle.display_backend.proofs.service.Service.free.Goals as goal

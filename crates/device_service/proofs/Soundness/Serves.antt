@@ -30,12 +30,12 @@ use Rattle.device_service.specs.Reading.{all_gone, rows_of, begins_event, begins
 use Rattle.device_service.specs.Rows.{Hand, Rows}
 use Rattle.device_service.specs.Service.{Job, Works, Starves, Deed, Runs, Raises}
 use Rattle.device_service.specs.Work.{Work, Round, Looks, Sleeps, Idles, End, Saw, Took, Own, Done, Slept, Raised, all_pages, sleep_all, ring_page, with_event, raises_if, does_event, answer_of, looks_at, in_round, takes_from, with_left, with_rings, does, decides, decides_by, part_of, serves_by, with_waiting, with_hand, after_look, after_sleep, after_raise, settled}
-use Rattle.device_service.proofs.SoundBegins.{BeginsSo, RunsTo, answer_fits, begins_leaving, begins_nothing, chosen, lost_run, mapped_fits, opened_at, page_held, ring_held, ring_own, run_to, same_work, shown_of, touched_of, unkept_found}
-use Rattle.device_service.proofs.SoundFound.{raise_shows, sleeps_none}
-use Rattle.device_service.proofs.SoundParts.{event_in, evented_pages, fits_look, fits_take, fits_sleeps, fits_raise}
-use Rattle.device_service.proofs.SoundPlans.{own_in}
-use Rattle.device_service.proofs.SoundSettles.{found_index, no_reason}
-use Rattle.device_service.proofs.SoundWork.{Lawful, held_pages, KeptFound, IsFoundIn, Tells, IsServing, site, learned, IsSane, IsRaising, EndsWell, EndsSo, EndsFoundSo, look_pages, sleep_pages}
+use Rattle.device_service.proofs.Soundness.Begins.{BeginsSo, RunsTo, answer_fits, begins_leaving, begins_nothing, chosen, lost_run, mapped_fits, opened_at, page_held, ring_held, ring_own, run_to, same_work, shown_of, touched_of, unkept_found}
+use Rattle.device_service.proofs.Soundness.Found.{raise_shows, sleeps_none}
+use Rattle.device_service.proofs.Soundness.Parts.{event_in, evented_pages, fits_look, fits_take, fits_sleeps, fits_raise}
+use Rattle.device_service.proofs.Soundness.Plans.{own_in}
+use Rattle.device_service.proofs.Soundness.Settles.{found_index, no_reason}
+use Rattle.device_service.proofs.Soundness.Work.{Lawful, held_pages, KeptFound, IsFoundIn, Tells, IsServing, site, learned, IsSane, IsRaising, EndsWell, EndsSo, EndsFoundSo, look_pages, sleep_pages}
 
 module _ {X A V Y M : Type 0} (D : Lawful X A V Y M) where
   open D use {s, t, r, known, frames, grants, dom, parts, l}

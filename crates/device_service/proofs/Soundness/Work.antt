@@ -34,7 +34,7 @@ use Rattle.device_service.specs.Reading.{Naming, Shows, reading, rows_of}
 use Rattle.device_service.specs.Rows.{Table, Rows, Hand, Event, Hears, IsOwnCause, IsReason, owes}
 use Rattle.device_service.specs.Service.{Service}
 use Rattle.device_service.specs.Work.{Work, bus_of, End, Saw, Took, Own, Done, Answered, Slept, Met, Denied, Lacked, Shut, Left, Renewed, Raised, all_pages, after_look, after_sleep, after_answer, after_raise, device, refused_at, replied_in, raise_said, said_at, settled, told}
-use Rattle.device_service.proofs.SoundPlans.{AllOwn}
+use Rattle.device_service.proofs.Soundness.Plans.{AllOwn}
 
 -- a service of a device of this domain, how it is read, and that it keeps its laws
 pub record Lawful (X A V Y M : Type 0) : Type 1 where

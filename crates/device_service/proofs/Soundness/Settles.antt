@@ -28,9 +28,9 @@ use Rattle.device_service.specs.Rows.{Hand}
 use Rattle.device_service.specs.Service.{Service, Job, Works, Starves, Owed, Deed, Runs, Raises}
 use Rattle.device_service.specs.Work.{Work, Round, Looks, Sleeps, Idles, End, Saw, Took, Own, Done, Answered, Slept, Met, Denied, Lacked, Shut, Left, Renewed, Raised, all_pages, raises_if, does_event, pays, with_owed, looks_at, in_round, takes_from, with_left, with_rings, does, decides, decides_by, part_of, serves_by, with_waiting, with_hand, with_state, with_action, with_kept, with_closing, choice, device, after_look, after_sleep, after_answer, after_raise, shut, entered, settled}
 use Rattle.xenbus_states.proofs.Actions.{closed_apart}
-use Rattle.device_service.proofs.SoundParts.{counted_pages, counted_length, counted_none, evented_pages, evented_length, evented_none}
-use Rattle.device_service.proofs.SoundPlans.{AllOwn}
-use Rattle.device_service.proofs.SoundWork.{Lawful, Tells, IsServing, IsKept, IsPut, site, learned, IsNamed, IsBare, IsSane, IsRaising, EndsWell, bare_unless}
+use Rattle.device_service.proofs.Soundness.Parts.{counted_pages, counted_length, counted_none, evented_pages, evented_length, evented_none}
+use Rattle.device_service.proofs.Soundness.Plans.{AllOwn}
+use Rattle.device_service.proofs.Soundness.Work.{Lawful, Tells, IsServing, IsKept, IsPut, site, learned, IsNamed, IsBare, IsSane, IsRaising, EndsWell, bare_unless}
 
 -- an overrun is true
 found_in : (b c : Bool) (ready prod rsp x y : ℕ) → (c ≡ false → 32 < ready) → cond b looked.Nothing (cond c (looked.Ready ready) (looked.Overrun prod rsp)) ≡ looked.Overrun x y → (x ≡ prod) × ((y ≡ rsp) × (32 < ready))

@@ -5,7 +5,7 @@ use Rattle.pv_words.specs.declared.grant.Hold.{Hold}
 use Rattle.pv_words.specs.Held.{same_hold, unheld}
 use Rattle.page_directory.specs.Same.{AreSame, times}
 use Rattle.page_directory.proofs.Counts.{has_counted, hold_itself, times_append, times_here, times_unheld}
-use Rattle.device_service.proofs.SoundSame.{IsIn, none_same}
+use Rattle.device_service.proofs.Soundness.Same.{IsIn, none_same}
 
 unheld_length : (h : Hold) (xs : List Hold) → IsIn h xs → suc (length (unheld h xs)) ≡ length xs
 unheld_length h [] at = absurd at

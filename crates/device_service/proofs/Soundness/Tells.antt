@@ -28,7 +28,7 @@ use Rattle.device_service.specs.Rows as rows
 use Rattle.xenbus_states.specs.Bus.{bus_closed}
 use Rattle.device_service.specs.Work.{Work, bus_of, End, Saw, Took, Own, Done, Answered, Slept, Met, Denied, Lacked, Shut, Left, Renewed, Raised, waits_after, with_event, after_look, after_sleep, after_answer, after_raise, shut, entered, settled, replied_in, raise_said, said_at, device}
 use Rattle.xenbus_states.proofs.Actions.{renews_from, closed_apart}
-use Rattle.device_service.proofs.SoundWork.{Lawful, site, learned, IsNamed, IsDue, IsSane, IsShut, IsRaising, EndsWell, bare_unless}
+use Rattle.device_service.proofs.Soundness.Work.{Lawful, site, learned, IsNamed, IsDue, IsSane, IsShut, IsRaising, EndsWell, bare_unless}
 
 same_said : (a b : Said) → Some a ≡ Some b → a ≡ b
 same_said a b e = cc

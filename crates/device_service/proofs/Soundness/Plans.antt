@@ -11,7 +11,7 @@ use Rattle.link_core.specs.Laws.{AreOf, IsRing, IsRefused}
 use Rattle.pv_words.proofs.Holdings.{unmaps_exactly}
 use Rattle.page_directory.specs.Same.{AreSame}
 use Rattle.page_directory.proofs.Counts.{times_here, times_unheld, has_counted}
-use Rattle.device_service.proofs.SoundSame.{IsIn}
+use Rattle.device_service.proofs.Soundness.Same.{IsIn}
 
 covered : (h : Hold) (held : List Hold) → IsIn h held → Has (Covers h.dom.0 h.frame.0) held
 covered h [] at = absurd at

@@ -18,11 +18,11 @@ use Rattle.link_core.proofs.Shown.{FitFound, connects_show, unmaps_found}
 use Rattle.xenbus_states.specs.Needs.{Problem, first_fault}
 use Rattle.device_service.specs.Nodes.{Refs, IsAskedFor, needs_of, refs_from}
 use Rattle.device_service.specs.Work.{Work, all_pages, after_part, connect_parts, connected, connect_all, shut, settled}
-use Rattle.device_service.proofs.SoundParts.{pages_last}
-use Rattle.device_service.proofs.SoundPlans.{Fit, AllOwn, own_append, own_joined, own_are, refused_own, fits_drop}
-use Rattle.device_service.proofs.SoundRefs.{AllAsked, IsRingAsked, all_asked}
-use Rattle.device_service.proofs.SoundSettles.{no_reason}
-use Rattle.device_service.proofs.SoundWork.{Lawful, site, IsSane, EndsSo, EndsFoundSo}
+use Rattle.device_service.proofs.Soundness.Parts.{pages_last}
+use Rattle.device_service.proofs.Soundness.Plans.{Fit, AllOwn, own_append, own_joined, own_are, refused_own, fits_drop}
+use Rattle.device_service.proofs.Soundness.Refs.{AllAsked, IsRingAsked, all_asked}
+use Rattle.device_service.proofs.Soundness.Settles.{no_reason}
+use Rattle.device_service.proofs.Soundness.Work.{Lawful, site, IsSane, EndsSo, EndsFoundSo}
 
 module _ {X A V Y M : Type 0} (D : Lawful X A V Y M) where
   open D use {s, t, r, known, frames, grants, dom, parts, l}

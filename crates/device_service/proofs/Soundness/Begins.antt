@@ -22,12 +22,12 @@ use Rattle.device_service.specs.Reading.{Naming, numbers, rows_of, names_of, beg
 use Rattle.device_service.specs.Rows.{Rows, Hand, Event}
 use Rattle.device_service.specs.Work.{Work, End, Saw, Answered, Shut, ring_hold, ring_page, all_pages, answer_of, counted, part_of, close, leaving, nothing, after_answer, settled, device}
 use Rattle.device_service.proofs.Fitting.{fits_carried}
-use Rattle.device_service.proofs.SoundParts.{part_in, counted_pages, fits_answer}
-use Rattle.device_service.proofs.SoundPlans.{Fit, IsOwn, own_in, own_are, fits_drop}
-use Rattle.device_service.proofs.SoundSame.{IsIn, in_right, in_same, are_append}
-use Rattle.device_service.proofs.SoundSettles.{no_reason}
-use Rattle.device_service.proofs.SoundTells.{numbers_same}
-use Rattle.device_service.proofs.SoundWork.{Lawful, held_pages, TellsHeld, KeptFound, Tells, IsServing, site, learned, IsNamed, IsDue, IsSane, EndsWell, EndsSo, EndsFoundSo}
+use Rattle.device_service.proofs.Soundness.Parts.{part_in, counted_pages, fits_answer}
+use Rattle.device_service.proofs.Soundness.Plans.{Fit, IsOwn, own_in, own_are, fits_drop}
+use Rattle.device_service.proofs.Soundness.Same.{IsIn, in_right, in_same, are_append}
+use Rattle.device_service.proofs.Soundness.Settles.{no_reason}
+use Rattle.device_service.proofs.Soundness.Tells.{numbers_same}
+use Rattle.device_service.proofs.Soundness.Work.{Lawful, held_pages, TellsHeld, KeptFound, Tells, IsServing, site, learned, IsNamed, IsDue, IsSane, EndsWell, EndsSo, EndsFoundSo}
 
 pub unkept_found : {X V : Type 0} (w : Work X V) (f : Found) → w.kept ≡ None → KeptFound w f
 unkept_found w f none why e = absurd (no_reason w.kept why none e)

@@ -13,8 +13,8 @@ use Rattle.link_core.specs.Activities.{Joined, page_at, stores, slot_place, page
 use Rattle.link_core.specs.Activities as link
 use Rattle.link_core.proofs.PlanFits.{fits_loads, fits_stores}
 use Rattle.device_service.specs.Work.{ring_hold, ring_page, all_pages, sleep_all, sleeps_on, counted, with_event}
-use Rattle.device_service.proofs.SoundPlans.{Fit, IsOwn, AllOwn, own_in, own_behind, may_load, may_store}
-use Rattle.device_service.proofs.SoundSame.{IsIn, in_left, in_right}
+use Rattle.device_service.proofs.Soundness.Plans.{Fit, IsOwn, AllOwn, own_in, own_behind, may_load, may_store}
+use Rattle.device_service.proofs.Soundness.Same.{IsIn, in_left, in_right}
 
 ring_first : (ring : Option Hold) (event : Hold) → IsIn (ring_hold event ring) (hold_list ring ++ event ∷ [])
 ring_first None event = inl refl

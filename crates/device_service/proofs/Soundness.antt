@@ -1,0 +1,11 @@
+pub mod Begins
+pub mod Connect
+pub mod Found
+pub mod Parts
+pub mod Plans
+pub mod Refs
+pub mod Same
+pub mod Serves
+pub mod Settles
+pub mod Tells
+pub mod Work

@@ -145,6 +145,32 @@ fn three_pages(alloc: Global) -> Result<Pages, Fail> {
     Ok(Pages { holds })
 }
 
+// Ranges of octets: the first octet, and how many.
+const RANGES: [(u32, u32); 22] = [
+    (0, 12288),
+    (0, 0),
+    (12288, 0),
+    (5, 0),
+    (6, 1),
+    (7, 2),
+    (12287, 1),
+    (4094, 4),
+    (4096, 4096),
+    (8189, 7),
+    (1, 12286),
+    (3, 4097),
+    (2710, 931),
+    (9118, 2223),
+    (4033, 5001),
+    (11011, 1201),
+    (777, 3),
+    (8190, 1),
+    (8191, 2),
+    (4095, 4098),
+    (2050, 64),
+    (2051, 65),
+];
+
 #[test]
 fn reads_and_writes_as_a_plain_copy(rt: HostRuntime) -> Result<(), Fail> {
     let pages = three_pages(rt.alloc())?;
@@ -153,32 +179,8 @@ fn reads_and_writes_as_a_plain_copy(rt: HostRuntime) -> Result<(), Fail> {
         words.push(i.wrapping_mul(2_654_435_761).wrapping_add(12345))?;
     }
     let mut octets = plain_copy(rt.alloc(), &words)?;
-    let ranges = [
-        (0, 12288),
-        (0, 0),
-        (12288, 0),
-        (5, 0),
-        (6, 1),
-        (7, 2),
-        (12287, 1),
-        (4094, 4),
-        (4096, 4096),
-        (8189, 7),
-        (1, 12286),
-        (3, 4097),
-        (2710, 931),
-        (9118, 2223),
-        (4033, 5001),
-        (11011, 1201),
-        (777, 3),
-        (8190, 1),
-        (8191, 2),
-        (4095, 4098),
-        (2050, 64),
-        (2051, 65),
-    ];
     let mut first = 3u8;
-    for (offset, count) in ranges {
+    for (offset, count) in RANGES {
         write(&pages, &mut words, offset, count, first)?;
         write_plain(&mut octets, offset, count, first)?;
         let part = read(rt.alloc(), &pages, &words, offset, count)?;

@@ -14,7 +14,7 @@ use Rattle.page_directory.specs.Release.{left_of}
 use Rattle.page_directory.proofs.Releases.{drops_as, drops_rest}
 use Rattle.display_backend.specs.Stock.{Held, with_pages}
 use Rattle.display_backend.specs.Left.{left_in, pages_at, less_at, IsFirst}
-use Rattle.display_backend.proofs.Places.{pages_less}
+use Rattle.display_backend.proofs.Places.{pages_less, pages_within}
 
 -- the cookies stay, and where they stand
 pub cookies_left : (bs : List Held) (rs : List Release) → cookies (left_in bs rs) ≡ cookies bs
@@ -47,6 +47,10 @@ cookie_left bs left rs view k cookie there t at test =
 pub some_mapped : {X Y : Type 0} (f : X → Y) (o : Option X) → is_some (option_map f o) ≡ is_some o
 some_mapped f None = refl
 some_mapped f (Some x) = refl
+
+-- a buffer that has pages has its Release
+pub within_left : (bs left : List Held) (rs : List Release) (n k : ℕ) → left_in bs rs ≡ left → n ≡ length bs → n ≡ length rs → 0 < length (pages_at left k) → k < length rs
+within_left bs left rs n k view kept long some = omega (arith, pages_within left k some, count_left bs left rs view, kept, long)
 
 -- what is left of the pages at a place
 pages_here : (bs : List Held) (rs : List Release) (k : ℕ) (r : Release) (pages : List Hold) → k < length rs → r ≡ get_or rs k r → option_map (λ (b : Held). b.pages) (slice_get bs k) ≡ Some pages → pages_at (left_in bs rs) k ≡ left_of r pages

@@ -1,5 +1,5 @@
-use Rattle.std.proofs.Common.{◌<◌, ap, ◌∙◌, arith, length, slice_get}
-use Rattle.display_backend.proofs.Lefts.{count_left, pages_left}
+use Rattle.std.proofs.Common.{ap, ◌∙◌, arith, length, slice_get}
+use Rattle.display_backend.proofs.Lefts.{count_left, pages_left, within_left}
 use Rattle.display_backend.proofs.Places.{pages_within}
 use Rattle.display_backend.proofs.left.LeftBuffers.hold_at.Goals as goal
 
@@ -15,20 +15,16 @@ pages_at-requires c =
 
 pub get-requires : goal.get-requires
 get-requires c =
-    let place = pages_within c.args.self.now c.args.k (omega (arith, c.requires)) in
     let bs = c.self.inside.buffers in
-    let releases = c.self.inside.releases in
-    let count = count_left bs c.args.self.now releases.items c.self.view_is in
-    let within : c.args.k < length releases.items = omega (arith, place, count, c.self.invariant.0, releases.ok.0) in
-    let here = pages_left bs c.args.self.now releases.items c.self.view_is c.args.k within c.pages_at.result.now c.pages_at.ensures c.index.result.now c.index.ensures in
+    let rs = c.self.inside.releases in
+    let within = within_left bs c.args.self.now rs.items _ c.args.k c.self.view_is c.self.invariant.0 rs.ok.0 (omega (arith, c.requires)) in
+    let here = pages_left bs c.args.self.now rs.items c.self.view_is c.args.k within c.pages_at.result.now c.pages_at.ensures c.index.result.now c.index.ensures in
     omega (arith, c.requires, ap length here)
 
 pub returns : goal.returns
 returns c =
-    let place = pages_within c.args.self.now c.args.k (omega (arith, c.requires)) in
     let bs = c.self.inside.buffers in
-    let releases = c.self.inside.releases in
-    let count = count_left bs c.args.self.now releases.items c.self.view_is in
-    let within : c.args.k < length releases.items = omega (arith, place, count, c.self.invariant.0, releases.ok.0) in
-    let here = pages_left bs c.args.self.now releases.items c.self.view_is c.args.k within c.pages_at.result.now c.pages_at.ensures c.index.result.now c.index.ensures in
+    let rs = c.self.inside.releases in
+    let within = within_left bs c.args.self.now rs.items _ c.args.k c.self.view_is c.self.invariant.0 rs.ok.0 (omega (arith, c.requires)) in
+    let here = pages_left bs c.args.self.now rs.items c.self.view_is c.args.k within c.pages_at.result.now c.pages_at.ensures c.index.result.now c.index.ensures in
     ap (λ hs. slice_get hs c.args.i) here ∙ c.get.ensures

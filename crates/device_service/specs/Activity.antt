@@ -70,6 +70,10 @@ StandsAs activity.Answering opened d at hand = (opened ≡ true) × (d ≡ doing
 StandsAs (activity.Raising part) opened d at hand = (opened ≡ true) × (d ≡ doing.Raising part)
 StandsAs activity.Sleeping opened d at hand = (opened ≡ true) × (is_asleep d ≡ true) × (hand ≡ None)
 
+-- so it is of a backend in this state
+abbrev pub StandsIn : Activity → (closing : Bool) → State → Doing → ℕ → Option Hand → Type 0
+StandsIn activity closing back d at hand = StandsAs activity (is_open activity closing back) d at hand
+
 -- the activity begins, or it is under way
 abbrev pub MayServe : Activity → Activity → Type 0
 MayServe old new = (old ≡ activity.Between) ⊎ (old ≡ new)

@@ -16,6 +16,7 @@ pub mod Refusing
 pub mod Rows
 pub mod Service
 pub mod Stand
+pub mod Steps
 pub mod Throughout
 pub mod Truth
 pub mod Waits

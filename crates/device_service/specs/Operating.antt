@@ -2,12 +2,16 @@
 use Rattle.std.specs.Prelude.{◌≡◌, ◌⊎◌, ℕ, Bool, true, false, List, Option, Some, None}
 use Rattle.pv_words.specs.declared.access.Access.{Access}
 use Rattle.pv_words.specs.declared.device.Said.{Said}
+use Rattle.pv_words.specs.declared.words.Words.{Ghosts as Words}
 use Rattle.pv_words.specs.Memory.{place_of}
 use Rattle.pv_words.specs.Plan.{Plan, Finished, Make, Want, MayGo, Goes}
 use Rattle.device_core.specs.Order.{is_in_page}
+use Rattle.device_core.specs.Site.{Site}
+use Rattle.device_service.specs.declared.deed.Deed.{Deed as Made}
 use Rattle.device_service.specs.declared.deed.Now.{Now}
 use Rattle.device_service.specs.declared.deed.Now.TheVariants.{Answers, GoesOn, Over}
 pub use Rattle.device_service.specs.Dropping.{Drops, MayDrop}
+use Rattle.device_service.specs.Claims.{site_of}
 use Rattle.device_service.specs.Service.{Job, Works, Starves, Owed, Deed, Runs, Raises, Service}
 
 -- an activity of the service is under way
@@ -88,3 +92,18 @@ module _ {X A V : Type 0} (s : Service X A V) where
   abbrev pub Serves : X → Deed A → Option Access → Now → Option Said → X → Plan A → Type 0
   Serves x (Runs p) access now told y left = Comes x p access now told y left
   Serves x (Raises words) access now told y left = ⊥
+
+-- the site of a device of this domain, by the numbers of frames and grant entries that these words have
+abbrev pub site_over : {W : Type 0} → Words W → W → (dom parts : ℕ) → Site
+site_over m words dom parts = site_of (m.frames_of words) (m.grants_of words) dom parts
+
+module _ {X A V S : Type 0} (s : Service X A V) (knows : S → X) (left : Site → S → Plan A) where
+  -- the code of a service made the first step of what its request leads to, or of what a waiting event does, or the next step
+  abbrev pub BeginsBy : Site → S → Made → S → Type 0
+  BeginsBy site old d new = Begins s (s.job site (knows old)) d.access d.now d.said (knows new) (left site new)
+
+  abbrev pub ServesBy : Site → S → V → Made → S → Type 0
+  ServesBy site old e d new = Serves s (knows old) (s.event (knows old) e) d.access d.now d.said (knows new) (left site new)
+
+  abbrev pub ContinuesBy : Site → S → Made → S → Type 0
+  ContinuesBy site old d new = Continues s (knows old) (left site old) d.access d.now d.said (knows new) (left site new)

@@ -2,7 +2,7 @@
 
 ghost use Rattle.std.specs.Prelude.{◌≡◌, ◌<◌, ◌≤◌, ◌==◌, ◌||◌, [], IfOk, OnErr, Some, false, is_some, length, not, slice_get, true};
 ghost use Rattle.device_service.specs.declared.round.Hand.{Hand};
-ghost use Rattle.device_service.specs.Activity.{StandsAs, is_answering, is_open, is_working, may_hold};
+ghost use Rattle.device_service.specs.Activity.{StandsIn, is_answering, is_open, is_working, may_hold};
 ghost use Rattle.std.proofs.Props.{props};
 ghost use Rattle.device_service.specs.Facts.{stands_prop, wait_prop};
 ghost use Rattle.device_service.specs.Nodes.{Ringed};
@@ -76,7 +76,7 @@ pub struct Backend<S: Serve + Drop> {
     activity: Activity,
     ghost dom_is: { of_parts.dom_of parts ≡ dom.0 },
     ghost kind_is: { of_parts.kind_of parts ≡ S.service.kind },
-    ghost stands: { StandsAs activity (is_open activity closing connection.back) (of_parts.doing_of parts) at hand } by { Prim.hlevel (props, stands_prop) },
+    ghost stands: { StandsIn activity closing connection.back (of_parts.doing_of parts) at hand } by { Prim.hlevel (props, stands_prop) },
     ghost raises: { raises_on activity outgoing parts ≡ true },
     ghost at_in: { at < of_parts.count_of parts },
     ghost round_in: { part_in round < of_parts.count_of parts },
@@ -94,13 +94,13 @@ impl<S: Serve + Drop> Backend<S> {
     ghost use Rattle.pv_words.specs.Plan.{Makes};
     ghost use Rattle.host_events.specs.Queue.{refusal_in};
     ghost use Rattle.link_core.specs.Stays.{AccessIn};
-    ghost use Rattle.device_core.specs.Order.{Between, Heard, Hosts, MayChoose, Sets, at_rest, next, rests_next};
+    ghost use Rattle.device_core.specs.Order.{Between, Heard, Hosts, MayChoose, at_rest, next, rests_next};
     ghost use Rattle.device_core.specs.Site.{Site};
     ghost use Rattle.device_service.specs.declared.backend.Activity.TheVariants as activity;
-    ghost use Rattle.device_service.specs.Goes.{Begins};
     ghost use Rattle.device_service.specs.Held.{HoldsAsMany, HoldsPage};
     ghost use Rattle.device_service.specs.Waits.{IsFor};
-    ghost use Rattle.device_service.specs.Stand.{MayStepAt, Same, StepsAt, dev_of, dom_of, held_of, parts_of, site_at, stand_of, work_of};
+    ghost use Rattle.device_service.specs.Stand.{MayStepAt, Same, StepsAt, dev_of, dom_of, held_of, parts_of, stand_of, work_of};
+    ghost use Rattle.device_service.specs.Steps.{Chooses, HearsAt, chosen, site_over};
     ghost use Rattle.device_service.specs.Work.{choice, device, first_work, refused_at};
     ghost use Rattle.xenbus_states.specs.Nodes.{no_nodes};
 
@@ -154,7 +154,7 @@ impl<S: Serve + Drop> Backend<S> {
 
     /// Hears that the frontend set its state, while its nodes stand so.
     pub fn bus(&mut self, front: State, nodes: &Nodes)
-        ensures hears { (site : Site) → stand_of site self.new ≡ next (device S.service site) (stand_of site self.old) (Heard (Sets front nodes.now)) }
+        ensures hears { (site : Site) → HearsAt site self.old front nodes.now self.new }
         ensures held { held_of self.new ≡ held_of self.old }
         ensures same { Same self.old self.new }
     {
@@ -212,8 +212,8 @@ impl<S: Serve + Drop> Backend<S> {
     /// order of work has nothing left. An access to a cell lies in the frame of a page that the backend holds before the step, and
     /// one that may write in a page that is held for writing.
     pub fn step<W: Words>(&mut self, words: &mut W) -> Step
-        requires { MayStepAt (W.may words.old) (site_at (W.frames_of words.old) (W.grants_of words.old) self.old) self.old }
-        ensures steps { StepsAt (site_at (W.frames_of words.old) (W.grants_of words.old) self.old) self.old result.access result.said self.new }
+        requires { MayStepAt (W.may words.old) (site_over W.Words words.old self.old) self.old }
+        ensures steps { StepsAt (site_over W.Words words.old self.old) self.old result.access result.said self.new }
         ensures made { Makes W.makes words.old result.access words.new }
         ensures stays { AccessIn (held_of self.old) result.access }
         ensures same { Same self.old self.new }
@@ -234,8 +234,8 @@ impl<S: Serve + Drop> Backend<S> {
     // The first step of what comes next between two activities.
     fn begin<W: Words>(&mut self, words: &mut W) -> Step
         requires between { self.old.activity ≡ activity.Between }
-        requires may { MayChoose (W.may words.old) (choice S.service (site_at (W.frames_of words.old) (W.grants_of words.old) self.old) (work_of self.old)) }
-        ensures begins { Begins S.service (site_at (W.frames_of words.old) (W.grants_of words.old) self.old) (choice S.service (site_at (W.frames_of words.old) (W.grants_of words.old) self.old) (work_of self.old)) result.access result.said (stand_of (site_at (W.frames_of words.old) (W.grants_of words.old) self.old) self.new) }
+        requires may { MayChoose (W.may words.old) (chosen (site_over W.Words words.old self.old) self.old) }
+        ensures begins { Chooses (site_over W.Words words.old self.old) self.old result.access result.said self.new }
         ensures made { Makes W.makes words.old result.access words.new }
         ensures stays { AccessIn (held_of self.old) result.access }
         ensures same { Same self.old self.new }

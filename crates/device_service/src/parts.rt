@@ -60,7 +60,8 @@ impl Parts {
     ghost use Rattle.device_service.specs.declared.parts.Doing.TheVariants as doing;
     ghost use Rattle.device_service.specs.Nodes.{Ringed};
     ghost use Rattle.device_service.specs.Parts.{answer_left, answered_if, connect_of, connects, count_of, doing_of, dom_of, held_of};
-    ghost use Rattle.device_service.specs.Parts.{joined_of, kind_in, kind_of, look_of, open_or, raise_left, raised_if, sleep_left, slept_to, take_left};
+    ghost use Rattle.device_service.specs.Parts.{joined_of, kind_in, kind_of, look_of, open_or, raise_left, raised_if};
+    ghost use Rattle.device_service.specs.Parts.{sleep_left, slept_to, take_left};
     ghost use Rattle.device_service.specs.Parts.{Begins, ConnectLeads, ConnectSteps, Connected, Drops, IsOpen, JoinsByAccess, Keeps};
     ghost use Rattle.device_service.specs.Parts.{LeftBy, MayDrop, MayServe, MaySleep, Rests, Same, Slept, UndoneAs};
 

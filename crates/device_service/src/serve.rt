@@ -9,10 +9,11 @@ ghost use Rattle.pv_words.specs.Plan.{Plan, MayGo, Makes};
 ghost use Rattle.host_events.specs.Queue.{refusal_of};
 ghost use Rattle.link_core.specs.Stays.{AccessIn};
 ghost use Rattle.device_core.specs.Site.{Site};
-ghost use Rattle.device_service.specs.Claims.{KeepsLaws, site_of};
+ghost use Rattle.device_service.specs.Claims.{KeepsLaws};
 ghost use Rattle.device_service.specs.Laws.{Facts};
 ghost use Rattle.device_service.specs.Nodes.{kind_in};
-ghost use Rattle.device_service.specs.Operating.{Begins, Continues, Drops, MayDeed, MayDrop, MayJob, Serves, is_going, is_raise, part_owed, words_of};
+ghost use Rattle.device_service.specs.Operating.{BeginsBy, ContinuesBy, Drops, MayDeed, MayDrop, MayJob, ServesBy};
+ghost use Rattle.device_service.specs.Operating.{is_going, is_raise, part_owed, site_over, words_of};
 ghost use Rattle.device_service.specs.Reading.{Shows};
 ghost use Rattle.device_service.specs.Rows.{Table};
 ghost use Rattle.device_service.specs.Service.{Owed, Service};
@@ -125,8 +126,8 @@ pub trait Serve {
     fn begin<W: Words>(&mut self, dom: DomId, parts: u8, words: &mut W) -> Deed
         requires idle { going self.old ≡ false }
         requires works { service.ready (knows self.old) ≡ false }
-        requires may { MayJob (W.may words.old) (service.job (site_of (W.frames_of words.old) (W.grants_of words.old) dom.0 parts) (knows self.old)) }
-        ensures begins { Begins service (service.job (site_of (W.frames_of words.old) (W.grants_of words.old) dom.0 parts) (knows self.old)) result.access result.now result.said (knows self.new) (left (site_of (W.frames_of words.old) (W.grants_of words.old) dom.0 parts) self.new) }
+        requires may { MayJob (W.may words.old) (service.job (site_over W.Words words.old dom.0 parts) (knows self.old)) }
+        ensures begins { BeginsBy service knows left (site_over W.Words words.old dom.0 parts) self.old result self.new }
         ensures made { Makes W.makes words.old result.access words.new }
         ensures stays { AccessIn (holds self.old) result.access }
         ensures going { going self.new ≡ is_going result.now }
@@ -137,7 +138,7 @@ pub trait Serve {
         requires idle { going self.old ≡ false }
         requires runs { is_raise (service.event (knows self.old) event) ≡ false }
         requires may { MayDeed (W.may words.old) (service.event (knows self.old) event) }
-        ensures serves { Serves service (knows self.old) (service.event (knows self.old) event) result.access result.now result.said (knows self.new) (left (site_of (W.frames_of words.old) (W.grants_of words.old) dom.0 parts) self.new) }
+        ensures serves { ServesBy service knows left (site_over W.Words words.old dom.0 parts) self.old event result self.new }
         ensures made { Makes W.makes words.old result.access words.new }
         ensures stays { AccessIn (holds self.old) result.access }
         ensures going { going self.new ≡ is_going result.now }
@@ -172,8 +173,8 @@ pub trait Serve {
     fn go_on<W: Words>(&mut self, dom: DomId, parts: u8, words: &mut W) -> Deed
         requires going { going self.old ≡ true }
         requires domain { is_of dom.0 self.old ≡ true }
-        requires may { MayGo (W.may words.old) (left (site_of (W.frames_of words.old) (W.grants_of words.old) dom.0 parts) self.old) }
-        ensures goes { Continues service (knows self.old) (left (site_of (W.frames_of words.old) (W.grants_of words.old) dom.0 parts) self.old) result.access result.now result.said (knows self.new) (left (site_of (W.frames_of words.old) (W.grants_of words.old) dom.0 parts) self.new) }
+        requires may { MayGo (W.may words.old) (left (site_over W.Words words.old dom.0 parts) self.old) }
+        ensures goes { ContinuesBy service knows left (site_over W.Words words.old dom.0 parts) self.old result self.new }
         ensures made { Makes W.makes words.old result.access words.new }
         ensures stays { AccessIn (holds self.old) result.access }
         ensures going { going self.new ≡ is_going result.now }

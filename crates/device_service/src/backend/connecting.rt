@@ -17,15 +17,15 @@ impl<S: Serve + Drop> Backend<S> {
     ghost use Rattle.pv_words.specs.Plan.{Finished, MayGo, Makes, mapped};
     ghost use Rattle.link_core.specs.Activities.{unmaps};
     ghost use Rattle.link_core.specs.Stays.{AccessIn};
-    ghost use Rattle.device_core.specs.Order.{Between, MayChoose, Went};
+    ghost use Rattle.device_core.specs.Order.{Between, MayChoose};
     ghost use Rattle.device_core.specs.Site.{Site};
     ghost use Rattle.xenbus_states.specs.Connection.{action_of};
     ghost use Rattle.xenbus_states.specs.declared.back.Action.TheVariants as action;
     ghost use Rattle.device_service.specs.declared.backend.Activity.TheVariants as activity;
-    ghost use Rattle.device_service.specs.Goes.{Begins, GoesOut};
     ghost use Rattle.device_service.specs.Dropping.{MayDrop};
     ghost use Rattle.device_service.specs.Parts.{connect_left};
-    ghost use Rattle.device_service.specs.Stand.{Same, dom_of, given_up, held_of, leaving_plan, parts_of, site_at, stand_of, work_of};
+    ghost use Rattle.device_service.specs.Stand.{BeginsAt, Same, dom_of, given_up, held_of, parts_of, stand_of, work_of};
+    ghost use Rattle.device_service.specs.Steps.{BeginsConnect, ConnectsOn, GoesOutAt, WentToClose, close_left, connect_due, site_over};
     ghost use Rattle.device_service.specs.Work.{close, connected, device, entered, shut, with_action};
 
     // The connection is closed, once no page is held.
@@ -48,7 +48,7 @@ impl<S: Serve + Drop> Backend<S> {
     // What is said after an access of a Close.
     fn leaves(&mut self, why: Reason) -> Option<Said>
         requires { self.old.activity ≡ activity.Leaving why }
-        ensures went { (site : Site) → Went (device S.service site) (work_of self.old) (leaving_plan why (given_up self.old)) result (stand_of site self.new) }
+        ensures went { (site : Site) → WentToClose site self.old why result self.new }
         ensures same { Same self.old self.new }
     {
         if self.service.held() > 0 {
@@ -64,7 +64,7 @@ impl<S: Serve + Drop> Backend<S> {
     pub(super) fn leave<W: Words>(&mut self, words: &mut W, why: Reason) -> Step
         requires leaving { self.old.activity ≡ activity.Leaving why }
         requires may { MayDrop (W.may words.old) (given_up self.old) }
-        ensures goes { (site : Site) → GoesOut S.service site (work_of self.old) (leaving_plan why (given_up self.old)) result.access result.said (stand_of site self.new) }
+        ensures goes { (site : Site) → GoesOutAt site (close_left self.old why) self.old result.access result.said self.new }
         ensures made { Makes W.makes words.old result.access words.new }
         ensures stays { (pages : List Hold) → AccessIn pages result.access }
         ensures same { Same self.old self.new }
@@ -87,7 +87,7 @@ impl<S: Serve + Drop> Backend<S> {
     pub(super) fn close<W: Words>(&mut self, words: &mut W, why: Reason) -> Step
         requires between { self.old.activity ≡ activity.Between }
         requires may { MayChoose (W.may words.old) (close S.service (work_of self.old) why) }
-        ensures begins { (site : Site) → Begins S.service site (close S.service (work_of self.old) why) result.access result.said (stand_of site self.new) }
+        ensures begins { (site : Site) → BeginsAt site (close S.service (work_of self.old) why) result.access result.said self.new }
         ensures made { Makes W.makes words.old result.access words.new }
         ensures stays { (pages : List Hold) → AccessIn pages result.access }
         ensures same { Same self.old self.new }
@@ -116,8 +116,8 @@ impl<S: Serve + Drop> Backend<S> {
     // The next access of a Connect.
     pub(super) fn connect<W: Words>(&mut self, words: &mut W) -> Step
         requires connecting { self.old.activity ≡ activity.Connecting }
-        requires may { MayGo (W.may words.old) (connect_left (site_at (W.frames_of words.old) (W.grants_of words.old) self.old) self.old.read self.old.parts) }
-        ensures goes { GoesOut S.service (site_at (W.frames_of words.old) (W.grants_of words.old) self.old) (work_of self.old) (mapped connected (connect_left (site_at (W.frames_of words.old) (W.grants_of words.old) self.old) self.old.read self.old.parts)) result.access result.said (stand_of (site_at (W.frames_of words.old) (W.grants_of words.old) self.old) self.new) }
+        requires may { MayGo (W.may words.old) (connect_left (site_over W.Words words.old self.old) self.old.read self.old.parts) }
+        ensures goes { ConnectsOn (site_over W.Words words.old self.old) self.old result.access result.said self.new }
         ensures made { Makes W.makes words.old result.access words.new }
         ensures stays { AccessIn (held_of self.old) result.access }
         ensures same { Same self.old self.new }
@@ -154,8 +154,8 @@ impl<S: Serve + Drop> Backend<S> {
         requires between { self.old.activity ≡ activity.Between }
         requires closing { self.old.closing ≡ false }
         requires action { action_of self.old.connection ≡ action.Connect }
-        requires may { MayChoose (W.may words.old) (with_action S.service (site_at (W.frames_of words.old) (W.grants_of words.old) self.old) (work_of self.old) action.Connect) }
-        ensures begins { Begins S.service (site_at (W.frames_of words.old) (W.grants_of words.old) self.old) (with_action S.service (site_at (W.frames_of words.old) (W.grants_of words.old) self.old) (work_of self.old) action.Connect) result.access result.said (stand_of (site_at (W.frames_of words.old) (W.grants_of words.old) self.old) self.new) }
+        requires may { MayChoose (W.may words.old) (connect_due (site_over W.Words words.old self.old) self.old) }
+        ensures begins { BeginsConnect (site_over W.Words words.old self.old) self.old result.access result.said self.new }
         ensures made { Makes W.makes words.old result.access words.new }
         ensures stays { AccessIn (held_of self.old) result.access }
         ensures same { Same self.old self.new }

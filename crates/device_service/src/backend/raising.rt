@@ -32,7 +32,8 @@ impl<S: Serve + Drop> Backend<S> {
     ghost use Rattle.device_core.specs.Order.{MayChoose};
     ghost use Rattle.device_core.specs.Site.{Site};
     ghost use Rattle.device_service.specs.declared.backend.Activity.TheVariants as activity;
-    ghost use Rattle.device_service.specs.Stand.{BeginsAt, RaisesOn, Same, held_of, pays_at, raise_left, raises_at, site_at, work_of};
+    ghost use Rattle.device_service.specs.Stand.{BeginsAt, RaisesOn, Same, held_of, pays_at, raise_left, raises_at, work_of};
+    ghost use Rattle.device_service.specs.Steps.{site_over};
     ghost use Rattle.device_service.specs.Work.{raise_said};
 
     // The part to which an event is owed, where it is connected.
@@ -60,7 +61,7 @@ impl<S: Serve + Drop> Backend<S> {
         requires between { self.old.activity ≡ activity.Between }
         requires opened { is_open self.old.activity self.old.closing self.old.connection.back ≡ true }
         requires owed { IsOwed S.service (S.knows self.old.service) self.old.parts part }
-        requires may { MayChoose (W.may words.old) (pays_at (site_at (W.frames_of words.old) (W.grants_of words.old) self.old) self.old) }
+        requires may { MayChoose (W.may words.old) (pays_at (site_over W.Words words.old self.old) self.old) }
         ensures begins { (site : Site) → BeginsAt site (pays_at site self.old) result.access result.said self.new }
         ensures made { Makes W.makes words.old result.access words.new }
         ensures stays { AccessIn (held_of self.old) result.access }

@@ -46,20 +46,22 @@ fn next_look(parts: u8, part: u8, served: bool) -> Round
 impl<S: Serve + Drop> Backend<S> {
     ghost use Rattle.pv_words.specs.Plan.{MayGo, Makes, mapped};
     ghost use Rattle.link_core.specs.Stays.{AccessIn};
-    ghost use Rattle.device_core.specs.Order.{GoesOn, MayChoose, rests_next};
+    ghost use Rattle.device_core.specs.Order.{MayChoose, rests_next};
     ghost use Rattle.device_core.specs.Site.{Site};
     ghost use Rattle.device_service.specs.declared.backend.Activity.TheVariants as activity;
     ghost use Rattle.device_service.specs.declared.round.Round.TheVariants as round;
-    ghost use Rattle.device_service.specs.Goes.{Begins};
-    ghost use Rattle.device_service.specs.Stand.{Same, held_of, parts_of, site_at, stand_of, work_of};
+    ghost use Rattle.device_service.specs.Stand.{Same, held_of, parts_of, work_of};
+    ghost use Rattle.device_service.specs.Steps.{Decides, GoesAt, LooksAtPart, ServesEvent, ServesNext, ServesOn, WorksOn};
+    ghost use Rattle.device_service.specs.Steps.{answer_left, decided, event_served, first_answer, look_left, served, site_over};
+    ghost use Rattle.device_service.specs.Steps.{sleep_left, take_left, work_left};
     ghost use Rattle.device_service.specs.Work.{Answered, Done, Own, Saw, Slept, Took, decides_by, device, looks_at, serves_by, with_hand};
 
     // The first step of what comes next while all parts are connected.
     pub(super) fn serve<W: Words>(&mut self, words: &mut W) -> Step
         requires between { self.old.activity ≡ activity.Between }
         requires opened { is_open self.old.activity self.old.closing self.old.connection.back ≡ true }
-        requires may { MayChoose (W.may words.old) (with_hand S.service (site_at (W.frames_of words.old) (W.grants_of words.old) self.old) (work_of self.old) self.old.hand) }
-        ensures begins { Begins S.service (site_at (W.frames_of words.old) (W.grants_of words.old) self.old) (with_hand S.service (site_at (W.frames_of words.old) (W.grants_of words.old) self.old) (work_of self.old) self.old.hand) result.access result.said (stand_of (site_at (W.frames_of words.old) (W.grants_of words.old) self.old) self.new) }
+        requires may { MayChoose (W.may words.old) (served (site_over W.Words words.old self.old) self.old) }
+        ensures begins { ServesNext (site_over W.Words words.old self.old) self.old result.access result.said self.new }
         ensures made { Makes W.makes words.old result.access words.new }
         ensures stays { AccessIn (held_of self.old) result.access }
         ensures same { Same self.old self.new }
@@ -120,8 +122,8 @@ impl<S: Serve + Drop> Backend<S> {
         requires opened { is_open self.old.activity self.old.closing self.old.connection.back ≡ true }
         requires hand { self.old.hand ≡ Some hand }
         requires works { S.service.ready (S.knows self.old.service) ≡ false }
-        requires may { MayChoose (W.may words.old) (decides_by S.service (site_at (W.frames_of words.old) (W.grants_of words.old) self.old) (work_of self.old) (slice_get (of_parts.joined_of self.old.parts) hand.part)) }
-        ensures begins { Begins S.service (site_at (W.frames_of words.old) (W.grants_of words.old) self.old) (decides_by S.service (site_at (W.frames_of words.old) (W.grants_of words.old) self.old) (work_of self.old) (slice_get (of_parts.joined_of self.old.parts) hand.part)) result.access result.said (stand_of (site_at (W.frames_of words.old) (W.grants_of words.old) self.old) self.new) }
+        requires may { MayChoose (W.may words.old) (decided (site_over W.Words words.old self.old) self.old hand.part) }
+        ensures begins { Decides (site_over W.Words words.old self.old) self.old hand.part result.access result.said self.new }
         ensures made { Makes W.makes words.old result.access words.new }
         ensures stays { AccessIn (held_of self.old) result.access }
         ensures same { Same self.old self.new }
@@ -146,8 +148,8 @@ impl<S: Serve + Drop> Backend<S> {
     // The next access of an activity of the service, for the request in hand.
     pub(super) fn work<W: Words>(&mut self, words: &mut W) -> Step
         requires working { self.old.activity ≡ activity.Working }
-        requires may { MayGo (W.may words.old) (S.left (site_at (W.frames_of words.old) (W.grants_of words.old) self.old) self.old.service) }
-        ensures goes { GoesOn (device S.service (site_at (W.frames_of words.old) (W.grants_of words.old) self.old)) (work_of self.old) (mapped Own (S.left (site_at (W.frames_of words.old) (W.grants_of words.old) self.old) self.old.service)) result.access result.said (stand_of (site_at (W.frames_of words.old) (W.grants_of words.old) self.old) self.new) }
+        requires may { MayGo (W.may words.old) (work_left (site_over W.Words words.old self.old) self.old) }
+        ensures goes { WorksOn (site_over W.Words words.old self.old) self.old result.access result.said self.new }
         ensures made { Makes W.makes words.old result.access words.new }
         ensures stays { AccessIn (held_of self.old) result.access }
         ensures same { Same self.old self.new }
@@ -169,8 +171,8 @@ impl<S: Serve + Drop> Backend<S> {
         requires opened { is_open self.old.activity self.old.closing self.old.connection.back ≡ true }
         requires hand { self.old.hand ≡ None }
         requires oldest { slice_get self.old.waiting 0 ≡ Some event }
-        requires may { MayChoose (W.may words.old) (serves_by S.service (work_of self.old) event (slice_get (of_parts.joined_of self.old.parts) (S.service.at event))) }
-        ensures begins { Begins S.service (site_at (W.frames_of words.old) (W.grants_of words.old) self.old) (serves_by S.service (work_of self.old) event (slice_get (of_parts.joined_of self.old.parts) (S.service.at event))) result.access result.said (stand_of (site_at (W.frames_of words.old) (W.grants_of words.old) self.old) self.new) }
+        requires may { MayChoose (W.may words.old) (event_served self.old event) }
+        ensures begins { ServesEvent (site_over W.Words words.old self.old) self.old event result.access result.said self.new }
         ensures made { Makes W.makes words.old result.access words.new }
         ensures stays { AccessIn (held_of self.old) result.access }
         ensures same { Same self.old self.new }
@@ -194,8 +196,8 @@ impl<S: Serve + Drop> Backend<S> {
     // The next access of an activity of the service, for the oldest waiting event.
     pub(super) fn go_on_serving<W: Words>(&mut self, words: &mut W) -> Step
         requires serving { self.old.activity ≡ activity.Serving }
-        requires may { MayGo (W.may words.old) (S.left (site_at (W.frames_of words.old) (W.grants_of words.old) self.old) self.old.service) }
-        ensures goes { GoesOn (device S.service (site_at (W.frames_of words.old) (W.grants_of words.old) self.old)) (work_of self.old) (mapped Done (S.left (site_at (W.frames_of words.old) (W.grants_of words.old) self.old) self.old.service)) result.access result.said (stand_of (site_at (W.frames_of words.old) (W.grants_of words.old) self.old) self.new) }
+        requires may { MayGo (W.may words.old) (work_left (site_over W.Words words.old self.old) self.old) }
+        ensures goes { ServesOn (site_over W.Words words.old self.old) self.old result.access result.said self.new }
         ensures made { Makes W.makes words.old result.access words.new }
         ensures stays { AccessIn (held_of self.old) result.access }
         ensures same { Same self.old self.new }
@@ -220,8 +222,8 @@ impl<S: Serve + Drop> Backend<S> {
         requires opened { is_open self.old.activity self.old.closing self.old.connection.back ≡ true }
         requires hand { is_some self.old.hand ≡ true }
         requires ready { S.service.ready (S.knows self.old.service) ≡ true }
-        requires may { MayGo (W.may words.old) (of_parts.answer_of (S.service.reply (S.knows self.old.service)) (slice_get (of_parts.joined_of self.old.parts) (hand_part self.old.hand))) }
-        ensures goes { (site : Site) → GoesOn (device S.service site) (work_of self.old) (mapped Answered (of_parts.answer_of (S.service.reply (S.knows self.old.service)) (slice_get (of_parts.joined_of self.old.parts) (hand_part self.old.hand)))) result.access result.said (stand_of site self.new) }
+        requires may { MayGo (W.may words.old) (first_answer self.old) }
+        ensures goes { (site : Site) → GoesAt site (mapped Answered (first_answer self.old)) self.old result.access result.said self.new }
         ensures made { Makes W.makes words.old result.access words.new }
         ensures stays { AccessIn (of_parts.held_of self.old.parts) result.access }
         ensures same { Same self.old self.new }
@@ -236,8 +238,8 @@ impl<S: Serve + Drop> Backend<S> {
         requires opened { is_open self.old.activity self.old.closing self.old.connection.back ≡ true }
         requires hand { is_some self.old.hand ≡ true }
         requires ready { S.service.ready (S.knows self.old.service) ≡ true }
-        requires may { MayGo (W.may words.old) (of_parts.answer_left (hand_part self.old.hand) self.old.outgoing self.old.parts) }
-        ensures goes { (site : Site) → GoesOn (device S.service site) (work_of self.old) (mapped Answered (of_parts.answer_left (hand_part self.old.hand) self.old.outgoing self.old.parts)) result.access result.said (stand_of site self.new) }
+        requires may { MayGo (W.may words.old) (answer_left self.old) }
+        ensures goes { (site : Site) → GoesAt site (mapped Answered (answer_left self.old)) self.old result.access result.said self.new }
         ensures made { Makes W.makes words.old result.access words.new }
         ensures stays { AccessIn (of_parts.held_of self.old.parts) result.access }
         ensures same { Same self.old self.new }
@@ -267,7 +269,7 @@ impl<S: Serve + Drop> Backend<S> {
         requires hand { self.old.hand ≡ None }
         requires ringed { S.service.kind ≡ Ringed }
         requires may { MayGo (W.may words.old) (of_parts.take_left self.old.at self.old.parts) }
-        ensures goes { (site : Site) → GoesOn (device S.service site) (work_of self.old) (mapped Took (of_parts.take_left self.old.at self.old.parts)) result.access result.said (stand_of site self.new) }
+        ensures goes { (site : Site) → GoesAt site (take_left self.old) self.old result.access result.said self.new }
         ensures made { Makes W.makes words.old result.access words.new }
         ensures stays { AccessIn (held_of self.old) result.access }
         ensures same { Same self.old self.new }
@@ -296,7 +298,7 @@ impl<S: Serve + Drop> Backend<S> {
         requires hand { self.old.hand ≡ None }
         requires ringed { S.service.kind ≡ Ringed }
         requires may { MayGo (W.may words.old) (of_parts.sleep_left self.old.parts) }
-        ensures goes { (site : Site) → GoesOn (device S.service site) (work_of self.old) (mapped Slept (of_parts.sleep_left self.old.parts)) result.access result.said (stand_of site self.new) }
+        ensures goes { (site : Site) → GoesAt site (sleep_left self.old) self.old result.access result.said self.new }
         ensures made { Makes W.makes words.old result.access words.new }
         ensures stays { AccessIn (held_of self.old) result.access }
         ensures same { Same self.old self.new }
@@ -323,8 +325,8 @@ impl<S: Serve + Drop> Backend<S> {
         requires hand { self.old.hand ≡ None }
         requires round { self.old.round ≡ round.Looks part served }
         requires ringed { S.service.kind ≡ Ringed }
-        requires may { MayGo (W.may words.old) (of_parts.look_of (slice_get (of_parts.joined_of self.old.parts) part)) }
-        ensures goes { (site : Site) → site.parts ≡ parts_of self.old → GoesOn (device S.service site) (work_of self.old) (mapped Saw (of_parts.look_of (slice_get (of_parts.joined_of self.old.parts) part))) result.access result.said (stand_of site self.new) }
+        requires may { MayGo (W.may words.old) (look_left self.old part) }
+        ensures goes { (site : Site) → LooksAtPart site self.old part result.access result.said self.new }
         ensures made { Makes W.makes words.old result.access words.new }
         ensures stays { AccessIn (held_of self.old) result.access }
         ensures same { Same self.old self.new }

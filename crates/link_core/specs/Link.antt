@@ -207,6 +207,10 @@ abbrev pub raise_rest : Page → (prod : ℕ) → Stage → (n : ℕ) → List �
 raise_rest page prod stage.Raise n words = stores (event_place page prod) (publish_event page prod) n (drop n words)
 raise_rest page prod other n words = raise_plan page prod words
 
+-- a Raise of these words, of which no access was made
+abbrev pub whole_raise : Link → List ℕ → Plan Put
+whole_raise l words = raise_plan (page_at l.event_page) l.prod words
+
 unfoldable pub raise_left : Link → List ℕ → Plan Put
 raise_left l words = raise_rest (page_at l.event_page) l.prod l.stage l.count words
 

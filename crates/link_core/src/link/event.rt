@@ -22,14 +22,13 @@ impl Link {
     ghost use Rattle.pv_words.specs.Plan.{Plan, MayGo, Makes};
     ghost use Rattle.link_core.specs.Stays.{AccessIn};
     ghost use Rattle.link_core.specs.declared.link.Stage.TheVariants as stage;
-    ghost use Rattle.link_core.specs.Activities.{page_at, pages_of};
-    ghost use Rattle.link_core.specs.Link.{Keeps, Leads, held_of, idle, joined_of, raise_left, raised_if};
-    ghost use Rattle.link_core.specs.Raise.{raise_plan};
+    ghost use Rattle.link_core.specs.Activities.{pages_of};
+    ghost use Rattle.link_core.specs.Link.{Keeps, Leads, held_of, idle, joined_of, raise_left, raised_if, whole_raise};
 
     // The load of in_cons, and what comes of it.
     fn room_step<W: Words>(&mut self, words: &mut W, w: &[u32; 16]) -> Turn<Put>
-        requires { MayGo (W.may words.old) (raise_plan (page_at self.old.event_page) self.old.prod w.now) }
-        ensures leads { Leads (raise_plan (page_at self.old.event_page) self.old.prod w.now) result.access result.done (raise_left self.new w.now) }
+        requires { MayGo (W.may words.old) (whole_raise self.old w.now) }
+        ensures leads { Leads (whole_raise self.old w.now) result.access result.done (raise_left self.new w.now) }
         ensures made { Makes W.makes words.old result.access words.new }
         ensures stays { held_of self.old ≡ pages_of (joined_of self.old) → AccessIn (held_of self.old) result.access }
         ensures keeps { Keeps self.old self.new }

@@ -10,5 +10,6 @@ pub mod Names
 pub mod Numbered
 pub mod Order
 pub mod Places
+pub mod Scenes
 pub mod Serviced
 pub mod StockPages

@@ -145,7 +145,7 @@ ids_fresh cookie (b ∷ bs) (n ∷ ns) all fresh = by_test (has_cookie cookie b)
     by_test false e later = ap (λ x. n ∷ x) later
 
 -- a CREATE is accepted where it passed its checks
-not_refused : (why : Refused) → status_of why ≡ pos 0 → ⊥
+pub not_refused : (why : Refused) → status_of why ≡ pos 0 → ⊥
 not_refused NotSupported h = cc
 not_refused Exists h = cc
 not_refused Full h = cc

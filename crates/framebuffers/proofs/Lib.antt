@@ -1,3 +1,4 @@
 pub mod Checks
 pub mod Found
+pub mod Sound
 pub mod Used

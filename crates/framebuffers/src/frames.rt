@@ -35,14 +35,11 @@ impl Frames {
         Ok(Frames { table })
     }
 
-    /// Makes the framebuffer that an ATTACH asks for; `buffer` is the live display buffer of its cookie, if there is one.
-    /// It is refused by the first check that fails: its cookie is live (Exists), 64 framebuffers are live (Full), the
-    /// display buffer isn't live (Unknown), or its format isn't known or isn't of the buffer's depth, or a side is 0 or
-    /// larger than the buffer's (Invalid). A refusal changes nothing.
-    pub fn attach(&mut self, a: &Attach, buffer: Option<Buffer>) -> Result<(), Refused>
-        ensures checked { result ≡ attach_check self.old a.now buffer }
-        ensures made { OnOk result (self.new ≡ with_frame self.old a.now buffer) }
-        ensures refused { OnErr result (self.new ≡ self.old) }
+    /// The first check of an ATTACH that fails, where `buffer` is the live display buffer of its cookie, if there is one: its
+    /// cookie is live (Exists), 64 framebuffers are live (Full), the display buffer isn't live (Unknown), or its format isn't
+    /// known or isn't of the buffer's depth, or a side is 0 or larger than the buffer's (Invalid).
+    pub fn check(&self, a: &Attach, buffer: Option<Buffer>) -> Result<(), Refused>
+        ensures { result ≡ attach_check self.now a.now buffer }
     {
         if self.table.get(a.fb_cookie).is_some() {
             return Err(Refused::Exists);
@@ -56,6 +53,20 @@ impl Frames {
         if !is_valid(a, &buffer) {
             return Err(Refused::Invalid);
         }
+        Ok(())
+    }
+
+    /// Makes the framebuffer that an ATTACH asks for; `buffer` is the live display buffer of its cookie, if there is one.
+    /// It is refused as `check` tells. A refusal changes nothing.
+    pub fn attach(&mut self, a: &Attach, buffer: Option<Buffer>) -> Result<(), Refused>
+        ensures checked { result ≡ attach_check self.old a.now buffer }
+        ensures made { OnOk result (self.new ≡ with_frame self.old a.now buffer) }
+        ensures refused { OnErr result (self.new ≡ self.old) }
+    {
+        self.check(a, buffer)?;
+        let Some(buffer) = buffer else {
+            return Err(Refused::Unknown);
+        };
         self.table.push(Framebuffer {
             cookie: a.fb_cookie,
             dbuf: a.dbuf_cookie,

@@ -29,7 +29,8 @@ use Rattle.page_directory.proofs.WalkAlong.{all_weaker}
 use Rattle.display_backend.specs.Reply.{replied_to}
 use Rattle.display_backend.specs.Scene.{IsSound, LiesInLive, Scene, after_blank_at, asking, buffer_at, connector_at, no_scene, scene_after, with_connector}
 use Rattle.display_backend.specs.Verdict.{checked, destroy_verdict, verdict}
-use Rattle.display_backend.proofs.Numbered.{not_refused, passes_by}
+use Rattle.display_backend.specs.Stock.{Held}
+use Rattle.display_backend.proofs.Numbered.{AreLike, like_buffer, not_refused, passes_by}
 
 all_mapped : {X : Type 0} (Q R : X → Type 0) (f : X → X) → ((x : X) → Q x → R (f x)) → (xs : List X) → AllByRecursion Q xs → AllByRecursion R (map f xs)
 all_mapped Q R f so [] all = tt
@@ -115,7 +116,20 @@ module _ {P : Type 0} where
 
     -- the connector of a part changes
     changed : (part : ℕ) (k : Connector) → connectors.IsSound sc.frames k → IsSound bs (with_connector sc part k)
-    changed part k q = record s { connectors_are = all_set (connectors.IsSound sc.frames) sc.connectors part k s.connectors_are q }
+    changed part k q =
+        record {
+          frames_are = s.frames_are;
+          frames_lie = s.frames_lie;
+          connectors_are = all_set (connectors.IsSound sc.frames) sc.connectors part k s.connectors_are q;
+        }
+
+    -- another part asks
+    pub asked_scene : (part : ℕ) → IsSound bs (record sc { part = part })
+    asked_scene part = record { frames_are = s.frames_are; frames_lie = s.frames_lie; connectors_are = s.connectors_are }
+
+    -- other buffers, in which all framebuffers lie
+    lying : {Q : Type 0} (cs : List (Live Q)) → AllByRecursion (LiesInLive cs) sc.frames → IsSound cs sc
+    lying cs lie = record { frames_are = s.frames_are; frames_lie = lie; connectors_are = s.connectors_are }
 
     pub blanked_scene : (part : ℕ) → IsSound bs (after_blank_at sc part)
     blanked_scene part =
@@ -126,9 +140,9 @@ module _ {P : Type 0} where
     pub answered_scene : (made : P) (asks : Asked) (accepted : Bool) → (accepted ≡ true → verdict bs sc asks ≡ pos 0) → IsSound (replied_to bs made asks accepted) (scene_after bs sc asks accepted)
     answered_scene made (asked.Create c) true h =
         let b : Live P = record { buffer = made_of c; pages = made } in
-        record s { frames_lie = all_weaker (LiesInLive bs) (LiesInLive (with_buffer bs c made)) (lies_among_more bs b) sc.frames s.frames_lie }
+        lying (with_buffer bs c made) (all_weaker (LiesInLive bs) (LiesInLive (with_buffer bs c made)) (lies_among_more bs b) sc.frames s.frames_lie)
     answered_scene made (asked.Destroy cookie) true h =
-        record s { frames_lie = lie_without bs cookie sc.frames (unused_by (is_some (buffer_of cookie bs)) (is_used cookie sc.frames) (h refl)) s.frames_lie }
+        lying (without_buffer cookie bs) (lie_without bs cookie sc.frames (unused_by (is_some (buffer_of cookie bs)) (is_used cookie sc.frames) (h refl)) s.frames_lie)
     answered_scene made (asked.Attach a) true h = attached a (passes_by (attach_check sc.frames a (buffer_at a.dbuf_cookie bs)) (h refl))
     answered_scene made (asked.Detach fb) true h = detached fb
     answered_scene made (asked.Config c) true h =
@@ -145,3 +159,8 @@ module _ {P : Type 0} where
     answered_scene made (asked.Config c) false h = s
     answered_scene made (asked.Flip fb) false h = s
     answered_scene made asked.Other false h = s
+
+-- the buffers are the same, but for their pages
+pub like_scene : (bs cs : List Held) (sc : Scene) → AreLike bs cs → IsSound bs sc → IsSound cs sc
+like_scene bs cs sc e s =
+    lying bs sc s cs (all_weaker (LiesInLive bs) (LiesInLive cs) (λ f lies. subst (λ o. IsSomeAnd o (LiesIn f)) (like_buffer bs cs f.dbuf e) lies) sc.frames s.frames_lie)

@@ -44,7 +44,7 @@ denied_by other denied = denied
 pub record Settles {Y V : Type 0} (t : Table Y V) (site : Site) : Type 1 where
   pub Fine : Y → Type 0
   pub begun : (nodes : List NodeValue) → Fine (t.begun nodes)
-  pub taken : (y : Y) (words : List ℕ) → Fine y → Fine (t.taken y words)
+  pub taken : (y : Y) (part : ℕ) (words : List ℕ) → Fine y → Fine (t.taken y part words)
   pub dropped : (y : Y) → Fine y → Fine (t.dropped y)
   pub replied : (y : Y) (n : ℕ) (status : ℤ) → Fine y → Fine (t.replied y n status)
   pub tells : (old new : Y) (told : Evidence) (what : Said) → t.Tells site old told what new → Fine old → Fine new
@@ -93,7 +93,7 @@ module _ {Y V : Type 0} (t : Table Y V) (site : Site) (law : Settles t site) whe
 
   says_calm : (old new : Rows Y V) (told : Evidence) (what : Said) (words : List ℕ) → Tells t site old told what words new → IsCalm old → IsCalm new
   says_calm old new told (said.Request part id op) words x c =
-      subst (λ (r : Rows Y V). IsCalm r) (sym x.taken) (record { served = λ h e. x.serving; waits = c.waits; fine = law.taken old.service words c.fine })
+      subst (λ (r : Rows Y V). IsCalm r) (sym x.taken) (record { served = λ h e. x.serving; waits = c.waits; fine = law.taken old.service part words c.fine })
   says_calm old new told (said.Replied part id status notified) words x c =
       subst (λ (r : Rows Y V). IsCalm r) (sym x.done) (record { served = λ h e. none_some h e; waits = c.waits; fine = law.replied old.service old.replies status c.fine })
   says_calm old new told (said.Closed why) words x c =

@@ -78,7 +78,7 @@ module _ (site : Site) where
       record {
         Fine = IsFine;
         begun = λ nodes q e d. none_some q e;
-        taken = λ y words f q e d. false_true d;
+        taken = λ y part words f q e d. false_true d;
         dropped = λ y f q e d. false_true d;
         replied = λ y n status f. replied_fine y y.request n status f;
         tells = tells_fine;

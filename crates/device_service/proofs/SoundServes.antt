@@ -97,7 +97,7 @@ module _ {X A V Y M : Type 0} (D : Lawful X A V Y M) where
         let plan = take_plan (ring_page j) j.rsp in
         let fits = λ (c : Carried Learned) (e : Tells s w c). mapped_fits D w c (λ x. Took x) plan e.0.0
         (fits_take frames grants dom c.own.holds.held j (ring_own D w w.at j q at) (ring_held D w w.at j c.own.holds e.0 at) (λ x words. EndsSo D w x (Took words))
-        (λ words. ((refl, subst (λ y. AreSame c.own.holds.held (y ++ all_pages w.parts)) (sym (l.takes_pages w.service words)) e.0.1), (serving, empty, small, has_none w.at j empty at))))
+        (λ words. ((refl, subst (λ y. AreSame c.own.holds.held (y ++ all_pages w.parts)) (sym (l.takes_pages w.service w.at words)) e.0.1), (serving, empty, small, has_none w.at j empty at))))
         (found_any (λ f words. EndsFoundSo D w f (Took words)) (λ f words. ((λ why h. absurd (no_reason w.kept why none h)), λ ts. tt)) c.own.found plan (take_none (ring_page j) j.rsp)) in
         chosen D w v w p (mapped (λ x. Took x) plan) (λ n. []) (same_work D w v p q (mapped (λ x. Took x) plan) fits) o
 

@@ -99,7 +99,7 @@ module _ {X A V Y M : Type 0} (D : Lawful X A V Y M) where
   take_sane : (w : Work X V) (words : List ℕ) → IsSane D w → IsServing w → known.Has false w.service → IsSane D (settled s (site D) w (Took words))
   unfolding settled
   take_sane w words q serving has =
-      let k = l.takes w.service words q.sane has in
+      let k = l.takes w.service w.at words q.sane has in
       record { own = q.own; whole = q.whole; sane = k.0; opened = inr (serving, k.1); kept = q.kept }
 
   own_sane : (w : Work X V) (k : Carried Learned) (a : A) → IsSane D w → EndsWell D w k (Own a) → IsSane D (settled s (site D) w (Own a))

@@ -134,7 +134,7 @@ module _ {X A V Y M : Type 0} (D : Lawful X A V Y M) where
   tells_request : (w : Work X V) (k : Carried Learned) (words : List ℕ) (n : Naming M) → EndsWell D w k (Took words) → IsNamed D w n → TellsSo w k n (said.Request w.at (hand_in w.at words).id (hand_in w.at words).op) words [] (settled s (site D) w (Took words)) n
   unfolding settled
   tells_request w k words n e named =
-      let b = l.takes_shows w.service words n.service named in (
+      let b = l.takes_shows w.service w.at words n.service named in (
         b.0,
         record {
           move = record { serving = e.0.0; part_is = e.0.2; id_is = refl; op_is = refl; none = e.0.1; taken = ap (λ (y : Y). let x : Rows Y V = record (row w n) { hand = Some (hand_in w.at words); service = y } in x) b.1 };

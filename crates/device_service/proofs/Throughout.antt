@@ -75,7 +75,7 @@ module _ {X A V Y M : Type 0} (D : Lawful X A V Y M) (w : Work X V) (k : Carried
       let plan = take_from (slice_get p.links.items part) in
       let f = (fits_during D w (mapped Took plan) k g).1 in
       let n = stays frames (IsProper frames grants dom) (λ h y. EndsSo D w h (Took y)) k.own.holds plan (in_take (slice_get p.links.items part)) (fits_before frames (IsProper frames grants dom) Took (EndsSo D w) k.own.holds plan f) in
-      sym (ap (times x) n.3) ∙ (n.2.0.1 x ∙ ap (λ hs. times x (hs ++ all_pages w.parts)) (l.takes_pages w.service n.1))
+      sym (ap (times x) n.3) ∙ (n.2.0.1 x ∙ ap (λ hs. times x (hs ++ all_pages w.parts)) (l.takes_pages w.service w.at n.1))
 
   sleeping_holds : (p : Parts) → Good D (During w (mapped Slept (of_parts.sleep_left p))) k → HoldsJust (held_pages s w)
   unfolding settled of_parts.sleep_left

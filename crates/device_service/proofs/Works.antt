@@ -81,7 +81,7 @@ module _ {X A V : Type 0} (s : Service X A V) (site : Site) where
       (turn_ends (device s site) f w p access x q event (Between v) t h (ap (λ (u : Work X V). Between u) n))
 
   -- what the end of an activity makes of the work
-  pub settled_take : (w : Work X V) (words : List ℕ) (h : Hand) (n : ℕ) (js : List Joined) (x : X) → js ≡ w.parts → h ≡ hand_in w.at words → n ≡ w.left - 1 → x ≡ s.taken w.service words → record w { parts = js; hand = Some h; left = n; service = x } ≡ settled s site w (Took words)
+  pub settled_take : (w : Work X V) (words : List ℕ) (h : Hand) (n : ℕ) (js : List Joined) (x : X) → js ≡ w.parts → h ≡ hand_in w.at words → n ≡ w.left - 1 → x ≡ s.taken w.service w.at words → record w { parts = js; hand = Some h; left = n; service = x } ≡ settled s site w (Took words)
   unfolding settled
   settled_take w words h n js x p e f k =
       ap (λ (y : List Joined). record w { parts = y; hand = Some h; left = n; service = x }) p

@@ -134,12 +134,13 @@ pub record Laws {X A V Y M : Type 0} (s : Service X A V) (t : Table Y V) (r : Sh
   pub bare : (x : X) (m : M) → known.Named x m → s.pages x ≡ [] → r.names x m ≡ []
   -- 5. a request comes in hand
   pub takes :
-      (x : X) (words : List ℕ) → known.Sane x → known.Has false x → known.Sane (s.taken x words) × known.Has true (s.taken x words)
-  pub takes_pages : (x : X) (words : List ℕ) → s.pages (s.taken x words) ≡ s.pages x
+      (x : X) (part : ℕ) (words : List ℕ) → known.Sane x → known.Has false x
+      → known.Sane (s.taken x part words) × known.Has true (s.taken x part words)
+  pub takes_pages : (x : X) (part : ℕ) (words : List ℕ) → s.pages (s.taken x part words) ≡ s.pages x
   pub takes_shows :
-      (x : X) (words : List ℕ) (m : M) → known.Named x m
-      → known.Named (s.taken x words) m × (r.rows (s.taken x words) m ≡ t.taken (r.rows x m) words)
-      × (r.names (s.taken x words) m ≡ r.names x m)
+      (x : X) (part : ℕ) (words : List ℕ) (m : M) → known.Named x m
+      → known.Named (s.taken x part words) m × (r.rows (s.taken x part words) m ≡ t.taken (r.rows x m) part words)
+      × (r.names (s.taken x part words) m ≡ r.names x m)
   -- 6. what it leads to
   pub begins :
       (x y : X) (p : Plan A) → known.Sane x → known.Has true x → s.ready x ≡ false → Leads (s.job site x) y p

@@ -26,7 +26,7 @@ refusing =
       pages = λ x. [];
       stripped = λ x. x;
       dropped = λ x. None;
-      taken = λ x words. Some (slice_index words 0);
+      taken = λ x part words. Some (slice_index words 0);
       ready = λ x. true;
       job = λ site x. Works x (Finished tt);
       reply = reply_to;
@@ -50,7 +50,7 @@ refused =
     record {
       kind = Ringed;
       begun = λ nodes. tt;
-      taken = λ y words. tt;
+      taken = λ y part words. tt;
       dropped = λ y. tt;
       Tells = λ site old told what new. ⊥;
       Serves = λ site old e told what new. ⊥;

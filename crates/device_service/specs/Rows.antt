@@ -37,8 +37,8 @@ pub record Evidence : Type 0 where
 pub record Table (Y V : Type 0) : Type 1 where
   pub kind : Kind
   pub begun : List NodeValue → Y
-  -- a request of these words comes in hand; it is dropped
-  pub taken : Y → List ℕ → Y
+  -- by this part a request of these words comes in hand; it is dropped
+  pub taken : Y → (part : ℕ) → List ℕ → Y
   pub dropped : Y → Y
   -- what is said of the request in hand before its answer, of an event that waited, and of one that was owed
   pub Tells : Site → Y → Evidence → Said → Y → Type 0
@@ -114,7 +114,7 @@ module _ {Y V : Type 0} (t : Table Y V) where
     pub id_is : id ≡ (hand_in part words).id
     pub op_is : op ≡ (hand_in part words).op
     pub none : old.hand ≡ None
-    pub taken : new ≡ record old { hand = Some (hand_in part words); service = t.taken old.service words }
+    pub taken : new ≡ record old { hand = Some (hand_in part words); service = t.taken old.service part words }
 
   -- the request in hand is answered
   pub record Replies (old : Rows Y V) (part id : ℕ) (status : ℤ) (new : Rows Y V) : Type 0 where

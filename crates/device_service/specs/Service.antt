@@ -37,8 +37,8 @@ pub record Service (X A V : Type 0) : Type 0 where
   pub pages : X → List Hold
   pub stripped : X → X
   pub dropped : X → X
-  -- a request of these words comes in hand; it is to be answered next, or leads to something before
-  pub taken : X → List ℕ → X
+  -- by this part a request of these words comes in hand; it is to be answered next, or leads to something before
+  pub taken : X → (part : ℕ) → List ℕ → X
   pub ready : X → Bool
   pub job : Site → X → Job X A
   pub reply : X → List ℕ

@@ -307,7 +307,7 @@ module _ {X A V : Type 0} (s : Service X A V) where
 
   unfoldable pub settled : Site → Work X V → End A V → Work X V
   settled site w (Saw l) = after_look site w l
-  settled site w (Took words) = record w { hand = Some (hand_in w.at words); left = w.left - 1; service = s.taken w.service words }
+  settled site w (Took words) = record w { hand = Some (hand_in w.at words); left = w.left - 1; service = s.taken w.service w.at words }
   settled site w (Own a) = record w { service = s.after w.service a }
   settled site w (Done a) = record w { waiting = behind w.waiting; service = s.after w.service a }
   settled site w (Answered notified) = after_answer w w.hand

@@ -116,10 +116,10 @@ pub trait Serve {
         ensures knows { knows self.new ≡ service.begun nodes.now }
         ensures idle { going self.new ≡ false };
 
-    /// A request of these words comes in hand.
-    fn take(&mut self, words: &[u32; 16])
+    /// By this part a request of these words comes in hand.
+    fn take(&mut self, part: u8, words: &[u32; 16])
         requires idle { going self.old ≡ false }
-        ensures knows { knows self.new ≡ service.taken (knows self.old) words.now }
+        ensures knows { knows self.new ≡ service.taken (knows self.old) part words.now }
         ensures idle { going self.new ≡ false };
 
     /// Whether the request in hand is to be answered next.

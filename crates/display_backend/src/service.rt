@@ -264,7 +264,7 @@ impl Serve for Service {
         self.progress = Progress::Decided;
     }
 
-    fn take(&mut self, words: &[u32; 16]) {
+    fn take(&mut self, _part: u8, words: &[u32; 16]) {
         self.hand = Some(decode(words));
         self.progress = Progress::Decided;
     }

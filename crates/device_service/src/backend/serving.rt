@@ -274,7 +274,7 @@ impl<S: Serve + Drop> Backend<S> {
             return Step { access, said: None };
         };
         let hand = hand_of(self.at, &taken);
-        self.service.take(&taken);
+        self.service.take(self.at, &taken);
         self.hand = Some(hand);
         self.left = self.left.saturating_sub(1);
         self.activity = Activity::Between;

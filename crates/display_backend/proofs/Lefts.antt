@@ -9,6 +9,8 @@ use Rattle.displ_wire.specs.declared.Create.{Create}
 use Rattle.display_buffers.specs.Buffers.{AreDistinct, IsFresh, buffer_of, check_of, cookies, has_cookie, is_in_range, made_of, with_buffer, without_buffer}
 use Rattle.display_buffers.proofs.Checks.{answer_of}
 use Rattle.display_buffers.proofs.Rows.{without_fresh}
+use Rattle.displ_wire.specs.declared.buffer.Buffer.{Buffer}
+use Rattle.display_backend.specs.Scene.{buffer_at}
 use Rattle.display_backend.specs.Stock.{Held, with_pages}
 use Rattle.display_backend.proofs.Gets.{get_drop}
 use Rattle.display_backend.specs.Left.{left_in, pages_at, less_at, IsFirst}
@@ -29,6 +31,23 @@ live_left cookie (b ∷ bs) [] = same (has_cookie cookie b) (live_left cookie bs
 live_left cookie (b ∷ bs) (n ∷ ns) = same (has_cookie cookie b) (live_left cookie bs ns)
   where
     same : (t : Bool) → is_some (buffer_of cookie (left_in bs ns)) ≡ is_some (buffer_of cookie bs) → is_some (cond t (Some (with_pages b (drop n b.pages))) (buffer_of cookie (left_in bs ns))) ≡ is_some (cond t (Some b) (buffer_of cookie bs))
+    same true later = refl
+    same false later = later
+
+-- nor does the buffer of a cookie
+abbrev of_live : Option Held → Option Buffer
+of_live o = option_map (λ b. b.buffer) o
+
+pub buffer_left : (cookie : ℕ) (bs : List Held) (gone : List ℕ) → buffer_at cookie (left_in bs gone) ≡ buffer_at cookie bs
+buffer_left cookie [] gone = refl
+buffer_left cookie (b ∷ bs) [] = same (has_cookie cookie b) (buffer_left cookie bs [])
+  where
+    same : (t : Bool) → buffer_at cookie (left_in bs []) ≡ buffer_at cookie bs → of_live (cond t (Some b) (buffer_of cookie (left_in bs []))) ≡ of_live (cond t (Some b) (buffer_of cookie bs))
+    same true later = refl
+    same false later = later
+buffer_left cookie (b ∷ bs) (n ∷ ns) = same (has_cookie cookie b) (buffer_left cookie bs ns)
+  where
+    same : (t : Bool) → buffer_at cookie (left_in bs ns) ≡ buffer_at cookie bs → of_live (cond t (Some (with_pages b (drop n b.pages))) (buffer_of cookie (left_in bs ns))) ≡ of_live (cond t (Some b) (buffer_of cookie bs))
     same true later = refl
     same false later = later
 

@@ -6,6 +6,7 @@ pub mod HeldThroughout
 pub mod Hosts
 pub mod Keeps
 pub mod Lefts
+pub mod Mapped
 pub mod Names
 pub mod Numbered
 pub mod Order

@@ -1,6 +1,7 @@
 pub mod Course
 pub mod CourseFacts
 pub mod Display
+pub mod Interim
 pub mod Kept
 pub mod Known
 pub mod Laws
@@ -9,6 +10,7 @@ pub mod Names
 pub mod Reply
 pub mod Scene
 pub mod Service
+pub mod Showing
 pub mod Stock
 pub mod Store
 pub mod Verdict

@@ -4,6 +4,8 @@ use Rattle.std.specs.Prelude.{ℕ, Bool, true, List, [], map, Option, option_map
 use Rattle.std.specs.List.{AllByRecursion}
 use Rattle.displ_wire.specs.declared.Asked.{Asked}
 use Rattle.displ_wire.specs.declared.Asked.TheVariants as asked
+use Rattle.displ_wire.specs.declared.Attach.{Attach}
+use Rattle.displ_wire.specs.declared.Config.{Config}
 use Rattle.displ_wire.specs.declared.buffer.Buffer.{Buffer}
 use Rattle.display_buffers.specs.declared.live.Live.{Live}
 use Rattle.display_buffers.specs.Buffers.{buffer_of}
@@ -43,13 +45,26 @@ pending_at sc part = pending_of (connector_at sc part)
 abbrev pub buffer_at : {P : Type 0} → ℕ → List (Live P) → Option Buffer
 buffer_at cookie bs = option_map (λ b. b.buffer) (buffer_of cookie bs)
 
--- An accepted ATTACH makes a framebuffer and a DETACH takes one away, from each connector that shows it too; a SET_CONFIG and a FLIP
--- are of the connector that asks.
+-- a framebuffer comes; one goes, from each connector that shows it or is to show it too
+abbrev pub attached : {P : Type 0} → List (Live P) → Attach → Scene → Scene
+attached bs a sc = record sc { frames = with_frame sc.frames a (buffer_at a.dbuf_cookie bs) }
+
+abbrev pub detached : ℕ → Scene → Scene
+detached fb sc = record sc { frames = without_frame fb sc.frames; connectors = map (after_detach fb) sc.connectors }
+
+-- the connector that asks is configured; a flip is pending on it
+abbrev pub configured : Config → Scene → Scene
+configured c sc = with_connector sc sc.part (after_config (asking sc) c)
+
+abbrev pub flipped : ℕ → Scene → Scene
+flipped fb sc = with_connector sc sc.part (after_flip (asking sc) fb)
+
+-- what the answer to a request makes of it, where it is accepted or not
 abbrev pub scene_after : {P : Type 0} → List (Live P) → Scene → Asked → Bool → Scene
-scene_after bs sc (asked.Attach a) true = record sc { frames = with_frame sc.frames a (buffer_at a.dbuf_cookie bs) }
-scene_after bs sc (asked.Detach fb) true = record sc { frames = without_frame fb sc.frames; connectors = map (after_detach fb) sc.connectors }
-scene_after bs sc (asked.Config c) true = with_connector sc sc.part (after_config (asking sc) c)
-scene_after bs sc (asked.Flip fb) true = with_connector sc sc.part (after_flip (asking sc) fb)
+scene_after bs sc (asked.Attach a) true = attached bs a sc
+scene_after bs sc (asked.Detach fb) true = detached fb sc
+scene_after bs sc (asked.Config c) true = configured c sc
+scene_after bs sc (asked.Flip fb) true = flipped fb sc
 scene_after bs sc asks accepted = sc
 
 -- the pending flip of a part is done

@@ -1,5 +1,5 @@
 -- What the code of a service does, by its view to the order of work.
-use Rattle.std.specs.Prelude.{◌≡◌, ◌⊎◌, Bool, true, false, Option, Some, None}
+use Rattle.std.specs.Prelude.{◌≡◌, ◌⊎◌, ℕ, Bool, true, false, List, Option, Some, None}
 use Rattle.pv_words.specs.declared.access.Access.{Access}
 use Rattle.pv_words.specs.declared.device.Said.{Said}
 use Rattle.pv_words.specs.Memory.{place_of}
@@ -8,7 +8,7 @@ use Rattle.device_core.specs.Order.{is_in_page}
 use Rattle.device_service.specs.declared.deed.Now.{Now}
 use Rattle.device_service.specs.declared.deed.Now.TheVariants.{Answers, GoesOn, Over}
 pub use Rattle.device_service.specs.Dropping.{Drops, MayDrop}
-use Rattle.device_service.specs.Service.{Job, Works, Starves, Deed, Runs, Raises, Service}
+use Rattle.device_service.specs.Service.{Job, Works, Starves, Owed, Deed, Runs, Raises, Service}
 
 -- an activity of the service is under way
 abbrev pub is_going : Now → Bool
@@ -19,6 +19,16 @@ is_going other = false
 abbrev pub is_raise : {A : Type 0} → Deed A → Bool
 is_raise (Runs p) = false
 is_raise (Raises words) = true
+
+-- the words of the event that a waiting one leads to, where it is to be raised, once in_prod is known
+abbrev pub words_of : {A : Type 0} → Deed A → (prod : ℕ) → Option (List ℕ)
+words_of (Runs p) prod = None
+words_of (Raises words) prod = Some (words prod)
+
+-- the part to which an event is owed
+abbrev pub part_owed : Option Owed → Option ℕ
+part_owed None = None
+part_owed (Some o) = Some o.part
 
 -- the next access of what a request leads to may be made, whatever comes of memory
 abbrev pub MayJob : {X A : Type 0} → (Want → Type 0) → Job X A → Type 0

@@ -1,6 +1,6 @@
 //! What a service gives, and owes.
 
-ghost use Rattle.std.specs.Prelude.{◌≡◌, ◌<◌, ◌==◌, ℕ, Bool, List, [], Option, Some, None, false, length, slice_get, true};
+ghost use Rattle.std.specs.Prelude.{◌≡◌, ◌<◌, ◌==◌, ℕ, Bool, List, [], Option, Some, false, length, slice_get, true};
 ghost use Rattle.pv_words.specs.declared.device.HostEvent.{HostEvent};
 ghost use Rattle.pv_words.specs.declared.device.NodeValue.{NodeValue};
 ghost use Rattle.pv_words.specs.declared.device.State.{State};
@@ -12,17 +12,17 @@ ghost use Rattle.device_core.specs.Site.{Site};
 ghost use Rattle.device_service.specs.Claims.{KeepsLaws, site_of};
 ghost use Rattle.device_service.specs.Laws.{Facts};
 ghost use Rattle.device_service.specs.Nodes.{kind_in};
-ghost use Rattle.device_service.specs.Operating.{Begins, Continues, Drops, MayDeed, MayDrop, MayJob, Serves, is_going, is_raise};
+ghost use Rattle.device_service.specs.Operating.{Begins, Continues, Drops, MayDeed, MayDrop, MayJob, Serves, is_going, is_raise, part_owed, words_of};
 ghost use Rattle.device_service.specs.Reading.{Shows};
 ghost use Rattle.device_service.specs.Rows.{Table};
-ghost use Rattle.device_service.specs.Service.{Service};
+ghost use Rattle.device_service.specs.Service.{Owed, Service};
 ghost use Rattle.device_service.specs.Throughout.{HoldsThroughout};
 
 use crate::deed::Deed;
-use pv_words::{Access, DomId, Hold, HostEvent, Words};
+use pv_words::{Access, DomId, Hold, HostEvent, Said, Words};
 use xenbus_states::Nodes;
 
-/// The service of a device: what of its work isn't the same for every device. It raises no event yet.
+/// The service of a device: what of its work isn't the same for every device.
 pub trait Serve {
     /// What it knows between two activities.
     ghost Known: { Type 0 };
@@ -84,11 +84,6 @@ pub trait Serve {
     /// An event of the host is refused where the backend isn't connected, or else 64 wait.
     ghost refuses: { (b : State) (es : List Self.Event) (e : HostEvent) → service.refusal b es e ≡ refusal_of b es };
 
-    /// It raises no event, and owes none.
-    ghost raises_none: { (x : Known) (e : Self.Event) → is_raise (service.event x e) ≡ false };
-
-    ghost owes_none: { (x : Known) → service.owes x ≡ None };
-
     /// It keeps its laws.
     fn keeps_laws()
         ensures { KeepsLaws service table shows known };
@@ -137,15 +132,41 @@ pub trait Serve {
         ensures going { going self.new ≡ is_going result.now }
         ensures domain { is_of dom.0 self.new ≡ true };
 
-    /// The first step of what a waiting event leads to.
+    /// The first step of what a waiting event leads to, where it raises none.
     fn serve<W: Words>(&mut self, dom: DomId, parts: u8, words: &mut W, event: Self::Event) -> Deed
         requires idle { going self.old ≡ false }
+        requires runs { is_raise (service.event (knows self.old) event) ≡ false }
         requires may { MayDeed (W.may words.old) (service.event (knows self.old) event) }
         ensures serves { Serves service (knows self.old) (service.event (knows self.old) event) result.access result.now result.said (knows self.new) (left (site_of (W.frames_of words.old) (W.grants_of words.old) dom.0 parts) self.new) }
         ensures made { Makes W.makes words.old result.access words.new }
         ensures stays { AccessIn (holds self.old) result.access }
         ensures going { going self.new ≡ is_going result.now }
         ensures domain { is_of dom.0 self.new ≡ true };
+
+    /// The words of the event that a waiting one leads to, where it is to be raised, once in_prod is known.
+    fn event_words(&self, event: Self::Event, prod: u32) -> Option<[u32; 16]>
+        ensures { result ≡ words_of (service.event (knows self.now) event) prod };
+
+    /// The part to which an event is owed.
+    fn owed_part(&self) -> Option<u8>
+        ensures { result ≡ part_owed (service.owes (knows self.now)) };
+
+    /// The words of the event that is owed, once in_prod is known.
+    fn owed_words(&self, prod: u32) -> [u32; 16]
+        ensures { (o : Owed) → service.owes (knows self.now) ≡ Some o → result ≡ o.words prod };
+
+    /// The event was put, for one that waited or as it was owed; what is said of it.
+    fn put(&mut self, event: Option<Self::Event>) -> Said
+        requires idle { going self.old ≡ false }
+        ensures said { result ≡ service.put (knows self.old) event }
+        ensures knows { knows self.new ≡ service.after_put (knows self.old) event }
+        ensures idle { going self.new ≡ false };
+
+    /// There was no room for it.
+    fn found_full(&mut self, event: Option<Self::Event>)
+        requires idle { going self.old ≡ false }
+        ensures knows { knows self.new ≡ service.after_full (knows self.old) event }
+        ensures idle { going self.new ≡ false };
 
     /// The next step of the activity under way.
     fn go_on<W: Words>(&mut self, dom: DomId, parts: u8, words: &mut W) -> Deed

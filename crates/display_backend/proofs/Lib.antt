@@ -1,4 +1,5 @@
 pub mod Answering
+pub mod Events
 pub mod Freeing
 pub mod Gets
 pub mod HasWork

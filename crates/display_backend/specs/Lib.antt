@@ -1,7 +1,6 @@
 pub mod Course
 pub mod CourseFacts
 pub mod Display
-pub mod Interim
 pub mod Kept
 pub mod Known
 pub mod Laws

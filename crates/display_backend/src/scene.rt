@@ -4,8 +4,9 @@ ghost use Rattle.std.specs.Prelude.{◌≡◌, length};
 
 use crate::store::Store;
 use connectors::Connector;
-use displ_wire::{Asked, Attach, Config, Refused};
+use displ_wire::{Asked, Attach, Config, Refused, encode_event};
 use framebuffers::Frames;
+use pv_words::Said;
 use std::alloc::{AllocError, Global};
 
 // How many connectors a display has at most.
@@ -22,11 +23,12 @@ pub struct Scene {
 }
 
 impl Scene {
-    ghost use Rattle.std.specs.Prelude.{IfOk, IsSome, Ok, pos, true};
+    ghost use Rattle.std.specs.Prelude.{IfOk, IsSome, Ok, option_map, pos, true};
     ghost use Rattle.framebuffers.specs.Frames.{attach_check, detach_check, frame_of, is_used};
     ghost use Rattle.connectors.specs.Connectors.{config_check, flip_check};
     ghost use Rattle.display_backend.specs.Scene.{after_blank_at, asking, buffer_at, configured, connector_at, detached, flipped};
     ghost use Rattle.display_backend.specs.Scene.{no_scene, pending_at, scene_after, with_connector};
+    ghost use Rattle.display_backend.specs.Service.{flip_words, flipped_at, raised_at};
     ghost use Rattle.display_backend.specs.Showing.{scene_of};
     ghost use Rattle.display_backend.specs.Store.{stock_of};
     ghost use Rattle.display_backend.specs.Verdict.{verdict};
@@ -183,5 +185,25 @@ impl Scene {
         let mut connector = self.connector(part);
         let _ = connector.blank();
         self.set(part, connector);
+    }
+
+    /// The words of the event that the pending flip of this part is done, by in_prod.
+    pub fn flip_words(&self, part: u8, prod: u32) -> Option<[u32; 16]>
+        ensures { result ≡ option_map (λ fb. flip_words fb prod) (pending_at (scene_of self.now) part) }
+    {
+        let fb = self.pending(part)?;
+        Some(encode_event((prod % 65536) as u16, fb))
+    }
+
+    /// The event of the pending flip of this part was put, so the flip is done; what is said of it.
+    pub fn raised(&mut self, part: u8) -> Said
+        ensures said { result ≡ raised_at part (pending_at (scene_of self.old) part) }
+        ensures done { scene_of self.new ≡ flipped_at (scene_of self.old) part (pending_at (scene_of self.old) part) }
+    {
+        let Some(fb) = self.pending(part) else {
+            return Said::Full(part);
+        };
+        self.blank(part);
+        Said::Raised(part, fb)
     }
 }

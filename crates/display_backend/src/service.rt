@@ -199,9 +199,8 @@ impl Serve for Service {
 
     ghost use Rattle.std.specs.Prelude.{ℕ, List, refl};
     ghost use Rattle.display_backend.specs.Known.{known_of, going_of, left_of, is_of, held_of};
-    ghost use Rattle.display_backend.specs.Service.{Known, Ending, Lines, display, shows, table};
+    ghost use Rattle.display_backend.specs.Service.{Known, Ending, Lines, display, flipped_for, put_for, shows, table};
     ghost use Rattle.display_backend.specs.Kept.{facts, holds_pages, stays_bare, whole_replies};
-    ghost use Rattle.display_backend.specs.Interim.{raises_none};
 
     ghost Known = { Known };
 
@@ -240,10 +239,6 @@ impl Serve for Service {
     ghost whole_replies = { whole_replies };
 
     ghost refuses = { λ b es e. refl };
-
-    ghost raises_none = { raises_none };
-
-    ghost owes_none = { λ x. refl };
 
     fn keeps_laws() {}
 
@@ -316,6 +311,40 @@ impl Serve for Service {
             said: Some(said_of(event)),
             now: Now::Over,
         }
+    }
+
+    fn event_words(&self, event: Waiting, prod: u32) -> Option<[u32; 16]> {
+        match event {
+            Waiting::Blank(part) => self.scene.flip_words(part, prod),
+            Waiting::Show(_) => None,
+        }
+    }
+
+    fn owed_part(&self) -> Option<u8> {
+        None
+    }
+
+    fn owed_words(&self, prod: u32) -> [u32; 16] {
+        [0; 16]
+    }
+
+    fn put(&mut self, event: Option<Waiting>) -> Said
+        requires idle { going_of self.old ≡ false }
+        ensures said { result ≡ put_for (known_of self.old) event }
+        ensures knows { known_of self.new ≡ flipped_for (known_of self.old) event }
+        ensures idle { going_of self.new ≡ false }
+    {
+        match event {
+            Some(Waiting::Blank(part)) => self.scene.raised(part),
+            Some(Waiting::Show(_)) | None => Said::Full(0),
+        }
+    }
+
+    fn found_full(&mut self, event: Option<Waiting>)
+        requires idle { going_of self.old ≡ false }
+        ensures knows { known_of self.new ≡ known_of self.old }
+        ensures idle { going_of self.new ≡ false }
+    {
     }
 
     fn go_on<W: Words>(&mut self, dom: DomId, parts: u8, words: &mut W) -> Deed {

@@ -172,7 +172,7 @@ module _ (frames grants : ℕ → ℕ) (dom parts : ℕ) where
       are_same (grants dom) dom (pages_of st) (pages_of (stock_after st q.asked accepted)) (answer_same st q.asked accepted sane.1.distinct is.0) sane.0,
       answer_sound st q.asked accepted sane.1 is.0,
       subst (λ (bs : List Held). IsSound bs (scene_after st.buffers sc q.asked accepted)) (sym (answer_buffers st q.asked accepted))
-      (answered_scene st.buffers sc sane.2 st.mapped q.asked accepted (accepted_at p (verdict st.buffers sc q.asked))),
+          (answered_scene st.buffers sc sane.2 st.mapped q.asked accepted (accepted_at p (verdict st.buffers sc q.asked))),
     )
 
   abbrev known : Stock → Scene → Option Request → Progress → Known
@@ -194,7 +194,7 @@ module _ (frames grants : ℕ → ℕ) (dom parts : ℕ) where
         answer_all st n m named q.asked a,
         (q, refl, same_status (is_denied p) st.buffers m sc q.asked status is.1),
         ap (λ (z : List (Live ℕ)). let y : Lines = record { request = None; denied = false; buffers = z; scene = scene_after st.buffers sc q.asked a } in y) (answer_rows st n m named q.asked a)
-        ∙ ap (λ (z : Scene). let y : Lines = record { request = None; denied = false; buffers = replied_to (numbered st.buffers m) n q.asked a; scene = z } in y) (same_scene st.buffers m sc q.asked a),
+            ∙ ap (λ (z : Scene). let y : Lines = record { request = None; denied = false; buffers = replied_to (numbered st.buffers m) n q.asked a; scene = z } in y) (same_scene st.buffers m sc q.asked a),
         λ sight. answer_names st n m named q.asked a sight s.1.distinct is.0 ∙ ap (λ (x : Option ℕ). with_name (all_drawn sight (live_names st.buffers m)) x (words_in sight (cond (is_creation q.asked && a) (cells_of st.mapped) []))) (made_cond (is_creation q.asked && a) n),
       )
 
@@ -410,17 +410,21 @@ module _ (frames grants : ℕ → ℕ) (dom parts : ℕ) where
   ends_told x f ts (Listed (walked.Pages ps)) m what e named i = let wrong : ⊥ = cc in absurd wrong
   ends_told x f ts (Listed (walked.Refused why)) m what e named i =
       let w = e.0.0 in
-      subst (λ z. IsOfService z × IsNamed (after_end x (Listed (walked.Refused why))) m × table.Tells site (shows.rows x m) (evidence shows x m ts f) z (shows.rows (after_end x (Listed (walked.Refused why))) m) × (live_names x.stock.buffers m ≡ live_names x.stock.buffers m)) (same_said _ _ i)
-      (tt, named, record {
-        request = w.request;
-        create = w.create;
-        in_hand = w.in_hand;
-        creates = w.creating.0;
-        accepted = same_verdict x.stock.buffers m x.scene w.request.asked ∙ w.creating.1;
-        first = ap is_denied w.decided;
-        reason = e.1 w.request w.create w.in_hand w.creating.0;
-        left = refl;
-      }, refl)
+      subst (λ z. IsOfService z × IsNamed (after_end x (Listed (walked.Refused why))) m × table.Tells site (shows.rows x m) (evidence shows x m ts f) z (shows.rows (after_end x (Listed (walked.Refused why))) m) × (live_names x.stock.buffers m ≡ live_names x.stock.buffers m)) (same_said _ _ i) (
+        tt,
+        named,
+        record {
+          request = w.request;
+          create = w.create;
+          in_hand = w.in_hand;
+          creates = w.creating.0;
+          accepted = same_verdict x.stock.buffers m x.scene w.request.asked ∙ w.creating.1;
+          first = ap is_denied w.decided;
+          reason = e.1 w.request w.create w.in_hand w.creating.0;
+          left = refl;
+        },
+        refl,
+      )
   ends_told x f ts Freed m what e named i = let wrong : ⊥ = cc in absurd wrong
   ends_told x f ts (Served v) m what e named i = absurd e.0
 
@@ -491,7 +495,7 @@ module _ (frames grants : ℕ → ℕ) (dom parts : ℕ) where
   raises : (x : Known) (e : Option Waiting) (part : ℕ) → IsSane x → HasCome false x → IsRaise display x e part → Left x (flipped_for x e) × Left x x
   raises x e part s h i = (
     by_raise x (λ z what y. Left x y) e part i
-    (λ fb is. ((s.0, s.1, blanked_scene x.stock.buffers x.scene s.2 part), (h.0, come_still x.stock x.scene (after_blank_at x.scene part) x.progress x.request h.0 h.1), refl)),
+        (λ fb is. ((s.0, s.1, blanked_scene x.stock.buffers x.scene s.2 part), (h.0, come_still x.stock x.scene (after_blank_at x.scene part) x.progress x.request h.0 h.1), refl)),
     (s, h, refl),
   )
 
@@ -507,7 +511,7 @@ module _ (frames grants : ℕ → ℕ) (dom parts : ℕ) where
   full_told : (x : Known) (e : Option Waiting) (part : ℕ) (m : List ℕ) (told : Evidence) → IsRaise display x e part → law.IsTold table site e (shows.rows x m) told (said.Full part) (shows.rows x m)
   full_told x e part m told i =
       by_raise x (λ z what y. law.IsTold table site z (shows.rows x m) told (said.Full part) (shows.rows x m)) e part i
-      (λ fb is. (refl, subst IsSome (sym is) tt, refl))
+      (λ fb is. (refl, subst IsSome (sym is) refl, refl))
 
   flip_short : (part : ℕ) (o : Option ℕ) (words : ℕ → List ℕ) (n : ℕ) → blank_of part o ≡ Raises words → length (words n) ≤ 16
   flip_short part None words n event = let wrong : ⊥ = cc in absurd wrong

@@ -1,5 +1,5 @@
 -- What a display shows stays sound: each framebuffer lies in a live display buffer, each picture in a live framebuffer.
-use Rattle.std.proofs.Common.{◌≡◌, ◌≢◌, ℕ, zero, suc, Bool, true, false, cond, ◌==◌, ◌||◌, List, [], ◌∷◌, ◌++◌, map, get_or, set, Option, Some, None, Ok, option_map, is_some, pos, IsSomeAnd, refl, sym, ap, ◌∙◌, subst, eq-eqb}
+use Rattle.std.proofs.Common.{◌≡◌, ◌≢◌, ℕ, zero, suc, Bool, true, false, cond, ◌==◌, ◌||◌, List, [], ◌∷◌, ◌++◌, map, get_or, set, Option, Some, None, Ok, option_map, is_some, pos, IsSomeAnd, refl, sym, ap, ◌∙◌, arith, subst, eq-eqb}
 use Rattle.std.proofs.lemmas.Bool.{or_parts, true≢false}
 use Rattle.std.proofs.lemmas.List.Folds.{find-append}
 use Rattle.std.specs.List.{AllByRecursion}
@@ -70,7 +70,7 @@ module _ {P : Type 0} where
       record {
         frames_are = record { few = record { at_most = omega arith; distinct = tt }; have_pixels = tt };
         frames_lie = tt;
-        connectors_are = (first, first, first, first, tt);
+        connectors_are = (first, (first, (first, (first, tt))));
       }
 
   -- a buffer more, and one less that no framebuffer is of

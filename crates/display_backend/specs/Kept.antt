@@ -20,34 +20,36 @@ use Rattle.display_backend.specs.declared.course.Course.TheVariants.{Rests, Walk
 use Rattle.display_backend.specs.declared.course.Progress.{Progress}
 use Rattle.display_backend.specs.declared.course.Progress.TheVariants as progress
 use Rattle.display_backend.specs.declared.waiting.Waiting.{Waiting}
+use Rattle.display_backend.specs.declared.waiting.Waiting.TheVariants as waiting
 use Rattle.display_backend.specs.Course.{is_under_way, pages_walked, stock_at}
+use Rattle.display_backend.specs.Scene.{IsSound, Scene, pending_at}
 use Rattle.display_backend.specs.Service.{Known, Ending, Listed, Freed, Served, reply_for, display}
 use Rattle.display_backend.specs.Verdict.{verdict}
 use Rattle.display_backend.specs.Stock.{Stock, Held, pages_of, buffer_pages, pages_under, with_pages, all_bared, stripped}
 
 -- the request in hand is a CREATE that is accepted, or a DESTROY of this cookie
-abbrev pub IsCreating : Stock → Request → Create → Type 0
-IsCreating stock q c = (q.asked ≡ asked.Create c) × (verdict stock.buffers q.asked ≡ pos 0)
+abbrev pub IsCreating : Stock → Scene → Request → Create → Type 0
+IsCreating stock sc q c = (q.asked ≡ asked.Create c) × (verdict stock.buffers sc q.asked ≡ pos 0)
 
-abbrev pub IsDestroying : Stock → Request → ℕ → Type 0
-IsDestroying stock q cookie = (q.asked ≡ asked.Destroy cookie) × (verdict stock.buffers q.asked ≡ pos 0)
+abbrev pub IsDestroying : Stock → Scene → Request → ℕ → Type 0
+IsDestroying stock sc q cookie = (q.asked ≡ asked.Destroy cookie) × (verdict stock.buffers sc q.asked ≡ pos 0)
 
 -- How far the request in hand has come: pages are mapped for an accepted CREATE alone, and those of the buffer of an accepted
 -- DESTROY are unmapped.
-abbrev pub HasComeTo : Stock → Request → Progress → Type 0
-HasComeTo stock q progress.Decided = stock.mapped ≡ []
-HasComeTo stock q progress.NoMemory = ((c : Create) × IsCreating stock q c) × (stock.mapped ≡ [])
-HasComeTo stock q progress.Denied = ((c : Create) × IsCreating stock q c) × (stock.mapped ≡ [])
-HasComeTo stock q progress.Mapped = ((c : Create) × IsCreating stock q c) × (0 < length stock.mapped)
-HasComeTo stock q progress.Released =
-    ((cookie : ℕ) × IsDestroying stock q cookie × (pages_under cookie stock.buffers ≡ [])) × (stock.mapped ≡ [])
+abbrev pub HasComeTo : Stock → Scene → Request → Progress → Type 0
+HasComeTo stock sc q progress.Decided = stock.mapped ≡ []
+HasComeTo stock sc q progress.NoMemory = ((c : Create) × IsCreating stock sc q c) × (stock.mapped ≡ [])
+HasComeTo stock sc q progress.Denied = ((c : Create) × IsCreating stock sc q c) × (stock.mapped ≡ [])
+HasComeTo stock sc q progress.Mapped = ((c : Create) × IsCreating stock sc q c) × (0 < length stock.mapped)
+HasComeTo stock sc q progress.Released =
+    ((cookie : ℕ) × IsDestroying stock sc q cookie × (pages_under cookie stock.buffers ≡ [])) × (stock.mapped ≡ [])
 
-abbrev pub Come : Stock → Progress → Option Request → Type 0
-Come st p None = (p ≡ progress.Decided) × (st.mapped ≡ [])
-Come st p (Some q) = HasComeTo st q p
+abbrev pub Come : Stock → Scene → Progress → Option Request → Type 0
+Come st sc p None = (p ≡ progress.Decided) × (st.mapped ≡ [])
+Come st sc p (Some q) = HasComeTo st sc q p
 
 abbrev pub HasCome : Bool → Known → Type 0
-HasCome b x = (is_some x.request ≡ b) × Come x.stock x.progress x.request
+HasCome b x = (is_some x.request ≡ b) × Come x.stock x.scene x.progress x.request
 
 abbrev pub IsNamed : Known → List ℕ → Type 0
 IsNamed x m = length m ≡ length x.stock.buffers
@@ -57,7 +59,7 @@ pub record IsWalking (x : Known) : Type 0 where
   pub request : Request
   pub create : Create
   pub in_hand : x.request ≡ Some request
-  pub creating : IsCreating x.stock request create
+  pub creating : IsCreating x.stock x.scene request create
   pub decided : x.progress ≡ progress.Decided
   pub none : x.stock.mapped ≡ []
 
@@ -65,14 +67,15 @@ pub record IsFreeing (x : Known) : Type 0 where
   pub request : Request
   pub cookie : ℕ
   pub in_hand : x.request ≡ Some request
-  pub destroying : IsDestroying x.stock request cookie
+  pub destroying : IsDestroying x.stock x.scene request cookie
   pub decided : x.progress ≡ progress.Decided
   pub bare : pages_under cookie x.stock.buffers ≡ []
   pub none : x.stock.mapped ≡ []
 
 module _ (frames grants : ℕ → ℕ) (dom parts : ℕ) where
+  -- Its pages are the domain's; the buffers, the framebuffers in them and what the connectors show are sound.
   abbrev pub IsSane : Known → Type 0
-  IsSane x = AreOf (grants dom) dom (pages_of x.stock) × AreSound x.stock.buffers
+  IsSane x = AreOf (grants dom) dom (pages_of x.stock) × AreSound x.stock.buffers × IsSound x.stock.buffers x.scene
 
   abbrev pub HasListed : Walked → Type 0
   HasListed (walked.Pages ps) = AreOf (grants dom) dom ps × (0 < length ps)
@@ -97,8 +100,13 @@ module _ (frames grants : ℕ → ℕ) (dom parts : ℕ) where
   abbrev pub EndsOwn : Known → Found → List Touch → Ending → Type 0
   EndsOwn x f ts a = EndsHeld x a × EndsFound x f a
 
+  -- an event that only is told is a blank without a pending flip, or a Show
+  abbrev pub IsTold : Known → Waiting → Type 0
+  IsTold x (waiting.Blank part) = pending_at x.scene part ≡ None
+  IsTold x (waiting.Show part) = Unit {0}
+
   abbrev pub EndsDone : Waiting → Known → Found → List Touch → Ending → Type 0
-  EndsDone e x f ts (Served v) = v ≡ e
+  EndsDone e x f ts (Served v) = (v ≡ e) × IsTold x v
   EndsDone e x f ts other = ⊥
 
   abbrev pub Meets : Known → Want → Note → Type 0

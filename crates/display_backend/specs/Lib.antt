@@ -8,7 +8,9 @@ pub mod Left
 pub mod Names
 pub mod Over
 pub mod Reply
+pub mod Scene
 pub mod Service
+pub mod Showing
 pub mod Stock
 pub mod Store
 pub mod Verdict

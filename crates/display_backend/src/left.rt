@@ -6,9 +6,10 @@ ghost use Rattle.page_directory.specs.Release.{left_of};
 ghost use Rattle.display_buffers.specs.Buffers.{AreDistinct, buffer_of, check_of, cookies, has_cookie, with_buffer, without_buffer};
 ghost use Rattle.display_buffers.specs.Pixels.{page_count};
 ghost use Rattle.display_backend.specs.Stock.{buffer_pages, without_first_in};
+ghost use Rattle.display_backend.specs.Scene.{buffer_at};
 ghost use Rattle.display_backend.specs.Left.{Finds, IsPage, less_at, pages_at};
 
-use displ_wire::{Create, Refused};
+use displ_wire::{Buffer, Create, Refused};
 use display_buffers::Buffers;
 use page_directory::{Pages, Release};
 use pv_words::{Access, Hold, Words};
@@ -63,6 +64,13 @@ impl LeftBuffers {
         ensures { result ≡ is_some (buffer_of cookie self.now) }
     {
         self.buffers.get(cookie).is_some()
+    }
+
+    // The live buffer of this cookie, if there is one.
+    pub(crate) fn buffer(&self, cookie: u64) -> Option<Buffer>
+        ensures { result ≡ buffer_at cookie self.now }
+    {
+        self.buffers.get(cookie)
     }
 
     // Makes the buffer that a CREATE asks for, of what is left of these pages.

@@ -5,6 +5,7 @@ mod course;
 mod display;
 mod laws;
 mod left;
+mod scene;
 mod service;
 mod store;
 mod verdict;

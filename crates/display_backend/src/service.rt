@@ -8,8 +8,9 @@ ghost use Rattle.display_backend.specs.Stock.{pages_of};
 ghost use Rattle.display_backend.specs.Store.{stock_of, count_of};
 
 use crate::course::{Course, Progress};
+use crate::scene::Scene;
 use crate::store::Store;
-use crate::verdict::{answered, status_at};
+use crate::verdict::{answered, status_at, verdict_on};
 use crate::waiting::{Waiting, said_of, waiting_of};
 use device_service::{Deed, Now, Serve};
 use displ_wire::{Asked, Create, Request, decode, encode_reply};
@@ -25,6 +26,8 @@ pub struct Service {
     alloc: Global,
     // The live buffers, and the pages that are held for buffers.
     store: Store,
+    // The framebuffers and the connectors.
+    scene: Scene,
     // The request in hand, and how far it has come.
     hand: Option<Request>,
     progress: Progress,
@@ -61,6 +64,7 @@ impl Service {
         Ok(Service {
             alloc,
             store: Store::new(alloc)?,
+            scene: Scene::new(alloc)?,
             hand: None,
             progress: Progress::Decided,
             course: Course::Rests,
@@ -191,7 +195,7 @@ impl Serve for Service {
 
     ghost use Rattle.std.specs.Prelude.{ℕ, List, refl};
     ghost use Rattle.display_backend.specs.Known.{known_of, going_of, left_of, is_of, held_of};
-    ghost use Rattle.display_backend.specs.Service.{Known, Ending, Lines, display, shows, table};
+    ghost use Rattle.display_backend.specs.Service.{Known, Ending, Lines, display, flipped_for, put_for, shows, table};
     ghost use Rattle.display_backend.specs.Kept.{facts, holds_pages, stays_bare, whole_replies};
 
     ghost Known = { Known };
@@ -252,11 +256,13 @@ impl Serve for Service {
 
     fn start(&mut self, nodes: &Nodes) {
         self.store.clear();
+        self.scene.clear();
         self.hand = None;
         self.progress = Progress::Decided;
     }
 
-    fn take(&mut self, _part: u8, words: &[u32; 16]) {
+    fn take(&mut self, part: u8, words: &[u32; 16]) {
+        self.scene.asked_by(part);
         self.hand = Some(decode(words));
         self.progress = Progress::Decided;
     }
@@ -271,7 +277,10 @@ impl Serve for Service {
         match self.progress {
             Progress::Decided => match request.asked {
                 Asked::Create(create) => self.store.check(&create).is_err(),
-                Asked::Destroy(cookie) => self.store.held_of(cookie) == 0,
+                Asked::Destroy(cookie) => {
+                    verdict_on(&self.store, &self.scene, &request.asked) != 0
+                        || self.store.held_of(cookie) == 0
+                }
                 _ => true,
             },
             _ => true,
@@ -300,30 +309,36 @@ impl Serve for Service {
         }
     }
 
-    fn event_words(&self, _event: Waiting, _prod: u32) -> Option<[u32; 16]> {
-        None
+    fn event_words(&self, event: Waiting, prod: u32) -> Option<[u32; 16]> {
+        match event {
+            Waiting::Blank(part) => self.scene.flip_words(part, prod),
+            Waiting::Show(_) => None,
+        }
     }
 
     fn owed_part(&self) -> Option<u8> {
         None
     }
 
-    fn owed_words(&self, _prod: u32) -> [u32; 16] {
+    fn owed_words(&self, prod: u32) -> [u32; 16] {
         [0; 16]
     }
 
     fn put(&mut self, event: Option<Waiting>) -> Said
         requires idle { going_of self.old ≡ false }
-        ensures said { result ≡ display.put (known_of self.old) event }
-        ensures knows { known_of self.new ≡ display.after_put (known_of self.old) event }
+        ensures said { result ≡ put_for (known_of self.old) event }
+        ensures knows { known_of self.new ≡ flipped_for (known_of self.old) event }
         ensures idle { going_of self.new ≡ false }
     {
-        Said::Full(0)
+        match event {
+            Some(Waiting::Blank(part)) => self.scene.raised(part),
+            Some(Waiting::Show(_)) | None => Said::Full(0),
+        }
     }
 
     fn found_full(&mut self, event: Option<Waiting>)
         requires idle { going_of self.old ≡ false }
-        ensures knows { known_of self.new ≡ display.after_full (known_of self.old) event }
+        ensures knows { known_of self.new ≡ known_of self.old }
         ensures idle { going_of self.new ≡ false }
     {}
 
@@ -341,7 +356,7 @@ impl Serve for Service {
         let Some(request) = self.hand else {
             return [0; 16];
         };
-        let status = status_at(&self.store, self.progress, &request.asked);
+        let status = status_at(&self.store, &self.scene, self.progress, &request.asked);
         encode_reply(request.id, request.op, status)
     }
 
@@ -349,8 +364,8 @@ impl Serve for Service {
         let Some(request) = self.hand else {
             return 0;
         };
-        let status = status_at(&self.store, self.progress, &request.asked);
-        answered(&mut self.store, &request.asked, status);
+        let status = status_at(&self.store, &self.scene, self.progress, &request.asked);
+        answered(&mut self.store, &mut self.scene, &request.asked, status);
         self.hand = None;
         self.progress = Progress::Decided;
         status

@@ -3,9 +3,10 @@
 ghost use Rattle.std.specs.Prelude.{◌≡◌, ◌<◌, ◌≤◌, ◌==◌, [], length, slice_get, Some, Ok, IfOk, is_some};
 ghost use Rattle.display_buffers.specs.Buffers.{buffer_of, check_of};
 ghost use Rattle.display_buffers.specs.Pixels.{page_count};
+ghost use Rattle.display_backend.specs.Scene.{buffer_at};
 
 use crate::left::{LeftBuffers, PAGE_LIMIT};
-use displ_wire::{Create, Refused};
+use displ_wire::{Buffer, Create, Refused};
 use page_directory::{Pages, Release};
 use pv_words::{Access, Hold, Words};
 use std::alloc::{AllocError, Global};
@@ -49,6 +50,13 @@ impl Store {
         ensures { result ≡ is_some (buffer_of cookie (stock_of self.now).buffers) }
     {
         self.buffers.is_live(cookie)
+    }
+
+    /// The live buffer of this cookie, if there is one.
+    pub fn buffer(&self, cookie: u64) -> Option<Buffer>
+        ensures { result ≡ buffer_at cookie (stock_of self.now).buffers }
+    {
+        self.buffers.buffer(cookie)
     }
 
     /// Keeps the pages that were mapped for a CREATE.

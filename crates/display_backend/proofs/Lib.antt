@@ -14,3 +14,4 @@ pub mod Order
 pub mod Places
 pub mod Scenes
 pub mod Serviced
+mod Pictures

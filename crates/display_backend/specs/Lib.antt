@@ -7,6 +7,7 @@ pub mod Laws
 pub mod Left
 pub mod Names
 pub mod Over
+pub mod Picture
 pub mod Reply
 pub mod Scene
 pub mod Service

@@ -1,8 +1,9 @@
 -- The display as a service of the order of work of every device.
-use Rattle.std.specs.Prelude.{◌≡◌, ℕ, ◌%◌, ◌&&◌, nat_lt, ℤ, pos, Bool, true, false, not, List, [], length, replicate, Option, Some, None, IsSome, if◌then◌else◌}
+use Rattle.std.specs.Prelude.{◌≡◌, ℕ, ◌*◌, ◌%◌, ◌&&◌, nat_lt, ℤ, pos, Bool, true, false, not, List, [], length, replicate, Option, Some, None, IsSome, if◌then◌else◌}
 use Rattle.pv_words.specs.declared.device.Said.{Said}
 use Rattle.pv_words.specs.declared.device.Said.TheVariants as said
 use Rattle.pv_words.specs.declared.grant.GrantRefusal.{GrantRefusal}
+use Rattle.pv_words.specs.declared.grant.Hold.{Hold}
 use Rattle.pv_words.specs.declared.grant.Mode.TheVariants.{Read}
 use Rattle.pv_words.specs.declared.place.Place.{Place}
 use Rattle.pv_words.specs.Plan.{Finished, mapped}
@@ -28,6 +29,9 @@ use Rattle.display_backend.specs.Waiting.{said_of, waiting_of}
 use Rattle.display_backend.specs.Stock.{Stock, Held, no_stock, pages_of, pages_under, bared}
 use Rattle.display_backend.specs.Stock as stock
 use Rattle.display_backend.specs.Names.{ids_after, live_names, names_under, numbered, numbers}
+use Rattle.picture_scan.specs.declared.scan.Shown.{Shown}
+use Rattle.picture_scan.specs.Scanning.{scan_plan}
+use Rattle.display_backend.specs.Picture.{AreShown, Source, is_within, number_under, source_at}
 use Rattle.display_backend.specs.Reply.{replied_to, reply_to, stock_after}
 use Rattle.display_backend.specs.Scene.{Scene, after_blank_at, no_scene, pending_at, scene_after}
 use Rattle.display_backend.specs.Verdict.{IsStatus, is_accepted, is_creation, is_denied, status_in, verdict}
@@ -44,11 +48,13 @@ pub record Known : Type 0 where
   pub request : Option Request
   pub progress : Progress
 
--- how an activity of a display ends: what the walk of a CREATE came to; the pages of a buffer are unmapped; an event is done
+-- how an activity of a display ends: what the walk of a CREATE came to; the pages of a buffer are unmapped; an event is done that
+-- only is told; the picture of a part was read
 pub data Ending : Type 0 where
   Listed : Walked → Ending
   Freed : Ending
   Served : Waiting → Ending
+  Pictured : (part : ℕ) → Shown → Ending
 
 abbrev pub status_for : Known → Option Request → ℤ
 status_for x None = pos 0
@@ -94,6 +100,7 @@ abbrev pub says_at : Ending → Option Said
 says_at (Listed came) = denied_by came
 says_at Freed = None
 says_at (Served e) = Some (said_of e)
+says_at (Pictured part x) = Some (said.Shown part x.pixels x.mark)
 
 abbrev pub after_walk : Known → Walked → Known
 after_walk x (walked.Pages ps) = record x { stock = record { mapped = ps; buffers = x.stock.buffers }; progress = progress.Mapped }
@@ -103,6 +110,7 @@ abbrev pub after_end : Known → Ending → Known
 after_end x (Listed came) = after_walk x came
 after_end x Freed = record x { progress = progress.Released }
 after_end x (Served e) = x
+after_end x (Pictured part shown) = x
 
 abbrev pub answered_for : Known → Option Request → Known
 answered_for x None = x
@@ -128,9 +136,19 @@ abbrev pub blank_of : ℕ → Option ℕ → Deed Ending
 blank_of part None = Runs (Finished (Served (waiting.Blank part)))
 blank_of part (Some fb) = Raises (flip_words fb)
 
+-- A Show reads the picture in the pages of its buffer; where there is none it is only told. A picture always lies in them: what a
+-- connector shows is sound, and a buffer has all its pages until it is unmade.
+abbrev pub show_in : ℕ → List Hold → Source → Bool → Deed Ending
+show_in part pages s true = Runs (mapped (Pictured part) (scan_plan s.shape pages s.dbuf))
+show_in part pages s false = Runs (Finished (Served (waiting.Show part)))
+
+abbrev pub show_of : ℕ → List Held → Option Source → Deed Ending
+show_of part bs None = Runs (Finished (Served (waiting.Show part)))
+show_of part bs (Some s) = show_in part (pages_under s.dbuf bs) s (is_within (4096 * length (pages_under s.dbuf bs)) s.shape)
+
 abbrev pub event_for : Known → Waiting → Deed Ending
 event_for x (waiting.Blank part) = blank_of part (pending_at x.scene part)
-event_for x (waiting.Show part) = Runs (Finished (Served (waiting.Show part)))
+event_for x (waiting.Show part) = show_of part x.stock.buffers (source_at x.stock.buffers x.scene part)
 
 -- Once the event is put the flip is done. Where there is no room nothing changes.
 abbrev pub raised_at : ℕ → Option ℕ → Said
@@ -209,7 +227,8 @@ Blanks old part other new = ⊥
 
 abbrev pub Serves : Site → Lines → Waiting → Evidence → Said → Lines → Type 0
 Serves site old (waiting.Blank part) told what new = Blanks old part what new
-Serves site old (waiting.Show part) told (said.Shown k pixels mark) new = (k ≡ part) × (pixels ≡ 0) × (mark ≡ 0) × (new ≡ old)
+Serves site old (waiting.Show part) told (said.Shown k pixels mark) new =
+    (k ≡ part) × AreShown old.buffers (source_at old.buffers old.scene part) told.touched (record { pixels = pixels; mark = mark }) × (new ≡ old)
 Serves site old (waiting.Show part) told other new = ⊥
 
 abbrev pub IsAnswer : Lines → ℤ → Type 0
@@ -268,7 +287,7 @@ shows =
     record {
       rows = λ x m. record { request = x.request; denied = is_denied x.progress; buffers = numbered x.stock.buffers m; scene = x.scene };
       names = λ x m. live_names x.stock.buffers m;
-      number = λ x m key. 0;
+      number = λ x m key. number_under key (numbered x.stock.buffers m);
       named = λ x n m. named_for x x.request n m;
       unnamed = [];
       made = λ x. made_for x x.request;

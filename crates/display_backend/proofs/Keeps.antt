@@ -53,7 +53,9 @@ use Rattle.display_backend.proofs.Names.{GoesFrom, names_none, none_bared, name_
 use Rattle.display_backend.proofs.Numbered.{AreLike, like_length, like_sound, like_verdict, no_buffers, numbered_bared, numbered_all_bared, same_scene, same_verdict, same_status, passes_by}
 use Rattle.display_backend.proofs.Scenes.{answered_scene, asked_scene, blanked_scene, like_scene, none_sound}
 use Rattle.display_backend.proofs.Order.{none_left, none_under, parted}
-use Rattle.display_backend.proofs.Pictures.{same_source, shown_numbered, within_so, lies_within, within_by}
+use Rattle.display_backend.proofs.Taking.{may_take, word_of_name}
+use Rattle.display_backend.proofs.Wholes.{answered_whole, bared_whole, found_at, not_mapped, whole_any, whole_still}
+use Rattle.display_backend.proofs.Pictures.{picture_within, same_source, shown_numbered, within_so}
 use Rattle.device_service.proofs.Soundness.Plans.{fits_drop}
 use Rattle.device_service.proofs.Soundness.Same.{are_append, are_left, are_right, are_same}
 use Rattle.device_core.specs.Site.{Site}

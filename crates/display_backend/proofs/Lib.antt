@@ -15,3 +15,5 @@ pub mod Places
 pub mod Scenes
 pub mod Serviced
 mod Pictures
+mod Taking
+mod Wholes

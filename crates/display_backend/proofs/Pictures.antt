@@ -1,11 +1,15 @@
 -- What a connector shows lies in the pages of a live display buffer, and is the same for buffers that are the same but for their pages.
-use Rattle.std.proofs.Common.{◌≡◌, ◌⊎◌, inl, inr, ℕ, zero, suc, ◌+◌, ◌*◌, ◌/◌, ◌<◌, ◌≤◌, ◌==◌, ◌&&◌, ◌||◌, nat_lt, nat_le, Bool, true, false, List, [], ◌∷◌, ◌++◌, length, map, Option, Some, None, IsSomeAnd, refl, sym, ap, ◌∙◌, arith, subst}
+use Rattle.std.proofs.Common.{◌≡◌, ◌⊎◌, inl, inr, ℕ, zero, suc, ◌+◌, ◌*◌, ◌/◌, ◌<◌, ◌≤◌, ◌==◌, ◌&&◌, ◌||◌, nat_lt, nat_le, Bool, true, false, cond, List, [], ◌∷◌, ◌++◌, length, map, Option, Some, None, IsSomeAnd, refl, sym, ap, ◌∙◌, arith, subst}
 use Rattle.std.proofs.lemmas.Bool.{and_parts, eqb-true, leb-true}
 use Rattle.std.proofs.lemmas.Bool.Decides.{nat_tests}
 use Rattle.std.proofs.lemmas.List.{map-append}
 use Rattle.std.proofs.Math.Nat.{mul-le-mul_right, mul_comm}
 use Rattle.std.specs.Cmp.Derive.{both_true}
 use Rattle.displ_wire.specs.declared.buffer.Buffer.{Buffer}
+use Rattle.std.specs.List.{AllByRecursion}
+use Rattle.pv_words.specs.declared.grant.Hold.{Hold}
+use Rattle.display_buffers.specs.declared.live.Live.{Live}
+use Rattle.display_buffers.specs.Buffers as buffers
 use Rattle.display_buffers.specs.Buffers.{is_in_range, picture_octets}
 use Rattle.display_buffers.specs.Pixels.{page_count}
 use Rattle.framebuffers.specs.declared.frame.Framebuffer.{Framebuffer}
@@ -13,6 +17,7 @@ use Rattle.framebuffers.specs.Frames.{LiesIn, frame_of}
 use Rattle.connectors.specs.declared.connector.Picture.{Picture}
 use Rattle.connectors.specs.Connectors.{picture_of}
 use Rattle.connectors.specs.Laws as connectors
+use Rattle.connectors.proofs.Pictures.{picture_shown}
 use Rattle.device_core.specs.Touched as touch
 use Rattle.device_core.specs.Touched.{Touch, Took}
 use Rattle.picture_scan.specs.declared.scan.Shown.{Shown}
@@ -21,9 +26,12 @@ use Rattle.picture_scan.specs.Laws.{AreRead, IsShown, taken}
 use Rattle.picture_scan.specs.Rectangle.{IsWithin, is_depth, row_pixels, row_words, rows_octets}
 use Rattle.display_backend.specs.Names.{numbered}
 use Rattle.display_backend.specs.Picture.{Source, is_within, source_at, source_by, source_in, source_of}
-use Rattle.display_backend.specs.Scene.{Scene, buffer_at, connector_at}
-use Rattle.display_backend.specs.Stock.{Held}
+use Rattle.display_backend.specs.Kept.{AreAllOf, AreWholeBut}
+use Rattle.display_backend.specs.Scene.{IsSound, LiesInLive, Scene, buffer_at, connector_at}
+use Rattle.display_backend.specs.Stock.{Held, pages_under}
 use Rattle.display_backend.proofs.Numbered.{same_buffer}
+use Rattle.display_backend.proofs.Scenes.{connector_sound}
+use Rattle.display_backend.proofs.Wholes.{found_at}
 
 -- a picture is the same by the buffers' numbers in place of their pages
 pub same_source : (bs : List Held) (ns : List ℕ) (sc : Scene) (part : ℕ) → source_at (numbered bs ns) sc part ≡ source_at bs sc part
@@ -132,3 +140,66 @@ lies_within p f b pages shows lies range whole =
       across = omega (arith, shows.across, lies.within_width);
       down = omega (arith, inside, whole);
     }
+
+-- the picture of a part, where there is one
+pub record IsSourced {P : Type 0} (bs : List (Live P)) (sc : Scene) (part : ℕ) (s : Source) : Type 0 where
+  pub picture : Picture
+  pub frame : Framebuffer
+  pub buffer : Buffer
+  pub is_picture : picture_of (connector_at sc part) ≡ Some picture
+  pub is_frame : frame_of picture.fb sc.frames ≡ Some frame
+  pub is_buffer : buffer_at frame.dbuf bs ≡ Some buffer
+  pub is : source_in picture frame.dbuf (Some buffer) ≡ Some s
+
+pub sourced : {P : Type 0} (bs : List (Live P)) (sc : Scene) (part : ℕ) (s : Source) → source_at bs sc part ≡ Some s → IsSourced bs sc part s
+sourced bs sc part s e = by_picture (picture_of (connector_at sc part)) refl e
+  where
+    by_buffer : (p : Picture) (f : Framebuffer) (o : Option Buffer) → picture_of (connector_at sc part) ≡ Some p → frame_of p.fb sc.frames ≡ Some f → buffer_at f.dbuf bs ≡ o → source_in p f.dbuf o ≡ Some s → IsSourced bs sc part s
+    by_buffer p f None g h i e = let wrong : ⊥ = cc in absurd wrong
+    by_buffer p f (Some b) g h i e = record { picture = p; frame = f; buffer = b; is_picture = g; is_frame = h; is_buffer = i; is = e }
+
+    by_frame : (p : Picture) (o : Option Framebuffer) → picture_of (connector_at sc part) ≡ Some p → frame_of p.fb sc.frames ≡ o → source_by bs p o ≡ Some s → IsSourced bs sc part s
+    by_frame p None g h e = let wrong : ⊥ = cc in absurd wrong
+    by_frame p (Some f) g h e = by_buffer p f (buffer_at f.dbuf bs) g h refl e
+
+    by_picture : (o : Option Picture) → picture_of (connector_at sc part) ≡ o → source_of bs sc.frames o ≡ Some s → IsSourced bs sc part s
+    by_picture None g e = let wrong : ⊥ = cc in absurd wrong
+    by_picture (Some p) g e = by_frame p (frame_of p.fb sc.frames) g refl e
+
+-- what is so of each framebuffer is so of the live one of a cookie
+frame_so : (Q : Framebuffer → Type 0) (fb : ℕ) (fs : List Framebuffer) (f : Framebuffer) → AllByRecursion Q fs → frame_of fb fs ≡ Some f → Q f
+frame_so Q fb [] f all e = let wrong : ⊥ = cc in absurd wrong
+frame_so Q fb (x ∷ xs) f all e = by_test (λ g. frame_so Q fb xs f all.1 g) (x.cookie == fb) e
+  where
+    by_test : (frame_of fb xs ≡ Some f → Q f) → (t : Bool) → cond t (Some x) (frame_of fb xs) ≡ Some f → Q f
+    by_test later true g = let same : x ≡ f = cc in subst Q same all.0
+    by_test later false g = later g
+
+-- it lies in the pages of its buffer, where these are all there
+pub picture_within : (frames : ℕ) (bs : List Held) (sc : Scene) (part : ℕ) (s : Source) → buffers.AreSound bs → IsSound bs sc → AreWholeBut frames (λ b. false) bs → source_at bs sc part ≡ Some s → IsWithin (4096 * length (pages_under s.dbuf bs)) s.shape × AllByRecursion (λ (h : Hold). h.frame.0 < frames) (pages_under s.dbuf bs)
+picture_within frames bs sc part s sound is_sound whole e =
+    let of = sourced bs sc part s e in
+    let c = connector_at sc part in
+    let k = connector_sound sc part is_sound.connectors_are in
+    let shows : connectors.Shows of.picture of.frame =
+        subst (λ (o : Option Framebuffer). IsSomeAnd o (connectors.Shows of.picture)) of.is_frame
+        (picture_shown sc.frames c.rectangle c.shown of.picture k.has_pixels k.shown of.is_picture) in
+    let lies : LiesIn of.frame of.buffer =
+        subst (λ (o : Option Buffer). IsSomeAnd o (LiesIn of.frame)) of.is_buffer
+        (frame_so (LiesInLive bs) of.picture.fb sc.frames of.frame is_sound.frames_lie of.is_frame) in
+    let there = found_at (λ (b : Held). false ≡ false → AreAllOf frames b.buffer.buffer_sz b.pages) of.frame.dbuf bs of.buffer whole of.is_buffer in
+    let range = found_at (λ (b : Held). is_in_range b.buffer ≡ true) of.frame.dbuf bs of.buffer sound.in_range of.is_buffer in
+    let are : AreAllOf frames of.buffer.buffer_sz (pages_under of.frame.dbuf bs) =
+        subst (λ (x : Buffer). AreAllOf frames x.buffer_sz (pages_under of.frame.dbuf bs)) there.1
+        (subst (λ (ps : List Hold). AreAllOf frames there.0.buffer.buffer_sz ps) there.2 (there.3 refl)) in
+    let in_range : is_in_range of.buffer ≡ true = subst (λ (x : Buffer). is_in_range x ≡ true) range.1 range.3 in
+    let own : Source = record {
+      dbuf = of.frame.dbuf;
+      shape = record { width = of.buffer.width; bpp = of.buffer.bpp; x = of.picture.x; y = of.picture.y; columns = of.picture.width; rows = of.picture.height };
+    } in
+    let same : own ≡ s = some_same own s of.is in
+    subst (λ (x : Source). IsWithin (4096 * length (pages_under x.dbuf bs)) x.shape × AllByRecursion (λ (h : Hold). h.frame.0 < frames) (pages_under x.dbuf bs)) same
+    (lies_within of.picture of.frame of.buffer (length (pages_under of.frame.dbuf bs)) shows lies in_range are.0, are.1)
+  where
+    some_same : (a b : Source) → Some a ≡ Some b → a ≡ b
+    some_same a b e = cc

@@ -53,7 +53,7 @@ first_sound fs = record { has_pixels = λ r e. absurd (cc); shown = λ fb e. abs
 abbrev AreSound : List Framebuffer → List Connector → Type 0
 AreSound fs cs = AllByRecursion (λ c. connectors.IsSound fs c) cs
 
-connector_sound : (sc : Scene) (part : ℕ) → AreSound sc.frames sc.connectors → connectors.IsSound sc.frames (connector_at sc part)
+pub connector_sound : (sc : Scene) (part : ℕ) → AreSound sc.frames sc.connectors → connectors.IsSound sc.frames (connector_at sc part)
 connector_sound sc part all = all_at (connectors.IsSound sc.frames) sc.connectors part first_connector all (first_sound sc.frames)
 
 -- an accepted DESTROY is of a buffer without a framebuffer

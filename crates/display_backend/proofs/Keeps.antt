@@ -1,5 +1,5 @@
 -- The display keeps the laws of a service.
-use Rattle.std.proofs.Common.{◌≡◌, inl, ℕ, ◌<◌, ◌≤◌, ◌&&◌, ◌||◌, ◌==◌, nat_lt, nat_le, Bool, true, false, cond, List, [], ◌∷◌, ◌++◌, Option, Some, None, IsSome, is_some, refl, sym, ◌∙◌, ap, subst, arith, length}
+use Rattle.std.proofs.Common.{◌≡◌, inl, ℕ, ◌*◌, pos, map, ◌<◌, ◌≤◌, ◌&&◌, ◌||◌, ◌==◌, nat_lt, nat_le, Bool, true, false, cond, List, [], ◌∷◌, ◌++◌, Option, Some, None, IsSome, is_some, refl, sym, ◌∙◌, ap, subst, arith, length}
 use Rattle.std.proofs.lemmas.Bool.{true≢false, false≢true}
 use Rattle.std.proofs.lemmas.List.{length-replicate, map-append}
 use Rattle.std.proofs.lemmas.Bool.Decides.{nat_tests}
@@ -10,7 +10,7 @@ use Rattle.pv_words.specs.declared.grant.Hold.{Hold}
 use Rattle.pv_words.specs.declared.grant.Mode.TheVariants.{Read}
 use Rattle.pv_words.specs.Held.{Holds, IsProper, holding, holds_of}
 use Rattle.pv_words.specs.Found.{Found, finding}
-use Rattle.pv_words.specs.Plan.{Plan, Finished, Want, Note, Plain, Begins, Frames, Undoes, Ends, Takes, Puts, IsUntouched, mapped, FitsFrom}
+use Rattle.pv_words.specs.Plan.{Plan, Finished, Make, Want, Load, Note, Plain, Begins, Frames, Undoes, Ends, Takes, Puts, IsUntouched, mapped, FitsFrom}
 use Rattle.displ_wire.specs.declared.Asked.{Asked}
 use Rattle.displ_wire.specs.declared.Asked.TheVariants as asked
 use Rattle.displ_wire.specs.declared.Create.{Create}
@@ -46,7 +46,19 @@ use Rattle.display_backend.specs.Verdict.{is_accepted, is_creation, is_denied, s
 use Rattle.display_backend.specs.Waiting.{said_of}
 use Rattle.display_backend.specs.Kept as kept
 use Rattle.display_backend.specs.Scene.{IsSound, Scene, after_blank_at, pending_at, scene_after}
-use Rattle.display_backend.specs.Kept.{Come, HasCome, HasComeTo, IsCreating, IsDestroying, IsNamed, IsWalking, IsFreeing, facts}
+use Rattle.display_backend.specs.Kept.{AreMapped, AreWholeBut, Come, HasCome, HasComeTo, IsCreating, IsDestroying, IsNamed, IsWalking, IsFreeing, WholeFor, facts, goes_by}
+use Rattle.display_backend.specs.Picture.{AreShown, Source, is_within, number_under, source_at}
+use Rattle.displ_wire.specs.Wire.{request_of}
+use Rattle.pv_words.specs.declared.access.Access.{Access}
+use Rattle.device_core.specs.Learned.{learning}
+use Rattle.device_core.specs.Touched as touch
+use Rattle.device_core.specs.Touched.{carrying}
+use Rattle.picture_scan.specs.declared.scan.Shown.{Shown}
+use Rattle.picture_scan.specs.Laws.{HasHeld, HasShown, IsTaking}
+use Rattle.picture_scan.specs.Scan.{LiesIn}
+use Rattle.picture_scan.specs.Scanning.{scan_plan}
+use Rattle.picture_scan.proofs.Showing.{shows_exactly}
+use Rattle.page_directory.proofs.WalkAlong.{all_weaker}
 use Rattle.display_backend.proofs.Answering.{IsAnswerAt, accepted_at, answer_buffers, answer_same, answer_sound, answer_none, answer_all, answer_rows, answer_names, answers_at, done_as}
 use Rattle.display_backend.proofs.HasWork.{create_accepted, create_refused, destroy_accepted, destroy_bare}
 use Rattle.display_backend.proofs.Names.{GoesFrom, names_none, none_bared, name_goes}
@@ -65,7 +77,7 @@ use Rattle.device_service.specs.Claims.{KeepsLaws, site_of}
 use Rattle.device_service.specs.Laws as law
 use Rattle.device_service.specs.Laws.{AreHeld, AreLost, FitsBeside, IsOfService, IsRaise, IsTouching, Laws, Leads, Same, WantsFor, evidence}
 use Rattle.device_service.proofs.Fitting.{fits_carried}
-use Rattle.display_backend.specs.Service.{has_work, reply_for, ready_for, goes_of, Known, Ending, Listed, Freed, Served, Lines, display, table, shows, freeing, blank_of, event_for, flip_words, flipped_at, flipped_for, put_for, raised_at, ready_at, job_of, job_for, says_at, after_end}
+use Rattle.display_backend.specs.Service.{has_work, reply_for, ready_for, goes_of, Known, Ending, Listed, Freed, Served, Pictured, Lines, show_in, show_of, display, table, shows, freeing, blank_of, event_for, flip_words, flipped_at, flipped_for, put_for, raised_at, ready_at, job_of, job_for, says_at, after_end}
 
 -- what isn't ready is decided
 ready_decided : (p : Progress) (working : Bool) → ready_at p working ≡ false → p ≡ progress.Decided
@@ -120,6 +132,30 @@ goes_lost sight (n ∷ []) old new g =
     )
 goes_lost sight (n ∷ m ∷ ms) old new g = absurd g
 
+-- a Show raises no event
+never_raised_in : (part : ℕ) (pages : List Hold) (s : Source) (t : Bool) (words : ℕ → List ℕ) → show_in part pages s t ≡ Raises words → ⊥
+never_raised_in part pages s true words e = cc
+never_raised_in part pages s false words e = cc
+
+never_raised : (part : ℕ) (bs : List Held) (o : Option Source) (words : ℕ → List ℕ) → show_of part bs o ≡ Raises words → ⊥
+never_raised part bs None words e = cc
+never_raised part bs (Some s) words e =
+    never_raised_in part (pages_under s.dbuf bs) s (is_within (4096 * length (pages_under s.dbuf bs)) s.shape) words e
+
+runs_same : (p q : Plan Ending) → Runs p ≡ Runs q → p ≡ q
+runs_same p q e = cc
+
+-- without a request in hand each buffer is whole
+whole_none : (frames : ℕ) (st : Stock) (sc : Scene) (p : Progress) (o : Option Request) → is_some o ≡ false → WholeFor frames st sc p o → AreWholeBut frames (λ b. false) st.buffers
+whole_none frames st sc p None none w = w
+whole_none frames st sc p (Some q) none w = absurd (true≢false none)
+
+-- what may be done, and how it ends, is also so
+fits_under : {S A : Type 0} (after : S → Note → Access → S) (P Q : S → Want → Note → Type 0) (U V : S → A → Type 0) → ((s : S) (want : Want) (note : Note) → P s want note → Q s want note) → ((s : S) (x : A) → U s x → V s x) → (s : S) (p : Plan A) → FitsFrom P after U s p → FitsFrom Q after V s p
+fits_under after P Q U V may end s (Finished x) f = end s x f
+fits_under after P Q U V may end s (Make want note next) f =
+    (may s want note f.0, λ v. fits_under after P Q U V may end _ (next v) (f.1 v))
+
 all_behind : (xs ys : List Hold) → xs ++ ys ≡ [] → ys ≡ []
 all_behind [] ys e = e
 all_behind (x ∷ xs) ys e = let wrong : ⊥ = cc in absurd wrong
@@ -145,6 +181,12 @@ module _ (frames grants : ℕ → ℕ) (dom parts : ℕ) where
 
   abbrev IsTold : Known → Waiting → Type 0
   IsTold x e = kept.IsTold frames grants dom parts x e
+
+  abbrev HasWhole : Bool → Known → Type 0
+  HasWhole b x = kept.HasWhole frames grants dom parts b x
+
+  abbrev Whole : Known → Type 0
+  Whole x = WholeFor (frames dom) x.stock x.scene x.progress x.request
 
   abbrev Meets : Known → Want → Note → Type 0
   Meets x want note = kept.Meets frames grants dom parts x want note
@@ -214,12 +256,15 @@ module _ (frames grants : ℕ → ℕ) (dom parts : ℕ) where
     abbrev WalksSo : Holds → Ending → Type 0
     WalksSo h a = AreHeld h (pages_of (after_end x a).stock ++ rest) × EndsHeld x a
 
+    framed : (ps : List Hold) → AllByRecursion (IsPage (frames dom) (grants dom) dom Read) ps → AllByRecursion (λ (g : Hold). g.frame.0 < frames dom) ps
+    framed ps all = all_weaker (IsPage (frames dom) (grants dom) dom Read) (λ (g : Hold). g.frame.0 < frames dom) (λ g is. is.frame_in) ps all
+
     listed : (h : Holds) (came : Walked) → Leaves (frames dom) (grants dom) dom Read count held h came → WalksSo h (Listed came)
     listed h (walked.Pages ps) l =
         let bs = buffer_pages x.stock.buffers in
         let before : (k : Hold) → times k held ≡ times k (bs ++ rest) = λ k. same k ∙ ap (λ hs. times k ((hs ++ bs) ++ rest)) w.none in
         let all : AreSame h.held ((ps ++ bs) ++ rest) = λ k. omega (arith, l.1 k, before k, times_append k held ps, times_append k bs rest, times_append k (ps ++ bs) rest, times_append k ps bs) in
-        ((l.0, all), (w, (page_are (frames dom) (grants dom) dom ps l.2, omega (arith, l.3, some_pages))))
+        ((l.0, all), (w, (page_are (frames dom) (grants dom) dom ps l.2, omega (arith, l.3, some_pages), (l.3, framed ps l.2))))
     listed h (walked.Refused why) l = ((l.0, (λ k. l.1 k ∙ same k)), (w, tt))
 
     walk_fits : FitsFrom (IsProper frames grants dom) (holding frames) WalksSo (holds_of held) (mapped Listed (walk_plan (frames dom) (grants dom) dom w.create.gref_directory Read (walking.pages_of w.create.buffer_sz)))
@@ -266,10 +311,20 @@ module _ (frames grants : ℕ → ℕ) (dom parts : ℕ) where
         let before : AreSame held (under ++ after) = λ g. omega (arith, same g, split g, times_append g (pages_of x.stock) rest, times_append g x.stock.mapped (buffer_pages bs), times_append g under left, times_append g under after, times_append g (x.stock.mapped ++ left) rest, times_append g x.stock.mapped left) in
         fits_drop frames grants dom (λ h a. AreHeld h (pages_of (after_end (freeing x cookie) a).stock ++ rest) × EndsHeld (freeing x cookie) a) (Finished Freed) after under held are before (λ gone g. ((refl, g), freed_well))
 
+  -- what touches no word of a name may be done
+  meets_plain : (x : Known) (want : Want) (note : Note) → IsUntouched note → Meets x want note
+  meets_plain x want Plain u = tt
+  meets_plain x want (Begins g) u = tt
+  meets_plain x want (Frames g) u = tt
+  meets_plain x want Undoes u = tt
+  meets_plain x want (Ends h) u = tt
+  meets_plain x want (Takes key index) u = absurd u
+  meets_plain x want (Puts key index) u = absurd u
+
   -- what it holds, and what it finds
   beside : (x y : Known) (pl : Plan Ending) → ((rest held : List Hold) → AreSame held (pages_of x.stock ++ rest) → FitsFrom (IsProper frames grants dom) (holding frames) (λ h a. AreHeld h (pages_of (after_end y a).stock ++ rest) × EndsHeld y a) (holds_of held) pl) → ((f : Found) → FitFound (EndsFound y) f pl) → FitsBeside display frames grants dom Meets EndsOwn x y pl
   beside x y pl a b rest k held =
-      fits_carried frames (IsProper frames grants dom) (Meets y) (λ want note u. u) (λ h e. AreHeld h (pages_of (after_end y e).stock ++ rest) × EndsHeld y e) (EndsFound y) (λ (j : Carried Learned) e. AreHeld j.own.holds (pages_of (after_end y e).stock ++ rest) × EndsOwn y j.own.found j.touched e)
+      fits_carried frames (IsProper frames grants dom) (Meets y) (λ want note u. meets_plain y want note u) (λ h e. AreHeld h (pages_of (after_end y e).stock ++ rest) × EndsHeld y e) (EndsFound y) (λ (j : Carried Learned) e. AreHeld j.own.holds (pages_of (after_end y e).stock ++ rest) × EndsOwn y j.own.found j.touched e)
       (λ j e p q. (p.0, (p.1, q))) k pl
       (subst (λ (h : Holds). FitsFrom (IsProper frames grants dom) (holding frames) (λ h e. AreHeld h (pages_of (after_end y e).stock ++ rest) × EndsHeld y e) h pl) (sym held.0) (a rest k.own.holds.held held.1)) (b k.own.found)
 
@@ -405,6 +460,7 @@ module _ (frames grants : ℕ → ℕ) (dom parts : ℕ) where
   ends x (Listed (walked.Refused why)) s e = (s, after_come x e.0.request x.stock progress.Denied e.0.in_hand ((e.0.create, e.0.creating), e.0.none))
   ends x Freed s e = (s, after_come x e.request x.stock progress.Released e.in_hand ((e.cookie, e.destroying, e.bare), e.none))
   ends x (Served v) s e = absurd e
+  ends x (Pictured part shown) s e = absurd e
 
   same_said : (a b : Said) → Some a ≡ Some b → a ≡ b
   same_said a b e = cc
@@ -430,6 +486,7 @@ module _ (frames grants : ℕ → ℕ) (dom parts : ℕ) where
       )
   ends_told x f ts Freed m what e named i = let wrong : ⊥ = cc in absurd wrong
   ends_told x f ts (Served v) m what e named i = absurd e.0
+  ends_told x f ts (Pictured part shown) m what e named i = absurd e.0
 
   ends_quiet : (x : Known) (a : Ending) (m : List ℕ) → EndsHeld x a → IsNamed x m → says_at a ≡ None → Same shows IsNamed x (after_end x a) m
   ends_quiet x (Listed (walked.Pages ps)) m e named f =
@@ -438,42 +495,129 @@ module _ (frames grants : ℕ → ℕ) (dom parts : ℕ) where
   ends_quiet x Freed m e named f =
       record { named = named; rows = ap (λ d. record (shows.rows x m) { denied = d }) (sym (ap is_denied e.decided)); names = refl; numbers = λ key. refl }
   ends_quiet x (Served v) m e named f = absurd e
+  ends_quiet x (Pictured part shown) m e named f = absurd e
 
   -- events
+  abbrev Told : Known → Found → List Touch → List ℕ → Waiting → Said → Type 0
+  Told x f ts m e what =
+      IsOfService what × IsNamed x m × table.Serves site (shows.rows x m) e (evidence shows x m ts f) what (shows.rows x m)
+      × (shows.names x m ≡ shows.names x m)
+
+  told : (x : Known) (f : Found) (ts : List Touch) (m : List ℕ) (e : Waiting) → IsNamed x m → IsTold x e → Told x f ts m e (said_of e)
+  told x f ts m (waiting.Blank part) named none = (tt, named, (refl, none, refl), refl)
+  told x f ts m (waiting.Show part) named none =
+      let bs = numbered x.stock.buffers m in
+      let shown : AreShown bs (source_at bs x.scene part) (map (touch.numbered (shows.number x m)) ts) (record { pixels = 0; mark = 0 }) =
+          subst (λ (o : Option Source). AreShown bs o (map (touch.numbered (shows.number x m)) ts) (record { pixels = 0; mark = 0 }))
+          (sym (same_source x.stock.buffers m x.scene part ∙ none)) (refl, refl) in
+      (tt, named, (refl, shown, refl), refl)
+
+  pictured : (x : Known) (f : Found) (ts : List Touch) (m : List ℕ) (part : ℕ) (shown : Shown) → IsNamed x m → kept.IsRead frames grants dom parts x part ts shown → Told x f ts m (waiting.Show part) (said.Shown part shown.pixels shown.mark)
+  pictured x f ts m part shown named r =
+      let bs = numbered x.stock.buffers m in
+      let number : Touch → Touch = touch.numbered (shows.number x m) in
+      let all : AreShown bs (source_at bs x.scene part) (map number ts) shown =
+          subst (λ (o : Option Source). AreShown bs o (map number ts) shown)
+          (sym (same_source x.stock.buffers m x.scene part ∙ r.is)) (
+            map number r.before,
+            (map number r.by.0, ap (map number) r.by.1 ∙ map-append number r.before r.by.0, shown_numbered (shows.number x m) r.source.dbuf r.source.shape r.by.0 shown r.by.2),
+          ) in
+      (tt, named, (refl, all, refl), refl)
+
   served_told : (x : Known) (e : Waiting) (f : Found) (ts : List Touch) (a : Ending) (m : List ℕ) (what : Said) → EndsDone e x f ts a → IsNamed x m → says_at a ≡ Some what → IsOfService what × IsNamed (after_end x a) m × table.Serves site (shows.rows x m) e (evidence shows x m ts f) what (shows.rows (after_end x a) m) × (shows.names (after_end x a) m ≡ shows.names x m)
   served_told x e f ts (Listed came) m what d named i = absurd d
   served_told x e f ts Freed m what d named i = absurd d
-  served_told x e f ts (Served v) m what d named i = subst (λ z. Told e z) (same_said _ _ i) (subst (λ z. Told z (said_of v)) d.0 (told v d.1))
-    where
-      Told : Waiting → Said → Type 0
-      Told z t = IsOfService t × IsNamed x m × table.Serves site (shows.rows x m) z (evidence shows x m ts f) t (shows.rows x m) × (shows.names x m ≡ shows.names x m)
-
-      told : (z : Waiting) → IsTold x z → Told z (said_of z)
-      told (waiting.Blank part) none = (tt, named, (refl, none, refl), refl)
-      told (waiting.Show part) none = (tt, named, (refl, refl, refl, refl), refl)
+  served_told x e f ts (Served v) m what d named i =
+      subst (λ z. Told x f ts m e z) (same_said _ _ i) (subst (λ z. Told x f ts m z (said_of v)) d.0 (told x f ts m v named d.1))
+  served_told x e f ts (Pictured part shown) m what d named i =
+      subst (λ z. Told x f ts m e z) (same_said _ _ i)
+      (subst (λ z. Told x f ts m z (said.Shown part shown.pixels shown.mark)) d.0 (pictured x f ts m part shown named d.1))
 
   told_fits : (x : Known) (e : Waiting) (p : Plan Ending) → IsTold x e → Runs (Finished (Served e)) ≡ Runs p → FitsBeside display frames grants dom Meets (EndsDone e) x x p
   told_fits x e p told event =
       let is : Finished (Served e) ≡ p = cc in
       subst (λ (z : Plan Ending). FitsBeside display frames grants dom Meets (EndsDone e) x x z) is (λ rest k held. (held, (refl, told)))
 
-  serves_so : (x : Known) (e : Waiting) (p : Plan Ending) → event_for x e ≡ Runs p → FitsBeside display frames grants dom Meets (EndsDone e) x x p
-  serves_so x (waiting.Show part) p event = told_fits x (waiting.Show part) p tt event
-  serves_so x (waiting.Blank part) p event = by_pending (pending_at x.scene part) refl event
+  -- a picture is read in the pages of its buffer
+  module _ (x : Known) (s : IsSane x) (part : ℕ) (source : Source) (is : source_at x.stock.buffers x.scene part ≡ Some source) where
+    abbrev under : List Hold
+    under = pages_under source.dbuf x.stock.buffers
+
+    under_are : AreOf (grants dom) dom under
+    under_are =
+        let bs = x.stock.buffers in
+        let left = buffer_pages (bared source.dbuf bs) in
+        are_left (grants dom) dom under left (are_same (grants dom) dom (buffer_pages bs) (under ++ left) (parted source.dbuf bs) (are_right (grants dom) dom x.stock.mapped (buffer_pages bs) s.0))
+
+    picture_fits : LiesIn under source.shape → AllByRecursion (λ (h : Hold). h.frame.0 < frames dom) under → FitsBeside display frames grants dom Meets (EndsDone (waiting.Show part)) x x (mapped (Pictured part) (scan_plan source.shape under source.dbuf))
+    picture_fits lies inside rest k held =
+        fits_mapped May (carrying (learning frames)) (λ y. Pictured part y) End k (scan_plan source.shape under source.dbuf)
+        (fits_under (carrying (learning frames)) Scans May Shows (λ j y. End j (Pictured part y)) may_so end_so k (scan_plan source.shape under source.dbuf) (shows_exactly frames source.shape under k.own.holds.held source.dbuf k lies held.0))
+      where
+        May : Carried Learned → Want → Note → Type 0
+        May j want note = IsProper frames grants dom j.own.holds want note × Meets x want note
+
+        Scans : Carried Learned → Want → Note → Type 0
+        Scans j want note = HasHeld k.own.holds.held j × IsTaking under source.dbuf want note
+
+        Shows : Carried Learned → Shown → Type 0
+        Shows j y = HasHeld k.own.holds.held j × HasShown source.shape source.dbuf k.touched j.touched y
+
+        End : Carried Learned → Ending → Type 0
+        End j a = AreHeld j.own.holds (pages_of (after_end x a).stock ++ rest) × EndsDone (waiting.Show part) x j.own.found j.touched a
+
+        still : (j : Carried Learned) → HasHeld k.own.holds.held j → AreHeld j.own.holds (pages_of x.stock ++ rest)
+        still j has = subst (λ (h : Holds). AreHeld h (pages_of x.stock ++ rest)) (held.0 ∙ sym has) held
+
+        among : (j : Carried Learned) → HasHeld k.own.holds.held j → (g : Hold) → 0 < times g under → 0 < times g j.own.holds.held
+        among j has g some =
+            let bs = x.stock.buffers in
+            let left = buffer_pages (bared source.dbuf bs) in
+            omega (arith, some, (still j has).1 g, times_append g (pages_of x.stock) rest, times_append g x.stock.mapped (buffer_pages bs), parted source.dbuf bs g, times_append g under left)
+
+        may_so : (j : Carried Learned) (want : Want) (note : Note) → Scans j want note → May j want note
+        may_so j want note (has, t) =
+            subst (λ (w : Want). May j w note) (sym t.loads)
+            (subst (λ (n : Note). May j (Load t.at) n) (sym t.takes)
+            (may_take frames grants dom under j.own.holds source.dbuf t.index t.at under_are inside (among j has) t.is, (t.at, refl, t.is)))
+
+        end_so : (j : Carried Learned) (y : Shown) → Shows j y → End j (Pictured part y)
+        end_so j y (has, by) = (still j has, (refl, record { source = source; is = is; before = k.touched; by = by }))
+
+  serves_so : (x : Known) (e : Waiting) (p : Plan Ending) → IsSane x → AreWholeBut (frames dom) (λ b. false) x.stock.buffers → event_for x e ≡ Runs p → FitsBeside display frames grants dom Meets (EndsDone e) x x p
+  serves_so x (waiting.Show part) p s whole event = by_source (source_at x.stock.buffers x.scene part) refl event
+    where
+      by_within : (source : Source) → source_at x.stock.buffers x.scene part ≡ Some source → (t : Bool) → t ≡ true → show_in part (pages_under source.dbuf x.stock.buffers) source t ≡ Runs p → FitsBeside display frames grants dom Meets (EndsDone (waiting.Show part)) x x p
+      by_within source is true h event =
+          let same : mapped (Pictured part) (scan_plan source.shape (pages_under source.dbuf x.stock.buffers) source.dbuf) ≡ p = runs_same _ _ event in
+          let within = picture_within (frames dom) x.stock.buffers x.scene part source s.1 s.2 whole is in
+          subst (λ (z : Plan Ending). FitsBeside display frames grants dom Meets (EndsDone (waiting.Show part)) x x z) same
+          (picture_fits x s part source is within.0 within.1)
+      by_within source is false h event = absurd (false≢true h)
+
+      by_source : (o : Option Source) → source_at x.stock.buffers x.scene part ≡ o → show_of part x.stock.buffers o ≡ Runs p → FitsBeside display frames grants dom Meets (EndsDone (waiting.Show part)) x x p
+      by_source None is event = told_fits x (waiting.Show part) p is event
+      by_source (Some source) is event =
+          let under = pages_under source.dbuf x.stock.buffers in
+          let within = picture_within (frames dom) x.stock.buffers x.scene part source s.1 s.2 whole is in
+          by_within source is (is_within (4096 * length under) source.shape) (within_so (4096 * length under) source.shape within.0) event
+  serves_so x (waiting.Blank part) p s whole event = by_pending (pending_at x.scene part) refl event
     where
       by_pending : (o : Option ℕ) → pending_at x.scene part ≡ o → blank_of part o ≡ Runs p → FitsBeside display frames grants dom Meets (EndsDone (waiting.Blank part)) x x p
       by_pending None is event = told_fits x (waiting.Blank part) p is event
       by_pending (Some fb) is event = let wrong : ⊥ = cc in absurd wrong
 
-  served : (x : Known) (e : Waiting) (f : Found) (ts : List Touch) (a : Ending) → IsSane x → HasCome false x → EndsDone e x f ts a → IsSane (after_end x a) × HasCome false (after_end x a)
+  served : (x : Known) (e : Waiting) (f : Found) (ts : List Touch) (a : Ending) → IsSane x → HasWhole false x → EndsDone e x f ts a → IsSane (after_end x a) × HasWhole false (after_end x a)
   served x e f ts (Listed came) s h d = absurd d
   served x e f ts Freed s h d = absurd d
   served x e f ts (Served v) s h d = (s, h)
+  served x e f ts (Pictured part shown) s h d = (s, h)
 
   served_says : (x : Known) (e : Waiting) (f : Found) (ts : List Touch) (a : Ending) → EndsDone e x f ts a → says_at a ≡ None → ⊥
   served_says x e f ts (Listed came) d i = d
   served_says x e f ts Freed d i = d
   served_says x e f ts (Served v) d i = cc
+  served_says x e f ts (Pictured part shown) d i = cc
 
   -- What is raised is the event of a pending flip, which is then done.
   module _ (x : Known) (Q : Option Waiting → Said → Known → Type 0) where
@@ -485,7 +629,7 @@ module _ (frames grants : ℕ → ℕ) (dom parts : ℕ) where
 
     by_raise : (e : Option Waiting) (part : ℕ) → IsRaise display x e part → ((fb : ℕ) → pending_at x.scene part ≡ Some fb → Q (Some (waiting.Blank part)) (said.Raised part fb) (record x { scene = after_blank_at x.scene part })) → Q e (put_for x e) (flipped_for x e)
     by_raise None part i done = let owes = i.1 in let wrong : ⊥ = cc in absurd wrong
-    by_raise (Some (waiting.Show k)) part i done = let event = i.1 in let wrong : ⊥ = cc in absurd wrong
+    by_raise (Some (waiting.Show k)) part i done = absurd (never_raised k x.stock.buffers (source_at x.stock.buffers x.scene k) i.0 i.1)
     by_raise (Some (waiting.Blank k)) part i done = by_pending k part (pending_at x.scene k) i.0 refl i.1 i.2 done
 
   come_still : (st : Stock) (old new : Scene) (p : Progress) (o : Option Request) → is_some o ≡ false → Come st old p o → Come st new p o
@@ -525,16 +669,18 @@ module _ (frames grants : ℕ → ℕ) (dom parts : ℕ) where
 
   event_short : (x : Known) (e : Waiting) (words : ℕ → List ℕ) (n : ℕ) → event_for x e ≡ Raises words → length (words n) ≤ 16
   event_short x (waiting.Blank part) words n event = flip_short part (pending_at x.scene part) words n event
-  event_short x (waiting.Show part) words n event = let wrong : ⊥ = cc in absurd wrong
+  event_short x (waiting.Show part) words n event = absurd (never_raised part x.stock.buffers (source_at x.stock.buffers x.scene part) words event)
 
-  meets : (x : Known) (m : List ℕ) (want : Want) (note : Note) → IsUntouched note → IsTouching shows x m want note
-  meets x m want Plain u = tt
-  meets x m want (Begins g) u = tt
-  meets x m want (Frames g) u = tt
-  meets x m want Undoes u = tt
-  meets x m want (Ends h) u = tt
-  meets x m want (Takes key index) u = absurd u
-  meets x m want (Puts key index) u = absurd u
+  meets : (x : Known) (m : List ℕ) (want : Want) (note : Note) → IsNamed x m → Meets x want note → IsTouching shows x m want note
+  meets x m want Plain named u = tt
+  meets x m want (Begins g) named u = tt
+  meets x m want (Frames g) named u = tt
+  meets x m want Undoes named u = tt
+  meets x m want (Ends h) named u = tt
+  meets x m want (Takes key index) named u =
+      let w = word_of_name index u.0 key x.stock.buffers m named u.2 in
+      (u.0, u.1, record { before = w.before; cells = w.cells; behind = w.behind; live = w.live; is = w.is })
+  meets x m want (Puts key index) named u = absurd u
 
   short : (x : Known) (o : Option Request) → length (reply_for x o) ≤ 16
   short x None = omega arith
@@ -544,6 +690,88 @@ module _ (frames grants : ℕ → ℕ) (dom parts : ℕ) where
   takes st sc None p part words s h = ((s.0, s.1, asked_scene st.buffers sc s.2 part), (refl, h.1.1))
   takes st sc (Some q) p part words s h = absurd (true≢false h.0)
 
+  takes_whole : (st : Stock) (sc : Scene) (o : Option Request) (p : Progress) (part : ℕ) (words : List ℕ) → HasWhole false (known st sc o p) → Whole (display.taken (known st sc o p) part words)
+  takes_whole st sc None p part words h =
+      let q = request_of words in
+      (whole_any (frames dom) (goes_by q.asked (is_accepted (verdict st.buffers (record sc { part = part }) q.asked))) st.buffers h.1,
+       not_mapped (frames dom) q.asked progress.Decided st.mapped (λ z. let wrong : ⊥ = cc in wrong))
+  takes_whole st sc (Some q) p part words h = absurd (true≢false h.0.0)
+
+  leads_whole : (x : Known) (q : Request) (p : Progress) (a : Asked) → q.asked ≡ a → ready_at p (has_work x.stock.buffers x.scene a) ≡ false → x.request ≡ Some q → Whole x → (y : Known) (pl : Plan Ending) → Leads (job_of site x a) y pl → Whole y
+  leads_whole x q p (asked.Create c) f h has w y pl leads = subst (λ z. Whole z) leads.0 w
+  leads_whole x q progress.Decided (asked.Destroy cookie) f h has w y pl leads =
+      let bs = x.stock.buffers in
+      let new = bared cookie bs in
+      let accepted = destroy_accepted bs x.scene q.asked cookie f h in
+      let now : verdict new x.scene q.asked ≡ pos 0 = like_verdict new bs x.scene q.asked (numbered_bared cookie bs []) ∙ accepted in
+      let v = subst (λ (o : Option Request). WholeFor (frames dom) x.stock x.scene x.progress o) has w in
+      let but : AreWholeBut (frames dom) (goes_by (asked.Destroy cookie) true) bs =
+          subst (λ (z : Asked). AreWholeBut (frames dom) (goes_by z true) bs) f
+          (subst (λ t. AreWholeBut (frames dom) (goes_by q.asked (is_accepted t)) bs) accepted v.0) in
+      let after : AreWholeBut (frames dom) (goes_by q.asked (is_accepted (verdict new x.scene q.asked))) new =
+          subst (λ t. AreWholeBut (frames dom) (goes_by q.asked (is_accepted t)) new) (sym now)
+          (subst (λ (z : Asked). AreWholeBut (frames dom) (goes_by z true) new) (sym f) (bared_whole (frames dom) cookie bs but)) in
+      subst (λ z. Whole z) leads.0
+      (subst (λ (o : Option Request). WholeFor (frames dom) (freeing x cookie).stock x.scene x.progress o) (sym has) (after, v.1))
+  leads_whole x q progress.NoMemory (asked.Destroy cookie) f h has w y pl leads = absurd (true≢false h)
+  leads_whole x q progress.Denied (asked.Destroy cookie) f h has w y pl leads = absurd (true≢false h)
+  leads_whole x q progress.Mapped (asked.Destroy cookie) f h has w y pl leads = absurd (true≢false h)
+  leads_whole x q progress.Released (asked.Destroy cookie) f h has w y pl leads = absurd (true≢false h)
+  leads_whole x q p (asked.Attach c) f h has w y pl leads = subst (λ z. Whole z) leads.0 w
+  leads_whole x q p (asked.Detach c) f h has w y pl leads = subst (λ z. Whole z) leads.0 w
+  leads_whole x q p (asked.Config c) f h has w y pl leads = subst (λ z. Whole z) leads.0 w
+  leads_whole x q p (asked.Flip c) f h has w y pl leads = subst (λ z. Whole z) leads.0 w
+  leads_whole x q p asked.Other f h has w y pl leads = subst (λ z. Whole z) leads.0 w
+
+  begins_whole : (st : Stock) (sc : Scene) (o : Option Request) (p : Progress) (y : Known) (pl : Plan Ending) → HasWhole true (known st sc o p) → display.ready (known st sc o p) ≡ false → Leads (job_for site (known st sc o p) o) y pl → Whole y
+  begins_whole st sc None p y pl h r leads = absurd (false≢true h.0.0)
+  begins_whole st sc (Some q) p y pl h r leads = leads_whole (known st sc (Some q) p) q p q.asked refl r refl h.1 y pl leads
+
+  starves_whole : (st : Stock) (sc : Scene) (o : Option Request) (p : Progress) (y : Known) → HasWhole true (known st sc o p) → WantsFor (job_for site (known st sc o p) o) y → Whole y
+  starves_whole st sc None p y h wants = absurd wants
+  starves_whole st sc (Some q) p y h wants = by_asked q.asked wants
+    where
+      by_asked : (a : Asked) → WantsFor (job_of site (known st sc (Some q) p) a) y → Whole y
+      by_asked (asked.Create c) wants =
+          subst (λ z. Whole z) wants (h.1.0, not_mapped (frames dom) q.asked progress.NoMemory st.mapped (λ z. let wrong : ⊥ = cc in wrong))
+      by_asked (asked.Destroy c) wants = absurd wants
+      by_asked (asked.Attach c) wants = absurd wants
+      by_asked (asked.Detach c) wants = absurd wants
+      by_asked (asked.Config c) wants = absurd wants
+      by_asked (asked.Flip c) wants = absurd wants
+      by_asked asked.Other wants = absurd wants
+
+  -- by how far the request has come
+  moved_whole : (x : Known) (q : Request) (st : Stock) (p : Progress) → st.buffers ≡ x.stock.buffers → x.request ≡ Some q → AreMapped (frames dom) q.asked p st.mapped → Whole x → Whole (record x { stock = st; progress = p })
+  moved_whole x q st p same has mapped w =
+      let v = subst (λ (o : Option Request). WholeFor (frames dom) x.stock x.scene x.progress o) has w in
+      subst (λ (o : Option Request). WholeFor (frames dom) st x.scene p o) (sym has)
+      (subst (λ (bs : List Held). AreWholeBut (frames dom) (goes_by q.asked (is_accepted (verdict bs x.scene q.asked))) bs) (sym same) v.0, mapped)
+
+  ends_whole : (x : Known) (a : Ending) → EndsHeld x a → Whole x → Whole (after_end x a)
+  ends_whole x (Listed (walked.Pages ps)) e w =
+      moved_whole x e.0.request (record { mapped = ps; buffers = x.stock.buffers }) progress.Mapped refl e.0.in_hand
+      (subst (λ (z : Asked). AreMapped (frames dom) z progress.Mapped ps) (sym e.0.creating.0) e.1.2) w
+  ends_whole x (Listed (walked.Refused why)) e w =
+      moved_whole x e.0.request x.stock progress.Denied refl e.0.in_hand
+      (not_mapped (frames dom) e.0.request.asked progress.Denied x.stock.mapped (λ z. let wrong : ⊥ = cc in wrong)) w
+  ends_whole x Freed e w =
+      moved_whole x e.request x.stock progress.Released refl e.in_hand
+      (not_mapped (frames dom) e.request.asked progress.Released x.stock.mapped (λ z. let wrong : ⊥ = cc in wrong)) w
+  ends_whole x (Served v) e w = absurd e
+  ends_whole x (Pictured part shown) e w = absurd e
+
+  answers_whole : (st : Stock) (sc : Scene) (o : Option Request) (p : Progress) → HasWhole true (known st sc o p) → display.ready (known st sc o p) ≡ true → Whole (display.answered (known st sc o p))
+  answers_whole st sc None p h r = absurd (false≢true h.0.0)
+  answers_whole st sc (Some q) p h r =
+      let is = answer_at (known st sc (Some q) p) q p q.asked (is_accepted (verdict st.buffers sc q.asked)) refl refl r h.0.1 in
+      answered_whole (frames dom) st sc q p h.0.1 is.0 h.1
+
+  raises_whole : (x : Known) (e : Option Waiting) (part : ℕ) → HasWhole false x → IsRaise display x e part → Whole (flipped_for x e)
+  raises_whole x e part h i =
+      by_raise x (λ z what y. Whole y) e part i
+      (λ fb is. whole_still (frames dom) x.stock x.scene (after_blank_at x.scene part) x.progress x.request h.0.0 h.1)
+
   pub laws : Laws display table shows (facts frames grants dom parts) site frames grants
   laws =
       record {
@@ -552,40 +780,40 @@ module _ (frames grants : ℕ → ℕ) (dom parts : ℕ) where
         refusal_is = λ b vs e. refl;
         pages_are = λ x s. s.0;
         short = λ x. short x x.request;
-        begun_sane = λ nodes. ((tt, no_buffers, none_sound []), (refl, (refl, refl)), refl);
+        begun_sane = λ nodes. ((tt, no_buffers, none_sound []), ((refl, (refl, refl)), tt), refl);
         begun_shows = λ nodes. (refl, refl, refl);
         strips = λ x s. ((subst (λ hs. AreOf (grants dom) dom hs) (sym (none_left x.stock)) tt, like_sound x.stock.buffers (all_bared x.stock.buffers) (sym (numbered_all_bared x.stock.buffers [])) s.1, like_scene x.stock.buffers (all_bared x.stock.buffers) x.scene (sym (numbered_all_bared x.stock.buffers [])) s.2), none_left x.stock);
-        strips_shows = λ x m s named. (named ∙ sym (like_length (all_bared x.stock.buffers) x.stock.buffers (numbered_all_bared x.stock.buffers [])), ap (λ z. record (shows.rows x m) { buffers = z }) (numbered_all_bared x.stock.buffers m), none_bared x.stock.buffers m, λ key. refl);
+        strips_shows = λ x m s named. (named ∙ sym (like_length (all_bared x.stock.buffers) x.stock.buffers (numbered_all_bared x.stock.buffers [])), ap (λ z. record (shows.rows x m) { buffers = z }) (numbered_all_bared x.stock.buffers m), none_bared x.stock.buffers m, λ key. ap (number_under key) (numbered_all_bared x.stock.buffers m));
         drops = λ x s. (s, refl);
         drops_shows = λ x m named. (named, refl, refl);
         bare = λ x m named none. names_none x.stock.buffers m (all_behind x.stock.mapped (buffer_pages x.stock.buffers) none);
-        takes = λ x part words s h. takes x.stock x.scene x.request x.progress part words s h;
+        takes = λ x part words s h. let b = takes x.stock x.scene x.request x.progress part words s h.0 in (b.0, (b.1, takes_whole x.stock x.scene x.request x.progress part words h));
         takes_pages = λ x part words. refl;
         takes_shows = λ x part words m named. (named, refl, refl);
-        begins = λ x y pl s h r leads. begins x.stock x.scene x.request x.progress y pl s h r leads;
-        begins_shows = λ x y pl m s h r leads named. let b = begins_shows x.stock x.scene x.request x.progress y pl m r leads named in (b.0, b.1, λ key. refl);
+        begins = λ x y pl s h r leads. let b = begins x.stock x.scene x.request x.progress y pl s h.0 r leads in (b.0, (b.1, begins_whole x.stock x.scene x.request x.progress y pl h r leads), b.2);
+        begins_shows = λ x y pl m s h r leads named. let b = begins_shows x.stock x.scene x.request x.progress y pl m r leads named in (b.0, b.1, λ key. ap (λ (z : Lines). number_under key z.buffers) b.1);
         begins_names = λ x y pl m sight s h r leads named. begins_names x.stock x.scene x.request x.progress y pl m sight r leads;
-        starves = λ x y s h r wants. starves x.stock x.scene x.request x.progress y s h r wants;
-        starves_shows = λ x y m s h r wants named. starves_shows x.stock x.scene x.request x.progress y m s h r wants named;
-        ends = λ x f ts a s h e. ends x a s e.0;
+        starves = λ x y s h r wants. let b = starves x.stock x.scene x.request x.progress y s h.0 r wants in (b.0, (b.1, starves_whole x.stock x.scene x.request x.progress y h wants), b.2, b.3);
+        starves_shows = λ x y m s h r wants named. starves_shows x.stock x.scene x.request x.progress y m s h.0 r wants named;
+        ends = λ x f ts a s h e. let b = ends x a s e.0 in (b.0, (b.1, ends_whole x a e.0 h.1));
         ends_told = λ x f ts a m what s h e named i. ends_told x f ts a m what e named i;
         ends_quiet = λ x f ts a m s h e named i. ends_quiet x a m e.0 named i;
-        answers = λ x s h r. answers x.stock x.scene x.request x.progress s h r;
-        answers_shows = λ x n m s h r named. answers_shows x.stock x.scene x.request x.progress n m s h r named;
-        serves = λ x e p s h event. serves_so x e p event;
+        answers = λ x s h r. let b = answers x.stock x.scene x.request x.progress s h.0 r in (b.0, (b.1, answers_whole x.stock x.scene x.request x.progress h r), b.2);
+        answers_shows = λ x n m s h r named. answers_shows x.stock x.scene x.request x.progress n m s h.0 r named;
+        serves = λ x e p s h event. serves_so x e p s (whole_none (frames dom) x.stock x.scene x.progress x.request h.0.0 h.1) event;
         served = λ x e f ts a s h d. served x e f ts a s h d;
         served_told = λ x e f ts a m what s h d named i. served_told x e f ts a m what d named i;
         served_says = λ x e f ts a d i. served_says x e f ts a d i;
         owes_idle = λ x o b owes h. let wrong : ⊥ = cc in absurd wrong;
         owes_short = λ x o n owes. let wrong : ⊥ = cc in absurd wrong;
         event_short = event_short;
-        raises = λ x e part s h i. raises x e part s h i;
+        raises = λ x e part s h i. let b = raises x e part s h.0 i in ((b.0.0, (b.0.1, raises_whole x e part h i), b.0.2), (s, h, refl));
         raises_shows = λ x e part m s h i named. raises_shows x e part m i named;
         put_told = λ x e part m told s h i named. put_told x e part m told i;
         full_told = λ x e part m told s h i named. full_told x e part m told i;
         full_ends = λ x o s owes. refl;
-        meets_plain = λ x want note u. u;
-        meets = λ x m want note s named u. meets x m want note u;
+        meets_plain = meets_plain;
+        meets = λ x m want note s named u. meets x m want note named u;
       }
 
 pub keeps_laws : KeepsLaws display table shows facts

@@ -47,7 +47,8 @@ use Rattle.display_backend.specs.Waiting.{said_of}
 use Rattle.display_backend.specs.Kept as kept
 use Rattle.display_backend.specs.Scene.{IsSound, Scene, after_blank_at, pending_at, scene_after}
 use Rattle.display_backend.specs.Kept.{AreMapped, AreWholeBut, Come, HasCome, HasComeTo, IsCreating, IsDestroying, IsNamed, IsWalking, IsFreeing, WholeFor, facts, goes_by}
-use Rattle.display_backend.specs.Picture.{AreShown, Source, is_within, number_under, source_at}
+use Rattle.display_backend.specs.declared.picture.Source.{Source}
+use Rattle.display_backend.specs.Picture.{AreShown, is_within, number_under, source_at}
 use Rattle.displ_wire.specs.Wire.{request_of}
 use Rattle.pv_words.specs.declared.access.Access.{Access}
 use Rattle.device_core.specs.Learned.{learning}

@@ -15,5 +15,6 @@ pub mod Places
 pub mod Scenes
 pub mod Serviced
 mod Pictures
+mod Loads
 mod Taking
 mod Wholes

@@ -25,7 +25,8 @@ use Rattle.picture_scan.specs.declared.shape.Shape.{Shape}
 use Rattle.picture_scan.specs.Laws.{AreRead, IsShown, taken}
 use Rattle.picture_scan.specs.Rectangle.{IsWithin, is_depth, row_pixels, row_words, rows_octets}
 use Rattle.display_backend.specs.Names.{numbered}
-use Rattle.display_backend.specs.Picture.{Source, is_within, source_at, source_by, source_in, source_of}
+use Rattle.display_backend.specs.declared.picture.Source.{Source}
+use Rattle.display_backend.specs.Picture.{is_within, source_at, source_by, source_in, source_of}
 use Rattle.display_backend.specs.Kept.{AreAllOf, AreWholeBut}
 use Rattle.display_backend.specs.Scene.{IsSound, LiesInLive, Scene, buffer_at, connector_at}
 use Rattle.display_backend.specs.Stock.{Held, pages_under}

@@ -25,7 +25,7 @@ use Rattle.device_service.specs.declared.deed.Now.{Now}
 use Rattle.device_service.specs.declared.deed.Now.TheVariants.{GoesOn, Over}
 use Rattle.device_service.specs.Operating.{Comes, Continues, Leaves}
 use Rattle.display_backend.specs.declared.course.Course.{Course}
-use Rattle.display_backend.specs.declared.course.Course.TheVariants.{Rests, Walks, Frees}
+use Rattle.display_backend.specs.declared.course.Course.TheVariants.{Rests, Walks, Frees, Reads}
 use Rattle.display_backend.specs.declared.course.Progress.{Progress}
 use Rattle.display_backend.specs.declared.course.Progress.TheVariants as progress
 use Rattle.display_backend.specs.Course.{Goes, is_under_way, is_walk_of, pages_walked, stock_at, left_at, Creates, Destroys, ComesTo, InHand, HasDestroy, Releases, Stands}
@@ -54,6 +54,7 @@ knowing s sc hand p = record { stock = s; scene = sc; request = hand; progress =
 pub at_rest : (course : Course) (s : Stock) → is_under_way course ≡ false → stock_at course s ≡ s
 at_rest Rests s e = refl
 at_rest (Walks w) s e = refl
+at_rest (Reads r) s e = refl
 at_rest (Frees cookie) s e = absurd (true≢false e)
 
 goes_mapped : {A B : Type 0} (f : A → B) (p : Plan A) (a : Access) (q : Plan A) → plan.Goes p a q → plan.Goes (mapped f p) a (mapped f q)
@@ -219,6 +220,7 @@ in_hand_less s (Some q) p count h = comes_less s p q.asked count h
 
 pub stands_less : (course : Course) (hand : Option Request) (p : Progress) (s t : Stock) (count more : ℕ) → is_under_way course ≡ false → t ≡ without_first s → more ≡ count → Stands course hand p s.buffers count → Stands course hand p t.buffers more
 stands_less (Walks w) hand p s t count more idle e f st = absurd (true≢false idle)
+stands_less (Reads r) hand p s t count more idle e f st = absurd (true≢false idle)
 stands_less (Frees cookie) hand p s t count more idle e f st = absurd (true≢false idle)
 stands_less Rests hand p s t count more idle e f st =
     subst (λ (x : Stock). InHand hand p x.buffers more) (sym e)
@@ -251,6 +253,7 @@ in_walked access course w s is h =
 verdict_at : (course : Course) (s : Stock) (sc : Scene) (asks : Asked) → verdict (stock_at course s).buffers sc asks ≡ verdict s.buffers sc asks
 verdict_at Rests s sc asks = refl
 verdict_at (Walks w) s sc asks = refl
+verdict_at (Reads r) s sc asks = refl
 verdict_at (Frees cookie) s sc asks = like_verdict (bared cookie s.buffers) s.buffers sc asks (numbered_bared cookie s.buffers [])
 
 pub reply_is : (course : Course) (q : Request) (hand : Option Request) (p : Progress) (s : Stock) (sc : Scene) (status : ℤ) → hand ≡ Some q → status ≡ status_in p (verdict s.buffers sc q.asked) → reply_to q status ≡ reply_for (knowing (stock_at course s) sc hand p) hand

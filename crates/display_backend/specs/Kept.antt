@@ -20,7 +20,7 @@ use Rattle.link_core.specs.Laws.{AreOf}
 use Rattle.device_core.specs.Touched.{Touch}
 use Rattle.device_service.specs.Laws.{Facts}
 use Rattle.display_backend.specs.declared.course.Course.{Course}
-use Rattle.display_backend.specs.declared.course.Course.TheVariants.{Rests, Walks, Frees}
+use Rattle.display_backend.specs.declared.course.Course.TheVariants.{Rests, Walks, Frees, Reads}
 use Rattle.display_backend.specs.declared.course.Progress.{Progress}
 use Rattle.display_backend.specs.declared.course.Progress.TheVariants as progress
 use Rattle.display_backend.specs.declared.waiting.Waiting.{Waiting}
@@ -28,7 +28,8 @@ use Rattle.display_backend.specs.declared.waiting.Waiting.TheVariants as waiting
 use Rattle.display_backend.specs.Course.{is_under_way, pages_walked, stock_at}
 use Rattle.display_backend.specs.Scene.{IsSound, Scene, pending_at}
 use Rattle.display_backend.specs.Service.{Known, Ending, Listed, Freed, Served, Pictured, reply_for, display}
-use Rattle.display_backend.specs.Picture.{Source, source_at}
+use Rattle.display_backend.specs.declared.picture.Source.{Source}
+use Rattle.display_backend.specs.Picture.{source_at}
 use Rattle.picture_scan.specs.declared.scan.Shown.{Shown}
 use Rattle.picture_scan.specs.Laws.{HasShown}
 use Rattle.device_core.specs.Names.{cells_of}
@@ -192,6 +193,7 @@ pub holds_pages : (course : Course) (s : Stock) → is_under_way course ≡ fals
 holds_pages Rests s e = refl
 holds_pages (Walks w) s e = absurd (true≢false e)
 holds_pages (Frees cookie) s e = absurd (true≢false e)
+holds_pages (Reads r) s e = absurd (true≢false e)
 
 -- where none is held, none is given up
 pub stays_bare : (x : Known) → pages_of x.stock ≡ [] → display.stripped x ≡ x

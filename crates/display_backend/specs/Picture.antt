@@ -12,12 +12,8 @@ use Rattle.picture_scan.specs.declared.scan.Shown.{Shown}
 use Rattle.picture_scan.specs.declared.shape.Shape.{Shape}
 use Rattle.picture_scan.specs.Laws.{HasShown}
 use Rattle.picture_scan.specs.Rectangle.{is_depth, rows_octets}
+use Rattle.display_backend.specs.declared.picture.Source.{Source}
 use Rattle.display_backend.specs.Scene.{Scene, buffer_at, connector_at}
-
--- a rectangle of the display buffer of a cookie
-pub record Source : Type 0 where
-  pub dbuf : ℕ
-  pub shape : Shape
 
 -- a framebuffer lies at the top left of its display buffer, whose rows have that buffer's width
 abbrev pub source_in : Picture → ℕ → Option Buffer → Option Source

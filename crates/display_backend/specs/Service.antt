@@ -31,7 +31,8 @@ use Rattle.display_backend.specs.Stock as stock
 use Rattle.display_backend.specs.Names.{ids_after, live_names, names_under, numbered, numbers}
 use Rattle.picture_scan.specs.declared.scan.Shown.{Shown}
 use Rattle.picture_scan.specs.Scanning.{scan_plan}
-use Rattle.display_backend.specs.Picture.{AreShown, Source, is_within, number_under, source_at}
+use Rattle.display_backend.specs.declared.picture.Source.{Source}
+use Rattle.display_backend.specs.Picture.{AreShown, is_within, number_under, source_at}
 use Rattle.display_backend.specs.Reply.{replied_to, reply_to, stock_after}
 use Rattle.display_backend.specs.Scene.{Scene, after_blank_at, no_scene, pending_at, scene_after}
 use Rattle.display_backend.specs.Verdict.{IsStatus, is_accepted, is_creation, is_denied, status_in, verdict}

@@ -2,10 +2,12 @@
 
 ghost use Rattle.std.specs.Prelude.{◌≡◌, length};
 
+use crate::picture::Source;
 use crate::store::Store;
 use connectors::Connector;
 use displ_wire::{Asked, Attach, Config, Refused, encode_event};
 use framebuffers::Frames;
+use picture_scan::Shape;
 use pv_words::Said;
 use std::alloc::{AllocError, Global};
 
@@ -30,6 +32,7 @@ impl Scene {
     ghost use Rattle.display_backend.specs.Scene.{no_scene, pending_at, scene_after, with_connector};
     ghost use Rattle.display_backend.specs.Service.{flip_words, flipped_at, raised_at};
     ghost use Rattle.display_backend.specs.Showing.{scene_of};
+    ghost use Rattle.display_backend.specs.Picture.{source_at};
     ghost use Rattle.display_backend.specs.Store.{stock_of};
     ghost use Rattle.display_backend.specs.Verdict.{verdict};
 
@@ -95,6 +98,26 @@ impl Scene {
         if k < CONNECTORS {
             self.connectors[k] = connector;
         }
+    }
+
+    /// What the connector of a part shows; None where it has no rectangle, or shows no framebuffer.
+    pub fn source(&self, store: &Store, part: u8) -> Option<Source>
+        ensures { result ≡ source_at (stock_of store.now).buffers (scene_of self.now) part }
+    {
+        let picture = self.connector(part).picture()?;
+        let frame = self.frames.find(picture.fb)?;
+        let buffer = store.buffer(frame.dbuf)?;
+        Some(Source {
+            dbuf: frame.dbuf,
+            shape: Shape {
+                width: buffer.width,
+                bpp: buffer.bpp,
+                x: picture.x,
+                y: picture.y,
+                columns: picture.width,
+                rows: picture.height,
+            },
+        })
     }
 
     /// The first check of an ATTACH that fails.

@@ -1,6 +1,8 @@
 //! The service of a display.
 
-ghost use Rattle.std.specs.Prelude.{◌≡◌, ◌+◌, ◌<◌, ◌++◌, IfOk, false, length, slice_get, Some};
+ghost use Rattle.std.specs.Prelude.{◌≡◌, ◌+◌, ◌<◌, ◌++◌, IfOk, false, length, slice_get, Some, None};
+ghost use Rattle.device_service.specs.declared.deed.Now.TheVariants as now;
+ghost use Rattle.display_backend.specs.Waiting.{said_of};
 ghost use Rattle.std.proofs.Props.{props};
 ghost use Rattle.display_backend.specs.Course.{Stands, pages_walked};
 ghost use Rattle.display_backend.specs.CourseFacts.{stands_prop};
@@ -8,6 +10,7 @@ ghost use Rattle.display_backend.specs.Stock.{pages_of};
 ghost use Rattle.display_backend.specs.Store.{stock_of, count_of};
 
 use crate::course::{Course, Progress};
+use crate::picture::Reading;
 use crate::scene::Scene;
 use crate::store::Store;
 use crate::verdict::{answered, status_at, verdict_on};
@@ -15,6 +18,7 @@ use crate::waiting::{Waiting, said_of, waiting_of};
 use device_service::{Deed, Now, Serve};
 use displ_wire::{Asked, Create, Request, decode, encode_reply};
 use page_directory::{Walk, Walked};
+use picture_scan::Scan;
 use pv_words::{Access, DomId, GrantRef, Hold, HostEvent, Mode, Said, Words};
 use std::alloc::{AllocError, Global};
 use std::mem;
@@ -44,7 +48,11 @@ impl Service {
     ghost use Rattle.link_core.specs.Activities.{unmaps};
     ghost use Rattle.link_core.specs.Stays.{AccessIn};
     ghost use Rattle.device_core.specs.Site.{Site};
-    ghost use Rattle.device_service.specs.Operating.{is_going};
+    ghost use Rattle.device_service.specs.Operating.{MayDeed, is_going};
+    ghost use Rattle.display_backend.specs.declared.waiting.Waiting.TheVariants as waiting;
+    ghost use Rattle.display_backend.specs.Course.{IsReading, scan_left};
+    ghost use Rattle.display_backend.specs.Over.{ReadsFor, ReadsOn, ShowsFor};
+    ghost use Rattle.display_backend.specs.Service.{event_for};
     ghost use Rattle.display_backend.specs.declared.course.Progress.TheVariants as progress;
     ghost use Rattle.display_backend.specs.declared.course.Course.TheVariants as course;
     ghost use Rattle.display_backend.specs.Course.{HasCreate};
@@ -78,7 +86,7 @@ impl Service {
     {
         match &self.course {
             Course::Walks(walk) => walk.held(),
-            Course::Rests | Course::Frees(_) => 0,
+            Course::Rests | Course::Frees(_) | Course::Reads(_) => 0,
         }
     }
 
@@ -162,6 +170,70 @@ impl Service {
         }
     }
 
+    // The reading of what a connector shows, before its first load, where it shows something.
+    fn reading(&self, part: u8) -> Option<Reading>
+        requires idle { self.now.course ≡ course.Rests }
+        ensures { ReadsFor self.now part result }
+    {
+        let source = self.scene.source(&self.store, part)?;
+        let place = self.store.place_of(source.dbuf)?;
+        if !source.shape.is_within(4096 * self.store.held_at(place)) {
+            return None;
+        }
+        Some(Reading {
+            part,
+            place,
+            scan: Scan::new(source.shape, source.dbuf),
+        })
+    }
+
+    // The next access of this reading.
+    fn read<W: Words>(&mut self, words: &mut W, reading: Reading) -> Deed
+        requires idle { self.old.course ≡ course.Rests }
+        requires reads { IsReading reading (stock_of self.old.store).buffers }
+        requires may { MayGo (W.may words.old) (scan_left (stock_of self.old.store).buffers reading) }
+        ensures goes { (site : Site) → ReadsOn site self.old reading result self.new }
+        ensures made { Makes W.makes words.old result.access words.new }
+        ensures stays { AccessIn (pages_of (stock_of self.old.store)) result.access }
+        ensures going { going_of self.new ≡ is_going result.now }
+        ensures domain { (dom : ℕ) → is_of dom self.new ≡ true }
+    {
+        let mut reading = reading;
+        let turn = self
+            .store
+            .scan_at(reading.place, &mut reading.scan, words);
+        let access = turn.access;
+        let Some(shown) = turn.done else {
+            self.course = Course::Reads(reading);
+            return Deed {
+                access,
+                said: None,
+                now: Now::GoesOn,
+            };
+        };
+        Deed {
+            access,
+            said: Some(Said::Shown(reading.part, shown.pixels, shown.mark)),
+            now: Now::Over,
+        }
+    }
+
+    // The first step of a Show.
+    fn show<W: Words>(&mut self, words: &mut W, part: u8) -> Deed
+        requires idle { self.old.course ≡ course.Rests }
+        requires may { MayDeed (W.may words.old) (event_for (known_of self.old) (waiting.Show part)) }
+        ensures serves { (site : Site) → ShowsFor site self.old part result self.new }
+        ensures made { Makes W.makes words.old result.access words.new }
+        ensures stays { AccessIn (held_of self.old) result.access }
+        ensures going { going_of self.new ≡ is_going result.now }
+        ensures domain { (dom : ℕ) → is_of dom self.new ≡ true }
+    {
+        match self.reading(part) {
+            Some(reading) => self.read(words, reading),
+            None => told(Waiting::Show(part)),
+        }
+    }
+
     // The next access of the Release of a DESTROY.
     fn free<W: Words>(&mut self, words: &mut W, cookie: u64) -> Deed
         requires freeing { self.old.course ≡ course.Frees cookie }
@@ -187,6 +259,19 @@ impl Service {
             said: None,
             now: Now::Over,
         }
+    }
+}
+
+// An event that only is told.
+fn told(event: Waiting) -> Deed
+    ensures access { result.access ≡ None }
+    ensures said { result.said ≡ Some (said_of event) }
+    ensures now { result.now ≡ now.Over }
+{
+    Deed {
+        access: None,
+        said: Some(said_of(event)),
+        now: Now::Over,
     }
 }
 
@@ -302,10 +387,9 @@ impl Serve for Service {
     }
 
     fn serve<W: Words>(&mut self, dom: DomId, parts: u8, words: &mut W, event: Waiting) -> Deed {
-        Deed {
-            access: None,
-            said: Some(said_of(event)),
-            now: Now::Over,
+        match event {
+            Waiting::Blank(_) => told(event),
+            Waiting::Show(part) => self.show(words, part),
         }
     }
 
@@ -348,6 +432,7 @@ impl Serve for Service {
         }
         match mem::replace(&mut self.course, Course::Rests) {
             Course::Walks(walk) => self.walk(words, walk),
+            Course::Reads(reading) => self.read(words, reading),
             Course::Rests | Course::Frees(_) => unreachable!(),
         }
     }

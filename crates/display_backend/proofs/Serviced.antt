@@ -57,7 +57,7 @@ at_rest (Walks w) s e = refl
 at_rest (Reads r) s e = refl
 at_rest (Frees cookie) s e = absurd (true≢false e)
 
-goes_mapped : {A B : Type 0} (f : A → B) (p : Plan A) (a : Access) (q : Plan A) → plan.Goes p a q → plan.Goes (mapped f p) a (mapped f q)
+pub goes_mapped : {A B : Type 0} (f : A → B) (p : Plan A) (a : Access) (q : Plan A) → plan.Goes p a q → plan.Goes (mapped f p) a (mapped f q)
 goes_mapped f (Finished x) a q g = absurd g
 goes_mapped f (Make want note more) a q g = (g.0, ap (mapped f) g.1)
 

@@ -509,8 +509,8 @@ module _ (frames grants : ℕ → ℕ) (dom parts : ℕ) where
   told x f ts m (waiting.Show part) named none =
       let bs = numbered x.stock.buffers m in
       let shown : AreShown bs (source_at bs x.scene part) (map (touch.numbered (shows.number x m)) ts) (record { pixels = 0; mark = 0 }) =
-          subst (λ (o : Option Source). AreShown bs o (map (touch.numbered (shows.number x m)) ts) (record { pixels = 0; mark = 0 }))
-          (sym (same_source x.stock.buffers m x.scene part ∙ none)) (refl, refl) in
+      subst (λ (o : Option Source). AreShown bs o (map (touch.numbered (shows.number x m)) ts) (record { pixels = 0; mark = 0 }))
+      (sym (same_source x.stock.buffers m x.scene part ∙ none)) (refl, refl) in
       (tt, named, (refl, shown, refl), refl)
 
   pictured : (x : Known) (f : Found) (ts : List Touch) (m : List ℕ) (part : ℕ) (shown : Shown) → IsNamed x m → kept.IsRead frames grants dom parts x part ts shown → Told x f ts m (waiting.Show part) (said.Shown part shown.pixels shown.mark)
@@ -518,11 +518,11 @@ module _ (frames grants : ℕ → ℕ) (dom parts : ℕ) where
       let bs = numbered x.stock.buffers m in
       let number : Touch → Touch = touch.numbered (shows.number x m) in
       let all : AreShown bs (source_at bs x.scene part) (map number ts) shown =
-          subst (λ (o : Option Source). AreShown bs o (map number ts) shown)
-          (sym (same_source x.stock.buffers m x.scene part ∙ r.is)) (
-            map number r.before,
-            (map number r.by.0, ap (map number) r.by.1 ∙ map-append number r.before r.by.0, shown_numbered (shows.number x m) r.source.dbuf r.source.shape r.by.0 shown r.by.2),
-          ) in
+      subst (λ (o : Option Source). AreShown bs o (map number ts) shown)
+      (sym (same_source x.stock.buffers m x.scene part ∙ r.is)) (
+        map number r.before,
+        (map number r.by.0, ap (map number) r.by.1 ∙ map-append number r.before r.by.0, shown_numbered (shows.number x m) r.source.dbuf r.source.shape r.by.0 shown r.by.2),
+      ) in
       (tt, named, (refl, all, refl), refl)
 
   served_told : (x : Known) (e : Waiting) (f : Found) (ts : List Touch) (a : Ending) (m : List ℕ) (what : Said) → EndsDone e x f ts a → IsNamed x m → says_at a ≡ Some what → IsOfService what × IsNamed (after_end x a) m × table.Serves site (shows.rows x m) e (evidence shows x m ts f) what (shows.rows (after_end x a) m) × (shows.names (after_end x a) m ≡ shows.names x m)
@@ -693,9 +693,10 @@ module _ (frames grants : ℕ → ℕ) (dom parts : ℕ) where
 
   takes_whole : (st : Stock) (sc : Scene) (o : Option Request) (p : Progress) (part : ℕ) (words : List ℕ) → HasWhole false (known st sc o p) → Whole (display.taken (known st sc o p) part words)
   takes_whole st sc None p part words h =
-      let q = request_of words in
-      (whole_any (frames dom) (goes_by q.asked (is_accepted (verdict st.buffers (record sc { part = part }) q.asked))) st.buffers h.1,
-       not_mapped (frames dom) q.asked progress.Decided st.mapped (λ z. let wrong : ⊥ = cc in wrong))
+      let q = request_of words in (
+        whole_any (frames dom) (goes_by q.asked (is_accepted (verdict st.buffers (record sc { part = part }) q.asked))) st.buffers h.1,
+        not_mapped (frames dom) q.asked progress.Decided st.mapped (λ z. let wrong : ⊥ = cc in wrong),
+      )
   takes_whole st sc (Some q) p part words h = absurd (true≢false h.0.0)
 
   leads_whole : (x : Known) (q : Request) (p : Progress) (a : Asked) → q.asked ≡ a → ready_at p (has_work x.stock.buffers x.scene a) ≡ false → x.request ≡ Some q → Whole x → (y : Known) (pl : Plan Ending) → Leads (job_of site x a) y pl → Whole y
@@ -707,11 +708,11 @@ module _ (frames grants : ℕ → ℕ) (dom parts : ℕ) where
       let now : verdict new x.scene q.asked ≡ pos 0 = like_verdict new bs x.scene q.asked (numbered_bared cookie bs []) ∙ accepted in
       let v = subst (λ (o : Option Request). WholeFor (frames dom) x.stock x.scene x.progress o) has w in
       let but : AreWholeBut (frames dom) (goes_by (asked.Destroy cookie) true) bs =
-          subst (λ (z : Asked). AreWholeBut (frames dom) (goes_by z true) bs) f
-          (subst (λ t. AreWholeBut (frames dom) (goes_by q.asked (is_accepted t)) bs) accepted v.0) in
+      subst (λ (z : Asked). AreWholeBut (frames dom) (goes_by z true) bs) f
+      (subst (λ t. AreWholeBut (frames dom) (goes_by q.asked (is_accepted t)) bs) accepted v.0) in
       let after : AreWholeBut (frames dom) (goes_by q.asked (is_accepted (verdict new x.scene q.asked))) new =
-          subst (λ t. AreWholeBut (frames dom) (goes_by q.asked (is_accepted t)) new) (sym now)
-          (subst (λ (z : Asked). AreWholeBut (frames dom) (goes_by z true) new) (sym f) (bared_whole (frames dom) cookie bs but)) in
+      subst (λ t. AreWholeBut (frames dom) (goes_by q.asked (is_accepted t)) new) (sym now)
+      (subst (λ (z : Asked). AreWholeBut (frames dom) (goes_by z true) new) (sym f) (bared_whole (frames dom) cookie bs but)) in
       subst (λ z. Whole z) leads.0
       (subst (λ (o : Option Request). WholeFor (frames dom) (freeing x cookie).stock x.scene x.progress o) (sym has) (after, v.1))
   leads_whole x q progress.NoMemory (asked.Destroy cookie) f h has w y pl leads = absurd (true≢false h)

@@ -183,16 +183,16 @@ picture_within frames bs sc part s sound is_sound whole e =
     let c = connector_at sc part in
     let k = connector_sound sc part is_sound.connectors_are in
     let shows : connectors.Shows of.picture of.frame =
-        subst (λ (o : Option Framebuffer). IsSomeAnd o (connectors.Shows of.picture)) of.is_frame
-        (picture_shown sc.frames c.rectangle c.shown of.picture k.has_pixels k.shown of.is_picture) in
+    subst (λ (o : Option Framebuffer). IsSomeAnd o (connectors.Shows of.picture)) of.is_frame
+    (picture_shown sc.frames c.rectangle c.shown of.picture k.has_pixels k.shown of.is_picture) in
     let lies : LiesIn of.frame of.buffer =
-        subst (λ (o : Option Buffer). IsSomeAnd o (LiesIn of.frame)) of.is_buffer
-        (frame_so (LiesInLive bs) of.picture.fb sc.frames of.frame is_sound.frames_lie of.is_frame) in
+    subst (λ (o : Option Buffer). IsSomeAnd o (LiesIn of.frame)) of.is_buffer
+    (frame_so (LiesInLive bs) of.picture.fb sc.frames of.frame is_sound.frames_lie of.is_frame) in
     let there = found_at (λ (b : Held). false ≡ false → AreAllOf frames b.buffer.buffer_sz b.pages) of.frame.dbuf bs of.buffer whole of.is_buffer in
     let range = found_at (λ (b : Held). is_in_range b.buffer ≡ true) of.frame.dbuf bs of.buffer sound.in_range of.is_buffer in
     let are : AreAllOf frames of.buffer.buffer_sz (pages_under of.frame.dbuf bs) =
-        subst (λ (x : Buffer). AreAllOf frames x.buffer_sz (pages_under of.frame.dbuf bs)) there.1
-        (subst (λ (ps : List Hold). AreAllOf frames there.0.buffer.buffer_sz ps) there.2 (there.3 refl)) in
+    subst (λ (x : Buffer). AreAllOf frames x.buffer_sz (pages_under of.frame.dbuf bs)) there.1
+    (subst (λ (ps : List Hold). AreAllOf frames there.0.buffer.buffer_sz ps) there.2 (there.3 refl)) in
     let in_range : is_in_range of.buffer ≡ true = subst (λ (x : Buffer). is_in_range x ≡ true) range.1 range.3 in
     let own : Source = record {
       dbuf = of.frame.dbuf;

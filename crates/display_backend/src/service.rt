@@ -199,9 +199,7 @@ impl Service {
         ensures domain { (dom : ℕ) → is_of dom self.new ≡ true }
     {
         let mut reading = reading;
-        let turn = self
-            .store
-            .scan_at(reading.place, &mut reading.scan, words);
+        let turn = self.store.scan_at(reading.place, &mut reading.scan, words);
         let access = turn.access;
         let Some(shown) = turn.done else {
             self.course = Course::Reads(reading);

@@ -42,10 +42,10 @@ returns-then-not-is_within c =
     let here = under_place s.dbuf st.buffers c.in_ok-place.place c.in_ok-place.ensures in
     ap (λ k. show_of part (stock_at k st).buffers (source_at (stock_at k st).buffers sc part)) c.requires.idle
     ∙ told_by part st.buffers (source_at st.buffers sc part) s (sym c.in_ok-source.ensures)
-        (ap (λ (ps : List Hold). is_within (4096 * length ps) s.shape) here
-        ∙ ap (λ n. is_within (4096 * n) s.shape) (sym c.held_at.ensures.count)
-        ∙ tested c.is_within.result (4096 * c.held_at.result) s.shape c.is_within.ensures
-        ∙ c.if-not-is_within.true)
+    (ap (λ (ps : List Hold). is_within (4096 * length ps) s.shape) here
+    ∙ ap (λ n. is_within (4096 * n) s.shape) (sym c.held_at.ensures.count)
+    ∙ tested c.is_within.result (4096 * c.held_at.result) s.shape c.is_within.ensures
+    ∙ c.if-not-is_within.true)
 
 pub returns : goal.returns
 returns c =
@@ -57,9 +57,9 @@ returns c =
     let k = c.in_ok-place.place in
     let here = under_place s.dbuf st.buffers k c.in_ok-place.ensures in
     let inside : is_within (4096 * length (pages_at st.buffers k)) s.shape ≡ true =
-        ap (λ n. is_within (4096 * n) s.shape) (sym c.held_at.ensures.count)
-        ∙ tested c.is_within.result (4096 * c.held_at.result) s.shape c.is_within.ensures
-        ∙ c.if-not-is_within.false in
+    ap (λ n. is_within (4096 * n) s.shape) (sym c.held_at.ensures.count)
+    ∙ tested c.is_within.result (4096 * c.held_at.result) s.shape c.is_within.ensures
+    ∙ c.if-not-is_within.false in
     let r : Reading = record { part = part; place = k; scan = c.new.result } in
     let lies : IsWithin (4096 * length (pages_at st.buffers k)) s.shape = within_by (4096 * length (pages_at st.buffers k)) s.shape inside in (
       ap (λ x. show_of part (stock_at x st).buffers (source_at (stock_at x st).buffers sc part)) c.requires.idle

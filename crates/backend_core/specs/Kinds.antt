@@ -120,7 +120,7 @@ AnswersAll (Display connectors) site es =
     (before later : List (Happening Event)) (now : Snapshot (Rows Lines Waiting)) (h : Hand) (q : Request)
     → display_events site es ≡ before ++ later
     → IsRun (HappensTo true (machine site)) first_snapshot before now
-    → now.rows.hand ≡ Some h → now.rows.service.request ≡ Some q → verdict now.rows.service.buffers q.asked ≡ pos 0
+    → now.rows.hand ≡ Some h → now.rows.service.request ≡ Some q → verdict now.rows.service.buffers now.rows.service.scene q.asked ≡ pos 0
     → IsAnsweredIn told_of (accepted_of h q) now.rows.service.denied later
 
 -- What it says is as these words show, where it says which index is too far, or why a map was refused: of a Connect, by which

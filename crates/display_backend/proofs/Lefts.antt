@@ -7,13 +7,15 @@ use Rattle.pv_words.specs.declared.access.Access.{Access}
 use Rattle.pv_words.specs.declared.grant.Hold.{Hold}
 use Rattle.pv_words.specs.Release.{Drops}
 use Rattle.displ_wire.specs.declared.Create.{Create}
-use Rattle.display_buffers.specs.Buffers.{AreDistinct, IsFresh, cookies, has_cookie, with_buffer, without_buffer}
+use Rattle.display_buffers.specs.Buffers.{AreDistinct, IsFresh, buffer_of, cookies, has_cookie, with_buffer, without_buffer}
 use Rattle.display_buffers.proofs.Rows.{without_fresh}
+use Rattle.displ_wire.specs.declared.buffer.Buffer.{Buffer}
 use Rattle.page_directory.specs.declared.release.Release.{Release}
 use Rattle.page_directory.specs.Release.{left_of}
 use Rattle.page_directory.proofs.Releases.{drops_as, drops_rest}
+use Rattle.display_backend.specs.Scene.{buffer_at}
 use Rattle.display_backend.specs.Stock.{Held, with_pages}
-use Rattle.display_backend.specs.Left.{left_in, pages_at, less_at, IsFirst}
+use Rattle.display_backend.specs.Left.{left_by, left_in, pages_at, less_at, IsFirst}
 use Rattle.display_backend.proofs.Places.{pages_less, pages_within}
 
 -- the cookies stay, and where they stand
@@ -43,6 +45,18 @@ cookie_left bs left rs view k cookie there t at test =
     ap (λ cs. option_map (has_cookie cookie) (slice_get cs k)) (sym view)
     ∙ cookie_here bs rs k cookie there at
     ∙ ap (λ u. let o : Option Bool = Some u in o) test
+
+-- the buffer of a cookie stays
+abbrev of_live : Option Held → Option Buffer
+of_live o = option_map (λ b. b.buffer) o
+
+pub buffer_left : (cookie : ℕ) (bs : List Held) (rs : List Release) → buffer_at cookie (left_in bs rs) ≡ buffer_at cookie bs
+buffer_left cookie [] rs = refl
+buffer_left cookie (b ∷ bs) rs = same (has_cookie cookie b) (buffer_left cookie bs (drop 1 rs))
+  where
+    same : (t : Bool) → buffer_at cookie (left_in bs (drop 1 rs)) ≡ buffer_at cookie bs → of_live (cond t (Some (with_pages b (left_by rs b.pages))) (buffer_of cookie (left_in bs (drop 1 rs)))) ≡ of_live (cond t (Some b) (buffer_of cookie bs))
+    same true later = refl
+    same false later = later
 
 pub some_mapped : {X Y : Type 0} (f : X → Y) (o : Option X) → is_some (option_map f o) ≡ is_some o
 some_mapped f None = refl

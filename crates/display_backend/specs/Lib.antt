@@ -7,8 +7,11 @@ pub mod Laws
 pub mod Left
 pub mod Names
 pub mod Over
+pub mod Picture
 pub mod Reply
+pub mod Scene
 pub mod Service
+pub mod Showing
 pub mod Stock
 pub mod Store
 pub mod Verdict

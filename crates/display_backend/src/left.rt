@@ -6,12 +6,14 @@ ghost use Rattle.page_directory.specs.Release.{left_of};
 ghost use Rattle.display_buffers.specs.Buffers.{AreDistinct, buffer_of, check_of, cookies, has_cookie, with_buffer, without_buffer};
 ghost use Rattle.display_buffers.specs.Pixels.{page_count};
 ghost use Rattle.display_backend.specs.Stock.{buffer_pages, without_first_in};
+ghost use Rattle.display_backend.specs.Scene.{buffer_at};
 ghost use Rattle.display_backend.specs.Left.{Finds, IsPage, less_at, pages_at};
 
-use displ_wire::{Create, Refused};
+use displ_wire::{Buffer, Create, Refused};
 use display_buffers::Buffers;
 use page_directory::{Pages, Release};
-use pv_words::{Access, Hold, Words};
+use picture_scan::{Scan, Shown};
+use pv_words::{Access, Hold, PageList, Turn, Words};
 use std::alloc::{AllocError, Global};
 use std::marker::Model;
 
@@ -20,6 +22,25 @@ const BUFFER_LIMIT: usize = 64;
 
 // How many pages a buffer may have.
 pub(crate) const PAGE_LIMIT: u32 = 8192;
+
+// The pages that are left of a list.
+#[derive(Clone, Copy)]
+struct LeftPages<'a> {
+    pages: &'a Pages,
+    release: Release,
+}
+
+impl<'a> PageList for LeftPages<'a> {
+    ghost holds = { λ p. left_of p.release p.pages.now };
+
+    fn len(&self) -> u32 {
+        self.release.left(self.pages)
+    }
+
+    fn get(&self, i: u32) -> Hold {
+        self.release.get(self.pages, i)
+    }
+}
 
 // The live buffers of a display, in order of creation. A contract sees each with the pages that are left of it.
 #[derive(Drop)]
@@ -42,6 +63,11 @@ impl Model for LeftBuffers {
 }
 
 impl LeftBuffers {
+    ghost use Rattle.std.specs.Prelude.{false, IfSome};
+    ghost use Rattle.pv_words.specs.Plan.{MayGo, Makes, Turns};
+    ghost use Rattle.picture_scan.specs.Scan.{LiesIn, is_over, shape_of, left_of as scan_rest};
+    ghost use Rattle.picture_scan.specs.Steps.{GoesOn, IsInPages};
+
     // No buffer, and the room for 64.
     pub(crate) fn new(alloc: Global) -> Result<LeftBuffers, AllocError>
         ensures { IfOk result (λ b. b ≡ []) }
@@ -63,6 +89,13 @@ impl LeftBuffers {
         ensures { result ≡ is_some (buffer_of cookie self.now) }
     {
         self.buffers.get(cookie).is_some()
+    }
+
+    // The live buffer of this cookie, if there is one.
+    pub(crate) fn buffer(&self, cookie: u64) -> Option<Buffer>
+        ensures { result ≡ buffer_at cookie self.now }
+    {
+        self.buffers.get(cookie)
     }
 
     // Makes the buffer that a CREATE asks for, of what is left of these pages.
@@ -185,6 +218,23 @@ impl LeftBuffers {
         let access = release.step(self.buffers.pages_at(k), words);
         self.releases[k as usize] = release;
         access
+    }
+
+    // The next load of a picture, in the pages that are left of the buffer at this place.
+    pub(crate) fn scan_at<W: Words>(&self, k: u32, scan: &mut Scan, words: &mut W) -> Turn<Shown>
+        requires going { is_over scan.old ≡ false }
+        requires lies { LiesIn (pages_at self.now k) (shape_of scan.old) }
+        requires may { MayGo (W.may words.old) (scan_rest (pages_at self.now k) scan.old) }
+        ensures turns { Turns (scan_rest (pages_at self.now k) scan.old) result.access result.done (scan_rest (pages_at self.now k) scan.new) }
+        ensures made { Makes W.makes words.old result.access words.new }
+        ensures goes_on { GoesOn scan.old result.done scan.new }
+        ensures stays { IfSome result.access (IsInPages (pages_at self.now k)) }
+    {
+        let pages = LeftPages {
+            pages: self.buffers.pages_at(k),
+            release: self.releases[k as usize],
+        };
+        scan.step(&pages, words)
     }
 
     // Unmaps the first page that is left of all buffers.

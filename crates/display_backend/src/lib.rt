@@ -5,6 +5,8 @@ mod course;
 mod display;
 mod laws;
 mod left;
+mod picture;
+mod scene;
 mod service;
 mod store;
 mod verdict;

@@ -3,11 +3,13 @@
 ghost use Rattle.std.specs.Prelude.{◌≡◌, ◌<◌, ◌≤◌, ◌==◌, [], length, slice_get, Some, Ok, IfOk, is_some};
 ghost use Rattle.display_buffers.specs.Buffers.{buffer_of, check_of};
 ghost use Rattle.display_buffers.specs.Pixels.{page_count};
+ghost use Rattle.display_backend.specs.Scene.{buffer_at};
 
 use crate::left::{LeftBuffers, PAGE_LIMIT};
-use displ_wire::{Create, Refused};
+use displ_wire::{Buffer, Create, Refused};
 use page_directory::{Pages, Release};
-use pv_words::{Access, Hold, Words};
+use picture_scan::{Scan, Shown};
+use pv_words::{Access, Hold, Turn, Words};
 use std::alloc::{AllocError, Global};
 
 /// The live buffers of a display, in order of creation, and the pages that are held for buffers. The room for all buffers
@@ -25,6 +27,12 @@ impl Store {
     ghost use Rattle.pv_words.specs.Release.{Drops, MayDrop};
     ghost use Rattle.display_backend.specs.Stock.{Stock, no_stock, pages_of, pages_under, without_one, without_first, created, destroyed};
     ghost use Rattle.display_backend.specs.Store.{stock_of, count_of};
+    ghost use Rattle.std.specs.Prelude.{false, IfSome};
+    ghost use Rattle.pv_words.specs.Plan.{MayGo, Makes, Turns};
+    ghost use Rattle.picture_scan.specs.Scan.{LiesIn, is_over, shape_of, left_of as scan_rest};
+    ghost use Rattle.picture_scan.specs.Steps.{GoesOn, IsInPages};
+    ghost use Rattle.display_buffers.specs.Buffers.{has_cookie};
+    ghost use Rattle.display_backend.specs.Left.{Finds, pages_at};
 
     /// No buffer and no page.
     pub fn new(alloc: Global) -> Result<Store, AllocError>
@@ -49,6 +57,13 @@ impl Store {
         ensures { result ≡ is_some (buffer_of cookie (stock_of self.now).buffers) }
     {
         self.buffers.is_live(cookie)
+    }
+
+    /// The live buffer of this cookie, if there is one.
+    pub fn buffer(&self, cookie: u64) -> Option<Buffer>
+        ensures { result ≡ buffer_at cookie (stock_of self.now).buffers }
+    {
+        self.buffers.buffer(cookie)
     }
 
     /// Keeps the pages that were mapped for a CREATE.
@@ -133,6 +148,35 @@ impl Store {
             Some(k) => self.buffers.held_at(k),
             None => 0,
         }
+    }
+
+    /// Where the buffer of a cookie stands among the live ones, from 0.
+    pub fn place_of(&self, cookie: u64) -> Option<u32>
+        ensures { Finds (has_cookie cookie) (stock_of self.now).buffers result }
+    {
+        self.buffers.place_of(cookie)
+    }
+
+    /// How many pages are held of the buffer at this place.
+    pub fn held_at(&self, k: u32) -> u32
+        requires { k < length (stock_of self.now).buffers }
+        ensures count { result ≡ length (pages_at (stock_of self.now).buffers k) }
+        ensures few { result ≤ 8192 }
+    {
+        self.buffers.held_at(k)
+    }
+
+    /// The next load of a picture, in the pages that are held of the buffer at this place.
+    pub fn scan_at<W: Words>(&self, k: u32, scan: &mut Scan, words: &mut W) -> Turn<Shown>
+        requires going { is_over scan.old ≡ false }
+        requires lies { LiesIn (pages_at (stock_of self.now).buffers k) (shape_of scan.old) }
+        requires may { MayGo (W.may words.old) (scan_rest (pages_at (stock_of self.now).buffers k) scan.old) }
+        ensures turns { Turns (scan_rest (pages_at (stock_of self.now).buffers k) scan.old) result.access result.done (scan_rest (pages_at (stock_of self.now).buffers k) scan.new) }
+        ensures made { Makes W.makes words.old result.access words.new }
+        ensures goes_on { GoesOn scan.old result.done scan.new }
+        ensures stays { IfSome result.access (IsInPages (pages_at (stock_of self.now).buffers k)) }
+    {
+        self.buffers.scan_at(k, scan, words)
     }
 
     /// Unmaps the first of all pages.

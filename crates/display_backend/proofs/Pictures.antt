@@ -12,7 +12,7 @@ use Rattle.display_buffers.specs.declared.live.Live.{Live}
 use Rattle.display_buffers.specs.Buffers as buffers
 use Rattle.display_buffers.specs.Buffers.{is_in_range, picture_octets}
 use Rattle.display_buffers.specs.Pixels.{page_count}
-use Rattle.framebuffers.specs.declared.frame.Framebuffer.{Framebuffer}
+use Rattle.displ_wire.specs.declared.framebuffer.Framebuffer.{Framebuffer}
 use Rattle.framebuffers.specs.Frames.{LiesIn, frame_of}
 use Rattle.connectors.specs.declared.connector.Picture.{Picture}
 use Rattle.connectors.specs.Connectors.{picture_of}
@@ -28,7 +28,7 @@ use Rattle.display_backend.specs.Names.{numbered}
 use Rattle.display_backend.specs.declared.picture.Source.{Source}
 use Rattle.display_backend.specs.Picture.{is_within, source_at, source_by, source_in, source_of}
 use Rattle.display_backend.specs.Kept.{AreAllOf, AreWholeBut}
-use Rattle.display_backend.specs.Scene.{IsSound, LiesInLive, Scene, buffer_at, connector_at}
+use Rattle.display_backend.specs.Scene.{IsSound, LiesInLive, Scene, buffer_at, connector_at, live_among}
 use Rattle.display_backend.specs.Stock.{Held, pages_under}
 use Rattle.display_backend.proofs.Numbered.{same_buffer}
 use Rattle.display_backend.proofs.Scenes.{connector_sound}
@@ -184,7 +184,7 @@ picture_within frames bs sc part s sound is_sound whole e =
     let k = connector_sound sc part is_sound.connectors_are in
     let shows : connectors.Shows of.picture of.frame =
     subst (λ (o : Option Framebuffer). IsSomeAnd o (connectors.Shows of.picture)) of.is_frame
-    (picture_shown sc.frames c.rectangle c.shown of.picture k.has_pixels k.shown of.is_picture) in
+    (picture_shown (live_among sc.frames) c.rectangle c.shown of.picture k.has_pixels k.shown of.is_picture) in
     let lies : LiesIn of.frame of.buffer =
     subst (λ (o : Option Buffer). IsSomeAnd o (LiesIn of.frame)) of.is_buffer
     (frame_so (LiesInLive bs) of.picture.fb sc.frames of.frame is_sound.frames_lie of.is_frame) in

@@ -16,10 +16,11 @@ use Rattle.displ_wire.specs.declared.buffer.Refused.TheVariants.{Unknown}
 use Rattle.display_buffers.specs.declared.live.Live.{Live}
 use Rattle.display_buffers.specs.Buffers.{buffer_of, has_cookie, made_of, with_buffer, without_buffer}
 use Rattle.display_buffers.specs.Buffers as buffers
-use Rattle.framebuffers.specs.declared.frame.Framebuffer.{Framebuffer}
+use Rattle.displ_wire.specs.declared.framebuffer.Framebuffer.{Framebuffer}
 use Rattle.framebuffers.specs.Frames as frames
 use Rattle.framebuffers.specs.Frames.{LiesIn, attach_check, cookie_of, frame_of, is_used, with_frame, without_frame}
 use Rattle.framebuffers.proofs.Checks as checks
+use Rattle.framebuffers.proofs.Found.{found_elsewhere, found_still}
 use Rattle.framebuffers.proofs.Sound.{sound_with, sound_without}
 use Rattle.connectors.specs.declared.connector.Connector.{Connector}
 use Rattle.connectors.specs.Connectors.{after_blank, after_config, after_detach, after_flip, config_check, first_connector, flip_check}
@@ -27,7 +28,7 @@ use Rattle.connectors.specs.Laws as connectors
 use Rattle.connectors.proofs.Showing.{attached_sound, blanked_sound, configured_sound, detached_sound, flipped_sound}
 use Rattle.page_directory.proofs.WalkAlong.{all_weaker}
 use Rattle.display_backend.specs.Reply.{replied_to}
-use Rattle.display_backend.specs.Scene.{IsSound, LiesInLive, Scene, after_blank_at, asking, buffer_at, connector_at, no_scene, scene_after, with_connector}
+use Rattle.display_backend.specs.Scene.{IsSound, LiesInLive, Scene, after_blank_at, asking, buffer_at, connector_at, live_among, no_scene, scene_after, with_connector}
 use Rattle.display_backend.specs.Verdict.{checked, destroy_verdict, verdict}
 use Rattle.display_backend.specs.Stock.{Held}
 use Rattle.display_backend.proofs.Numbered.{AreLike, like_buffer, not_refused, passes_by}
@@ -47,14 +48,14 @@ all_at Q (y ∷ ys) zero d all q = all.0
 all_at Q (y ∷ ys) (suc i) d all q = all_at Q ys i d all.1 q
 
 -- a connector at first shows nothing
-first_sound : (fs : List Framebuffer) → connectors.IsSound fs first_connector
+first_sound : (fs : List Framebuffer) → connectors.IsSound (live_among fs) first_connector
 first_sound fs = record { has_pixels = λ r e. absurd (cc); shown = λ fb e. absurd (cc); marked = λ fb e. absurd (cc) }
 
 abbrev AreSound : List Framebuffer → List Connector → Type 0
-AreSound fs cs = AllByRecursion (λ c. connectors.IsSound fs c) cs
+AreSound fs cs = AllByRecursion (λ c. connectors.IsSound (live_among fs) c) cs
 
-pub connector_sound : (sc : Scene) (part : ℕ) → AreSound sc.frames sc.connectors → connectors.IsSound sc.frames (connector_at sc part)
-connector_sound sc part all = all_at (connectors.IsSound sc.frames) sc.connectors part first_connector all (first_sound sc.frames)
+pub connector_sound : (sc : Scene) (part : ℕ) → AreSound sc.frames sc.connectors → connectors.IsSound (live_among sc.frames) (connector_at sc part)
+connector_sound sc part all = all_at (connectors.IsSound (live_among sc.frames)) sc.connectors part first_connector all (first_sound sc.frames)
 
 -- an accepted DESTROY is of a buffer without a framebuffer
 unused_by : (live used : Bool) → destroy_verdict live used ≡ pos 0 → used ≡ false
@@ -103,7 +104,7 @@ module _ {P : Type 0} where
         record {
           frames_are = sound_with sc.frames a buffer s.frames_are h;
           frames_lie = subst (λ o. AllByRecursion (LiesInLive bs) (with_frame sc.frames a o)) (sym p.live) (all_push (LiesInLive bs) sc.frames made s.frames_lie lies);
-          connectors_are = all_weaker (connectors.IsSound sc.frames) (connectors.IsSound (with_frame sc.frames a buffer)) (λ k q. attached_sound sc.frames k a buffer q) sc.connectors s.connectors_are;
+          connectors_are = all_weaker (connectors.IsSound (live_among sc.frames)) (connectors.IsSound (live_among (with_frame sc.frames a buffer))) (λ k q. attached_sound (live_among sc.frames) (live_among (with_frame sc.frames a buffer)) k q (found_still sc.frames a buffer)) sc.connectors s.connectors_are;
         }
 
     detached : (fb : ℕ) → IsSound bs (record sc { frames = without_frame fb sc.frames; connectors = map (after_detach fb) sc.connectors })
@@ -111,16 +112,16 @@ module _ {P : Type 0} where
         record {
           frames_are = sound_without fb sc.frames s.frames_are;
           frames_lie = table.all_without cookie_of (LiesInLive bs) fb sc.frames s.frames_lie;
-          connectors_are = all_mapped (connectors.IsSound sc.frames) (connectors.IsSound (without_frame fb sc.frames)) (after_detach fb) (λ k q. detached_sound sc.frames k fb q) sc.connectors s.connectors_are;
+          connectors_are = all_mapped (connectors.IsSound (live_among sc.frames)) (connectors.IsSound (live_among (without_frame fb sc.frames))) (after_detach fb) (λ k q. detached_sound (live_among sc.frames) (live_among (without_frame fb sc.frames)) k fb q (found_elsewhere sc.frames fb)) sc.connectors s.connectors_are;
         }
 
     -- the connector of a part changes
-    changed : (part : ℕ) (k : Connector) → connectors.IsSound sc.frames k → IsSound bs (with_connector sc part k)
+    changed : (part : ℕ) (k : Connector) → connectors.IsSound (live_among sc.frames) k → IsSound bs (with_connector sc part k)
     changed part k q =
         record {
           frames_are = s.frames_are;
           frames_lie = s.frames_lie;
-          connectors_are = all_set (connectors.IsSound sc.frames) sc.connectors part k s.connectors_are q;
+          connectors_are = all_set (connectors.IsSound (live_among sc.frames)) sc.connectors part k s.connectors_are q;
         }
 
     -- another part asks
@@ -134,7 +135,7 @@ module _ {P : Type 0} where
     pub blanked_scene : (part : ℕ) → IsSound bs (after_blank_at sc part)
     blanked_scene part =
         let old = connector_at sc part in
-        changed part (after_blank old) (blanked_sound sc.frames old (connector_sound sc part s.connectors_are))
+        changed part (after_blank old) (blanked_sound (live_among sc.frames) old (connector_sound sc part s.connectors_are))
 
     -- an answer, where a status that accepts is the verdict
     pub answered_scene : (made : P) (asks : Asked) (accepted : Bool) → (accepted ≡ true → verdict bs sc asks ≡ pos 0) → IsSound (replied_to bs made asks accepted) (scene_after bs sc asks accepted)
@@ -147,10 +148,10 @@ module _ {P : Type 0} where
     answered_scene made (asked.Detach fb) true h = detached fb
     answered_scene made (asked.Config c) true h =
         let old = asking sc in
-        changed sc.part (after_config old c) (configured_sound sc.frames old c (passes_by (config_check c (frame_of c.fb_cookie sc.frames)) (h refl)))
+        changed sc.part (after_config old c) (configured_sound (live_among sc.frames) old c (passes_by (config_check c (frame_of c.fb_cookie sc.frames)) (h refl)))
     answered_scene made (asked.Flip fb) true h =
         let old = asking sc in
-        changed sc.part (after_flip old fb) (flipped_sound sc.frames old fb (connector_sound sc sc.part s.connectors_are) (passes_by (flip_check old (frame_of fb sc.frames)) (h refl)))
+        changed sc.part (after_flip old fb) (flipped_sound (live_among sc.frames) old fb (connector_sound sc sc.part s.connectors_are) (passes_by (flip_check old (frame_of fb sc.frames)) (h refl)))
     answered_scene made asked.Other true h = s
     answered_scene made (asked.Create c) false h = s
     answered_scene made (asked.Destroy cookie) false h = s

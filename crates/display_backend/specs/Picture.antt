@@ -3,7 +3,7 @@ use Rattle.std.specs.Prelude.{◌≡◌, ℕ, ◌+◌, ◌&&◌, nat_lt, nat_le,
 use Rattle.displ_wire.specs.declared.buffer.Buffer.{Buffer}
 use Rattle.display_buffers.specs.declared.live.Live.{Live}
 use Rattle.display_buffers.specs.Buffers.{has_cookie}
-use Rattle.framebuffers.specs.declared.frame.Framebuffer.{Framebuffer}
+use Rattle.displ_wire.specs.declared.framebuffer.Framebuffer.{Framebuffer}
 use Rattle.framebuffers.specs.Frames.{frame_of}
 use Rattle.connectors.specs.declared.connector.Picture.{Picture}
 use Rattle.connectors.specs.Connectors.{picture_of}

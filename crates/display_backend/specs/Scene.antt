@@ -9,9 +9,9 @@ use Rattle.displ_wire.specs.declared.Config.{Config}
 use Rattle.displ_wire.specs.declared.buffer.Buffer.{Buffer}
 use Rattle.display_buffers.specs.declared.live.Live.{Live}
 use Rattle.display_buffers.specs.Buffers.{buffer_of}
-use Rattle.framebuffers.specs.declared.frame.Framebuffer.{Framebuffer}
+use Rattle.displ_wire.specs.declared.framebuffer.Framebuffer.{Framebuffer}
 use Rattle.framebuffers.specs.Frames as frames
-use Rattle.framebuffers.specs.Frames.{LiesIn, with_frame, without_frame}
+use Rattle.framebuffers.specs.Frames.{LiesIn, frame_of, with_frame, without_frame}
 use Rattle.connectors.specs.declared.connector.Connector.{Connector}
 use Rattle.connectors.specs.Connectors.{after_blank, after_config, after_detach, after_flip, first_connector, pending_of}
 use Rattle.connectors.specs.Laws as connectors
@@ -75,9 +75,13 @@ after_blank_at sc part = with_connector sc part (after_blank (connector_at sc pa
 abbrev pub LiesInLive : {P : Type 0} → List (Live P) → Framebuffer → Type 0
 LiesInLive bs f = IsSomeAnd (buffer_at f.dbuf bs) (λ b. LiesIn f b)
 
+-- the live framebuffers, by their cookies
+abbrev pub live_among : List Framebuffer → connectors.Frames
+live_among fs fb = frame_of fb fs
+
 -- Each framebuffer lies in its live display buffer; and what a connector shows, or is to show once its flip is done, is a live
 -- framebuffer in which its rectangle lies.
 pub record IsSound {P : Type 0} (bs : List (Live P)) (sc : Scene) : Type 0 where
   pub frames_are : frames.AreSound sc.frames
   pub frames_lie : AllByRecursion (λ f. LiesInLive bs f) sc.frames
-  pub connectors_are : AllByRecursion (λ c. connectors.IsSound sc.frames c) sc.connectors
+  pub connectors_are : AllByRecursion (λ c. connectors.IsSound (live_among sc.frames) c) sc.connectors

@@ -1,8 +1,8 @@
-//! A live framebuffer.
+//! Framebuffers as the rules of the display see them.
 
 use cookie_table::HasCookie;
 
-/// A display buffer as it is to be shown, from its top left on.
+/// A live framebuffer: a display buffer as it is to be shown, from its top left on.
 #[derive(Clone, Copy, Debug, PartialEq, Eq)]
 pub struct Framebuffer {
     /// The frontend's name for it.

@@ -7,8 +7,8 @@ use Rattle.displ_wire.specs.declared.Create.{Create}
 use Rattle.displ_wire.specs.declared.Request.{Request}
 use Rattle.display_buffers.specs.Buffers.{AreDistinct, AreSound, check_of, cookies, made_of}
 use Rattle.display_buffers.proofs.Names.{sound_with, sound_without}
-use Rattle.display_backend.specs.Stock.{Stock, Held, pages_of, pages_under}
-use Rattle.display_backend.proofs.Order.{creating_keeps, destroying_keeps}
+use Rattle.display_buffers.specs.Stock.{Stock, Held, pages_of, pages_under}
+use Rattle.display_buffers.proofs.Order.{creating_keeps, destroying_keeps}
 use Rattle.page_directory.specs.Same.{AreSame}
 use Rattle.device_core.specs.Names.{Name, Sight, all_drawn, cells_of, drawn, with_name, words_in}
 use Rattle.display_backend.specs.declared.course.Progress.{Progress}

@@ -9,7 +9,7 @@ use Rattle.displ_wire.specs.declared.Create.{Create}
 use Rattle.display_backend.specs.Scene.{Scene}
 use Rattle.display_backend.specs.Verdict.{is_accepted, verdict}
 use Rattle.display_backend.specs.Service.{has_work}
-use Rattle.display_backend.specs.Stock.{Held, pages_under}
+use Rattle.display_buffers.specs.Stock.{Held, pages_under}
 use Rattle.display_backend.proofs.Numbered.{accepted_is}
 
 pub negated : (b : Bool) → not b ≡ false → b ≡ true

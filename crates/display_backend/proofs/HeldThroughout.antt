@@ -32,9 +32,9 @@ use Rattle.display_backend.specs.Known.{going_of, held_of, is_of, known_of, left
 use Rattle.display_backend.specs.Scene.{Scene}
 use Rattle.display_backend.specs.Showing.{scene_of}
 use Rattle.display_backend.specs.Service.{Ending, Freed, Listed, after_end, display}
-use Rattle.display_backend.specs.Stock.{Stock, bared, buffer_pages, pages_of, pages_under}
-use Rattle.display_backend.specs.Store.{count_of, stock_of}
-use Rattle.display_backend.proofs.Order.{parted}
+use Rattle.display_buffers.specs.Stock.{Stock, bared, buffer_pages, pages_of, pages_under}
+use Rattle.display_buffers.specs.Store.{count_of, stock_of}
+use Rattle.display_buffers.proofs.Order.{parted}
 use Rattle.display_backend.proofs.Serviced.{knowing}
 
 -- no page is mapped yet for a request that is only decided

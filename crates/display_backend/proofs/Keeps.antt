@@ -39,7 +39,7 @@ use Rattle.display_backend.specs.declared.course.Progress.{Progress}
 use Rattle.display_backend.specs.declared.course.Progress.TheVariants as progress
 use Rattle.display_backend.specs.declared.waiting.Waiting.{Waiting}
 use Rattle.display_backend.specs.declared.waiting.Waiting.TheVariants as waiting
-use Rattle.display_backend.specs.Stock.{Stock, Held, pages_of, buffer_pages, pages_under, bared, all_bared}
+use Rattle.display_buffers.specs.Stock.{Stock, Held, pages_of, buffer_pages, pages_under, bared, all_bared}
 use Rattle.display_backend.specs.Names.{live_names, names_under, numbers, numbered}
 use Rattle.display_backend.specs.Reply.{replied_to, stock_after}
 use Rattle.display_backend.specs.Verdict.{is_accepted, is_creation, is_denied, status_in, verdict}
@@ -65,7 +65,7 @@ use Rattle.display_backend.proofs.HasWork.{create_accepted, create_refused, dest
 use Rattle.display_backend.proofs.Names.{GoesFrom, names_none, none_bared, name_goes}
 use Rattle.display_backend.proofs.Numbered.{AreLike, like_length, like_sound, like_verdict, no_buffers, numbered_bared, numbered_all_bared, same_scene, same_verdict, same_status, passes_by}
 use Rattle.display_backend.proofs.Scenes.{answered_scene, asked_scene, blanked_scene, like_scene, none_sound}
-use Rattle.display_backend.proofs.Order.{none_left, none_under, parted}
+use Rattle.display_buffers.proofs.Order.{none_left, none_under, parted}
 use Rattle.display_backend.proofs.Taking.{may_take, word_of_name}
 use Rattle.display_backend.proofs.Wholes.{answered_whole, bared_whole, found_at, not_mapped, whole_any, whole_still}
 use Rattle.display_backend.proofs.Pictures.{picture_within, same_source, shown_numbered, within_so}

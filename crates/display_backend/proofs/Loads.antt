@@ -14,7 +14,7 @@ use Rattle.device_service.specs.declared.deed.Now.TheVariants.{GoesOn, Over}
 use Rattle.device_service.specs.Operating.{Continues, Leaves, Serves}
 use Rattle.display_backend.specs.declared.waiting.Waiting.{Waiting}
 use Rattle.display_backend.specs.Waiting.{said_of}
-use Rattle.display_backend.specs.Left.{IsFirst}
+use Rattle.display_buffers.specs.Left.{IsFirst}
 use Rattle.display_backend.proofs.Serviced.{goes_mapped}
 use Rattle.device_service.specs.Service.{Deed, Runs}
 use Rattle.device_service.proofs.InPages.{StaysInPages}
@@ -33,8 +33,8 @@ use Rattle.display_backend.specs.Course.{reading_left, scan_left}
 use Rattle.display_backend.specs.Picture.{is_within}
 use Rattle.display_backend.specs.Service.{Ending, Known, Pictured, Served, display, show_in, show_of}
 use Rattle.display_backend.proofs.Pictures.{within_by, within_so}
-use Rattle.display_backend.specs.Left.{pages_at}
-use Rattle.display_backend.specs.Stock.{Stock, Held, buffer_pages, pages_of, pages_under}
+use Rattle.display_buffers.specs.Left.{pages_at}
+use Rattle.display_buffers.specs.Stock.{Stock, Held, buffer_pages, pages_of, pages_under}
 use Rattle.link_core.specs.Stays.{AccessIn}
 use Rattle.octet_window.specs.Pages.{no_page}
 use Rattle.picture_scan.specs.Steps.{IsInPages}
@@ -103,11 +103,6 @@ tested false octets s e = by_test (is_within octets s) refl
     by_test : (t : Bool) → is_within octets s ≡ t → t ≡ false
     by_test true f = absurd (false≢true (e.1 (within_by octets s f)))
     by_test false f = refl
-
-pub first_within : (p : Held → Bool) (bs : List Held) (k : ℕ) → IsFirst p bs k → k < length bs
-first_within p [] k first = absurd first
-first_within p (b ∷ bs) zero first = omega arith
-first_within p (b ∷ bs) (suc k) first = omega (arith, first_within p bs k first.1)
 
 -- the next access of a reading may be made
 pub may_scan : {A B : Type 0} (may : Want → Type 0) (f : A → B) (p : Plan A) → MayGo may (mapped f p) → MayGo may p

@@ -12,10 +12,11 @@ use Rattle.displ_wire.specs.declared.buffer.Refused.TheVariants.{NotSupported, E
 use Rattle.displ_wire.specs.Refused.{status_of}
 use Rattle.display_buffers.specs.declared.live.Live.{Live}
 use Rattle.display_buffers.specs.Buffers.{AreDistinct, AreSound, IsFresh, buffer_of, check_of, cookies, has_cookie, is_in_range, made_of, without_buffer}
-use Rattle.display_backend.specs.Stock.{Held, with_pages, bared, all_bared}
+use Rattle.display_buffers.specs.Stock.{Held, with_pages, bared, all_bared}
 use Rattle.display_backend.specs.Names.{ids_without, numbered}
 use Rattle.framebuffers.specs.Frames.{attach_check, is_used, with_frame}
-use Rattle.display_backend.specs.Scene.{Scene, buffer_at, scene_after}
+use Rattle.display_backend.specs.Scene.{Scene, scene_after}
+use Rattle.display_buffers.specs.Buffers.{buffer_at}
 use Rattle.display_backend.specs.Verdict.{IsStatus, checked, destroy_verdict, is_accepted, verdict}
 
 -- a number for each buffer

@@ -28,8 +28,9 @@ use Rattle.display_backend.specs.Names.{numbered}
 use Rattle.display_backend.specs.declared.picture.Source.{Source}
 use Rattle.display_backend.specs.Picture.{is_within, source_at, source_by, source_in, source_of}
 use Rattle.display_backend.specs.Kept.{AreAllOf, AreWholeBut}
-use Rattle.display_backend.specs.Scene.{IsSound, LiesInLive, Scene, buffer_at, connector_at, live_among}
-use Rattle.display_backend.specs.Stock.{Held, pages_under}
+use Rattle.display_backend.specs.Scene.{IsSound, LiesInLive, Scene, connector_at, live_among}
+use Rattle.display_buffers.specs.Buffers.{buffer_at}
+use Rattle.display_buffers.specs.Stock.{Held, pages_under}
 use Rattle.display_backend.proofs.Numbered.{same_buffer}
 use Rattle.display_backend.proofs.Scenes.{connector_sound}
 use Rattle.display_backend.proofs.Wholes.{found_at}

@@ -28,9 +28,10 @@ use Rattle.connectors.specs.Laws as connectors
 use Rattle.connectors.proofs.Showing.{attached_sound, blanked_sound, configured_sound, detached_sound, flipped_sound}
 use Rattle.page_directory.proofs.WalkAlong.{all_weaker}
 use Rattle.display_backend.specs.Reply.{replied_to}
-use Rattle.display_backend.specs.Scene.{IsSound, LiesInLive, Scene, after_blank_at, asking, buffer_at, connector_at, live_among, no_scene, scene_after, with_connector}
+use Rattle.display_backend.specs.Scene.{IsSound, LiesInLive, Scene, after_blank_at, asking, connector_at, live_among, no_scene, scene_after, with_connector}
+use Rattle.display_buffers.specs.Buffers.{buffer_at}
 use Rattle.display_backend.specs.Verdict.{checked, destroy_verdict, verdict}
-use Rattle.display_backend.specs.Stock.{Held}
+use Rattle.display_buffers.specs.Stock.{Held}
 use Rattle.display_backend.proofs.Numbered.{AreLike, like_buffer, not_refused, passes_by}
 
 all_mapped : {X : Type 0} (Q R : X → Type 0) (f : X → X) → ((x : X) → Q x → R (f x)) → (xs : List X) → AllByRecursion Q xs → AllByRecursion R (map f xs)

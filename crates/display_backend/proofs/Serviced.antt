@@ -30,7 +30,7 @@ use Rattle.display_backend.specs.declared.course.Progress.{Progress}
 use Rattle.display_backend.specs.declared.course.Progress.TheVariants as progress
 use Rattle.display_backend.specs.Course.{Goes, is_under_way, is_walk_of, pages_walked, stock_at, left_at, Creates, Destroys, ComesTo, InHand, HasDestroy, Releases, Stands}
 use Rattle.display_backend.specs.Service.{Known, Ending, Listed, Freed, after_walk, display, has_work, ready_at, ready_for, reply_for, says_at}
-use Rattle.display_backend.specs.Stock.{Stock, Held, pages_of, pages_under, less_one, bared, stripped, without_first}
+use Rattle.display_buffers.specs.Stock.{Stock, Held, pages_of, pages_under, less_one, bared, stripped, without_first}
 use Rattle.display_backend.specs.Names.{numbered}
 use Rattle.display_backend.specs.Reply.{reply_to}
 use Rattle.display_backend.specs.Scene.{Scene}
@@ -38,7 +38,7 @@ use Rattle.display_backend.specs.Verdict.{is_accepted, status_in, verdict}
 use Rattle.page_directory.proofs.Releases.{drops_goes}
 use Rattle.display_backend.proofs.Freeing.{bare_freed}
 use Rattle.display_backend.proofs.Numbered.{AreLike, like_verdict, numbered_all_bared, numbered_bared, same_check}
-use Rattle.display_backend.proofs.Order.{buffers_stay, none_under, others_stay, under_less}
+use Rattle.display_buffers.proofs.Order.{buffers_stay, none_under, others_stay, under_less}
 use Rattle.device_service.proofs.Serving.{in_service}
 use Rattle.device_core.specs.Site.{Site}
 use Rattle.device_service.specs.Claims.{site_of}

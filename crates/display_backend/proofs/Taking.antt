@@ -13,7 +13,7 @@ use Rattle.link_core.specs.Laws.{AreOf}
 use Rattle.device_core.specs.Names.{Name, cells_from, cells_of}
 use Rattle.display_backend.specs.Names.{live_names, named_if, numbered}
 use Rattle.display_backend.specs.Picture.{number_under}
-use Rattle.display_backend.specs.Stock.{Held, pages_under}
+use Rattle.display_buffers.specs.Stock.{Held, pages_under}
 
 -- a name of this number is among these, and this place is a word of it
 pub record IsAmong (names : List Name) (number index : ℕ) (at : Place) : Type 0 where

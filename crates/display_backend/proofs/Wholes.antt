@@ -14,8 +14,9 @@ use Rattle.display_backend.specs.declared.course.Progress.{Progress}
 use Rattle.display_backend.specs.declared.course.Progress.TheVariants as progress
 use Rattle.display_backend.specs.Kept.{AreAllOf, AreMapped, AreWholeBut, HasComeTo, WholeFor, goes_by}
 use Rattle.display_backend.specs.Reply.{stock_after}
-use Rattle.display_backend.specs.Scene.{Scene, buffer_at}
-use Rattle.display_backend.specs.Stock.{Stock, Held, bared, pages_under, with_pages}
+use Rattle.display_backend.specs.Scene.{Scene}
+use Rattle.display_buffers.specs.Buffers.{buffer_at}
+use Rattle.display_buffers.specs.Stock.{Stock, Held, bared, pages_under, with_pages}
 use Rattle.display_backend.specs.Verdict.{is_accepted, status_in, verdict}
 use Rattle.display_backend.proofs.Answering.{IsDone}
 

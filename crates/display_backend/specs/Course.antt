@@ -19,9 +19,9 @@ use Rattle.display_backend.specs.declared.course.Course.TheVariants.{Rests, Walk
 use Rattle.picture_scan.specs.Scan as scan
 use Rattle.picture_scan.specs.declared.scan.Shown.{Shown}
 use Rattle.display_backend.specs.declared.picture.Reading.{Reading}
-use Rattle.display_backend.specs.Left.{pages_at}
+use Rattle.display_buffers.specs.Left.{pages_at}
 use Rattle.display_backend.specs.Service.{Ending, Listed, Freed, Pictured}
-use Rattle.display_backend.specs.Stock.{Stock, Held, pages_under, bared}
+use Rattle.display_buffers.specs.Stock.{Stock, Held, pages_under, bared}
 
 -- an activity is under way
 abbrev pub is_under_way : Course → Bool

@@ -12,7 +12,7 @@ use Rattle.display_backend.specs.declared.course.Progress.{Progress}
 use Rattle.display_backend.specs.declared.course.Progress.TheVariants as progress
 use Rattle.display_backend.specs.Course.{Creates, Destroys, ComesTo, InHand, HasCreate, HasDestroy, Goes, IsReading, Releases, Stands}
 use Rattle.display_backend.specs.declared.picture.Reading.{Reading}
-use Rattle.display_backend.specs.Stock.{Held}
+use Rattle.display_buffers.specs.Stock.{Held}
 
 further_prop : {A : Type 0} (p : Plan A) → IsProp (IsUnfinished p)
 further_prop (Finished x) = hlevel props

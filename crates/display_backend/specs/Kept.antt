@@ -34,7 +34,7 @@ use Rattle.picture_scan.specs.declared.scan.Shown.{Shown}
 use Rattle.picture_scan.specs.Laws.{HasShown}
 use Rattle.device_core.specs.Names.{cells_of}
 use Rattle.display_backend.specs.Verdict.{is_accepted, verdict}
-use Rattle.display_backend.specs.Stock.{Stock, Held, pages_of, buffer_pages, pages_under, with_pages, all_bared, stripped}
+use Rattle.display_buffers.specs.Stock.{Stock, Held, pages_of, buffer_pages, pages_under, with_pages, all_bared, stripped}
 
 -- the request in hand is a CREATE that is accepted, or a DESTROY of this cookie
 abbrev pub IsCreating : Stock → Scene → Request → Create → Type 0

@@ -4,7 +4,6 @@ pub mod Display
 pub mod Kept
 pub mod Known
 pub mod Laws
-pub mod Left
 pub mod Names
 pub mod Over
 pub mod Picture
@@ -12,7 +11,5 @@ pub mod Reply
 pub mod Scene
 pub mod Service
 pub mod Showing
-pub mod Stock
-pub mod Store
 pub mod Verdict
 pub mod Waiting

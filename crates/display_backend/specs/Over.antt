@@ -21,11 +21,11 @@ use Rattle.device_service.specs.declared.deed.Deed.{Deed}
 use Rattle.display_backend.specs.declared.service.Service.{Service}
 use Rattle.display_backend.specs.declared.picture.Reading.{Reading}
 use Rattle.display_backend.specs.declared.waiting.Waiting.TheVariants as waiting
-use Rattle.display_backend.specs.Store.{stock_of}
+use Rattle.display_buffers.specs.Store.{stock_of}
 use Rattle.display_backend.specs.Course.{HasCreate, IsReading, reading_left}
 use Rattle.display_backend.specs.Known.{known_of, left_of}
 use Rattle.display_backend.specs.Service.{Listed, Served, display, event_for, job_of}
-use Rattle.display_backend.specs.Stock.{Held}
+use Rattle.display_buffers.specs.Stock.{Held}
 
 -- the request in hand is a CREATE of so many octets; of as many pages as a walk came to
 abbrev pub HasCreateOf : Option Request → List Held → (octets : ℕ) → Type 0

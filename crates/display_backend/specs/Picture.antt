@@ -13,7 +13,8 @@ use Rattle.picture_scan.specs.declared.shape.Shape.{Shape}
 use Rattle.picture_scan.specs.Laws.{HasShown}
 use Rattle.picture_scan.specs.Rectangle.{is_depth, rows_octets}
 use Rattle.display_backend.specs.declared.picture.Source.{Source}
-use Rattle.display_backend.specs.Scene.{Scene, buffer_at, connector_at}
+use Rattle.display_backend.specs.Scene.{Scene, connector_at}
+use Rattle.display_buffers.specs.Buffers.{buffer_at}
 
 -- a framebuffer lies at the top left of its display buffer, whose rows have that buffer's width
 abbrev pub source_in : Picture → ℕ → Option Buffer → Option Source

@@ -6,7 +6,7 @@ use Rattle.displ_wire.specs.declared.Request.{Request}
 use Rattle.displ_wire.specs.Wire.{reply_words}
 use Rattle.display_buffers.specs.declared.live.Live.{Live}
 use Rattle.display_buffers.specs.Buffers.{with_buffer, without_buffer}
-use Rattle.display_backend.specs.Stock.{Stock, created, destroyed}
+use Rattle.display_buffers.specs.Stock.{Stock, created, destroyed}
 
 -- the reply to a request
 abbrev pub reply_to : Request → ℤ → List ℕ

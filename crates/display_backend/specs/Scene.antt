@@ -1,14 +1,13 @@
 -- What a display shows: its framebuffers, and its connectors by part (the operations of displif.h). What a request and a blank make
 -- of them.
-use Rattle.std.specs.Prelude.{ℕ, Bool, true, List, [], map, Option, option_map, replicate, slice_index_or, slice_set, IsSomeAnd}
+use Rattle.std.specs.Prelude.{ℕ, Bool, true, List, [], map, Option, replicate, slice_index_or, slice_set, IsSomeAnd}
 use Rattle.std.specs.List.{AllByRecursion}
 use Rattle.displ_wire.specs.declared.Asked.{Asked}
 use Rattle.displ_wire.specs.declared.Asked.TheVariants as asked
 use Rattle.displ_wire.specs.declared.Attach.{Attach}
 use Rattle.displ_wire.specs.declared.Config.{Config}
-use Rattle.displ_wire.specs.declared.buffer.Buffer.{Buffer}
 use Rattle.display_buffers.specs.declared.live.Live.{Live}
-use Rattle.display_buffers.specs.Buffers.{buffer_of}
+use Rattle.display_buffers.specs.Buffers.{buffer_at}
 use Rattle.displ_wire.specs.declared.framebuffer.Framebuffer.{Framebuffer}
 use Rattle.framebuffers.specs.Frames as frames
 use Rattle.framebuffers.specs.Frames.{LiesIn, frame_of, with_frame, without_frame}
@@ -40,10 +39,6 @@ asking sc = connector_at sc sc.part
 -- the framebuffer of the flip that is pending on the connector of a part
 abbrev pub pending_at : Scene → ℕ → Option ℕ
 pending_at sc part = pending_of (connector_at sc part)
-
--- the live display buffer of a cookie
-abbrev pub buffer_at : {P : Type 0} → ℕ → List (Live P) → Option Buffer
-buffer_at cookie bs = option_map (λ b. b.buffer) (buffer_of cookie bs)
 
 -- a framebuffer comes; one goes, from each connector that shows it or is to show it too
 abbrev pub attached : {P : Type 0} → List (Live P) → Attach → Scene → Scene

@@ -26,8 +26,8 @@ use Rattle.display_backend.specs.declared.course.Progress.TheVariants as progres
 use Rattle.display_backend.specs.declared.waiting.Waiting.{Waiting}
 use Rattle.display_backend.specs.declared.waiting.Waiting.TheVariants as waiting
 use Rattle.display_backend.specs.Waiting.{said_of, waiting_of}
-use Rattle.display_backend.specs.Stock.{Stock, Held, no_stock, pages_of, pages_under, bared}
-use Rattle.display_backend.specs.Stock as stock
+use Rattle.display_buffers.specs.Stock.{Stock, Held, no_stock, pages_of, pages_under, bared}
+use Rattle.display_buffers.specs.Stock as stock
 use Rattle.display_backend.specs.Names.{ids_after, live_names, names_under, numbered, numbers}
 use Rattle.picture_scan.specs.declared.scan.Shown.{Shown}
 use Rattle.picture_scan.specs.Scanning.{scan_plan}

@@ -9,7 +9,8 @@ use Rattle.display_buffers.specs.declared.live.Live.{Live}
 use Rattle.display_buffers.specs.Buffers.{buffer_of, check_of}
 use Rattle.framebuffers.specs.Frames.{attach_check, detach_check, frame_of, is_used}
 use Rattle.connectors.specs.Connectors.{config_check, flip_check}
-use Rattle.display_backend.specs.Scene.{Scene, asking, buffer_at}
+use Rattle.display_backend.specs.Scene.{Scene, asking}
+use Rattle.display_buffers.specs.Buffers.{buffer_at}
 use Rattle.display_backend.specs.declared.course.Progress.{Progress}
 use Rattle.display_backend.specs.declared.course.Progress.TheVariants as progress
 

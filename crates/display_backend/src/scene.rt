@@ -3,9 +3,9 @@
 ghost use Rattle.std.specs.Prelude.{◌≡◌, length};
 
 use crate::picture::Source;
-use crate::store::Store;
 use connectors::Connector;
 use displ_wire::{Asked, Attach, Config, Refused, encode_event};
+use display_buffers::Store;
 use framebuffers::Frames;
 use picture_scan::Shape;
 use pv_words::Said;
@@ -28,12 +28,13 @@ impl Scene {
     ghost use Rattle.std.specs.Prelude.{IfOk, IsSome, Ok, option_map, pos, true};
     ghost use Rattle.framebuffers.specs.Frames.{attach_check, detach_check, frame_of, is_used};
     ghost use Rattle.connectors.specs.Connectors.{config_check, flip_check};
-    ghost use Rattle.display_backend.specs.Scene.{after_blank_at, asking, buffer_at, configured, connector_at, detached, flipped};
+    ghost use Rattle.display_backend.specs.Scene.{after_blank_at, asking, configured, connector_at, detached, flipped};
+    ghost use Rattle.display_buffers.specs.Buffers.{buffer_at};
     ghost use Rattle.display_backend.specs.Scene.{no_scene, pending_at, scene_after, with_connector};
     ghost use Rattle.display_backend.specs.Service.{flip_words, flipped_at, raised_at};
     ghost use Rattle.display_backend.specs.Showing.{scene_of};
     ghost use Rattle.display_backend.specs.Picture.{source_at};
-    ghost use Rattle.display_backend.specs.Store.{stock_of};
+    ghost use Rattle.display_buffers.specs.Store.{stock_of};
     ghost use Rattle.display_backend.specs.Verdict.{verdict};
 
     /// No framebuffer, and no connector is configured.

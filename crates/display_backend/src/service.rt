@@ -6,17 +6,17 @@ ghost use Rattle.display_backend.specs.Waiting.{said_of};
 ghost use Rattle.std.proofs.Props.{props};
 ghost use Rattle.display_backend.specs.Course.{Stands, pages_walked};
 ghost use Rattle.display_backend.specs.CourseFacts.{stands_prop};
-ghost use Rattle.display_backend.specs.Stock.{pages_of};
-ghost use Rattle.display_backend.specs.Store.{stock_of, count_of};
+ghost use Rattle.display_buffers.specs.Stock.{pages_of};
+ghost use Rattle.display_buffers.specs.Store.{stock_of, count_of};
 
 use crate::course::{Course, Progress};
-use crate::picture::Reading;
+use crate::picture::{Reading, scan_at};
 use crate::scene::Scene;
-use crate::store::Store;
 use crate::verdict::{answered, status_at, verdict_on};
 use crate::waiting::{Waiting, said_of, waiting_of};
 use device_service::{Deed, Now, Serve};
 use displ_wire::{Asked, Create, Request, decode, encode_reply};
+use display_buffers::Store;
 use page_directory::{Walk, Walked};
 use picture_scan::Scan;
 use pv_words::{Access, DomId, GrantRef, Hold, HostEvent, Mode, Said, Words};
@@ -60,7 +60,7 @@ impl Service {
     ghost use Rattle.display_backend.specs.Over.{BeginsCreate, GoesOn, HasCreateFor, HasCreateOf};
     ghost use Rattle.display_backend.specs.Over.{WalksOn, create_walk, site_over, walk_over};
     ghost use Rattle.display_backend.specs.Service.{Freed, Listed, after_walk, display, says_at};
-    ghost use Rattle.display_backend.specs.Stock.{pages_under};
+    ghost use Rattle.display_buffers.specs.Stock.{pages_under};
     ghost use Rattle.xenbus_states.specs.Nodes.{no_nodes};
 
     /// The service of a display that isn't connected.
@@ -199,7 +199,7 @@ impl Service {
         ensures domain { (dom : ℕ) → is_of dom self.new ≡ true }
     {
         let mut reading = reading;
-        let turn = self.store.scan_at(reading.place, &mut reading.scan, words);
+        let turn = scan_at(&self.store, reading.place, &mut reading.scan, words);
         let access = turn.access;
         let Some(shown) = turn.done else {
             self.course = Course::Reads(reading);

@@ -5,13 +5,13 @@ ghost use Rattle.display_backend.specs.Course.{MayAnswer};
 ghost use Rattle.display_backend.specs.Scene.{scene_after};
 ghost use Rattle.display_backend.specs.Showing.{scene_of};
 ghost use Rattle.display_backend.specs.Verdict.{checked, destroy_verdict, is_accepted, status_in, verdict};
-ghost use Rattle.display_backend.specs.Store.{stock_of, count_of};
+ghost use Rattle.display_buffers.specs.Store.{stock_of, count_of};
 ghost use Rattle.display_backend.specs.Reply.{stock_after};
 
 use crate::course::Progress;
 use crate::scene::Scene;
-use crate::store::Store;
 use displ_wire::{Asked, Refused};
+use display_buffers::Store;
 
 // The statuses where memory was wanting, where a page was denied, and where a framebuffer is attached to a buffer.
 pub(crate) const ENOMEM: i32 = -12;

@@ -4,8 +4,8 @@ use Rattle.display_backend.specs.Course.{left_at}
 use Rattle.display_backend.specs.Known.{known_of, left_of}
 use Rattle.display_backend.specs.Service.{Freed}
 use Rattle.display_backend.specs.Showing.{scene_of}
-use Rattle.display_backend.specs.Stock.{Stock, pages_under}
-use Rattle.display_backend.specs.Store.{stock_of}
+use Rattle.display_buffers.specs.Stock.{Stock, pages_under}
+use Rattle.display_buffers.specs.Store.{stock_of}
 use Rattle.display_backend.specs.declared.course.Progress.TheVariants as progress
 use Rattle.display_backend.proofs.Freeing.{unmap_lies}
 use Rattle.device_service.proofs.Holding.Held.{nil_of}

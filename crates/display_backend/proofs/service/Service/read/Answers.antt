@@ -2,7 +2,7 @@ use Rattle.std.proofs.Common.{refl, sym, ap}
 use Rattle.display_backend.specs.Course.{scan_left, stock_at}
 use Rattle.display_backend.specs.Known.{known_of}
 use Rattle.display_backend.specs.Showing.{scene_of}
-use Rattle.display_backend.specs.Store.{stock_of}
+use Rattle.display_buffers.specs.Store.{stock_of}
 use Rattle.display_backend.specs.declared.picture.Reading.{Reading}
 use Rattle.display_backend.proofs.Loads.{in_stock, read_ends, read_goes}
 use Rattle.display_backend.proofs.Serviced.{knowing}

@@ -5,16 +5,16 @@ use Rattle.picture_scan.specs.Rectangle.{IsWithin}
 use Rattle.display_buffers.specs.Buffers.{has_cookie}
 use Rattle.display_backend.specs.declared.picture.Reading.{Reading}
 use Rattle.display_backend.specs.Course.{stock_at}
-use Rattle.display_backend.specs.Left.{pages_at}
+use Rattle.display_buffers.specs.Left.{pages_at}
 use Rattle.display_backend.specs.Over.{ReadsFor}
 use Rattle.display_backend.specs.Picture.{is_within, source_at}
 use Rattle.display_backend.specs.Service.{show_of}
 use Rattle.display_backend.specs.Showing.{scene_of}
-use Rattle.display_backend.specs.Stock.{Stock}
-use Rattle.display_backend.specs.Store.{stock_of}
-use Rattle.display_backend.proofs.Loads.{first_within, read_by, tested, told_by, told_without}
+use Rattle.display_buffers.specs.Stock.{Stock}
+use Rattle.display_buffers.specs.Store.{stock_of}
+use Rattle.display_backend.proofs.Loads.{read_by, tested, told_by, told_without}
 use Rattle.display_backend.proofs.Pictures.{within_by}
-use Rattle.display_backend.proofs.Places.{under_none, under_place}
+use Rattle.display_buffers.proofs.Places.{first_within, under_none, under_place}
 use Rattle.display_backend.proofs.service.Service.reading.Goals as goal
 
 pub returns-in_err-place : goal.returns-in_err-place

@@ -6,7 +6,7 @@ use Rattle.display_backend.specs.Course.{stock_at}
 use Rattle.display_backend.specs.Known.{known_of}
 use Rattle.display_backend.specs.Service.{Listed, after_walk, says_at}
 use Rattle.display_backend.specs.Showing.{scene_of}
-use Rattle.display_backend.specs.Store.{stock_of}
+use Rattle.display_buffers.specs.Store.{stock_of}
 use Rattle.display_backend.proofs.Serviced.{knowing, walk_goes, walk_ends}
 use Rattle.display_backend.proofs.service.Service.walk.Goals as goal
 

@@ -6,7 +6,7 @@ use Rattle.display_backend.specs.declared.course.Course.TheVariants.{Walks}
 use Rattle.display_backend.specs.Course.{is_walk_of}
 use Rattle.display_backend.specs.Known.{held_of, is_of, known_of, left_of}
 use Rattle.display_backend.specs.Showing.{scene_of}
-use Rattle.display_backend.specs.Store.{stock_of, count_of}
+use Rattle.display_buffers.specs.Store.{stock_of, count_of}
 use Rattle.display_backend.proofs.Serviced.{in_walked, walk_continues}
 use Rattle.display_backend.proofs.service.ServiceServe.go_on.Goals as goal
 

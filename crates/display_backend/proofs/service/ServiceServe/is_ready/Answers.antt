@@ -1,6 +1,6 @@
 use Rattle.std.proofs.Common.{sym}
 use Rattle.display_backend.specs.Showing.{scene_of}
-use Rattle.display_backend.specs.Store.{stock_of, count_of}
+use Rattle.display_buffers.specs.Store.{stock_of, count_of}
 use Rattle.display_backend.proofs.Serviced.{ready_freeing}
 use Rattle.display_backend.proofs.service.ServiceServe.is_ready.Goals as goal
 

@@ -4,7 +4,7 @@ use mir.Val.{SFits}
 use Rattle.std.proofs.lemmas.Int.{to_z-of_z}
 use Rattle.display_backend.specs.Reply.{reply_to}
 use Rattle.display_backend.specs.Showing.{scene_of}
-use Rattle.display_backend.specs.Store.{stock_of}
+use Rattle.display_buffers.specs.Store.{stock_of}
 use Rattle.display_backend.proofs.Serviced.{reply_is}
 use Rattle.display_backend.proofs.service.ServiceServe.reply.Goals as goal
 

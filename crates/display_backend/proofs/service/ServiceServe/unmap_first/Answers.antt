@@ -2,8 +2,8 @@ use Rattle.std.proofs.Common.{sym, ap, subst}
 use Rattle.pv_words.specs.Release.{Drops}
 use Rattle.display_backend.specs.Course.{stock_at}
 use Rattle.display_backend.specs.Showing.{scene_of}
-use Rattle.display_backend.specs.Stock.{Stock, pages_of}
-use Rattle.display_backend.specs.Store.{stock_of, count_of}
+use Rattle.display_buffers.specs.Stock.{Stock, pages_of}
+use Rattle.display_buffers.specs.Store.{stock_of, count_of}
 use Rattle.display_backend.proofs.Serviced.{at_rest, knowing, stands_less, strips_less}
 use Rattle.display_backend.proofs.service.ServiceServe.unmap_first.Goals as goal
 

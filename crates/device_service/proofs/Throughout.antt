@@ -31,7 +31,7 @@ use Rattle.device_service.specs.Parts as of_parts
 use Rattle.device_service.specs.Parts.{answer_from, connect_left, connects, count_of, doing_of, is_asleep, joined_of, kept_by, raise_from, sleeping, slept_to, take_from}
 use Rattle.device_service.specs.Stand.{dom_of, given_up, held_of, known_in, leaving_plan, parts_of, site_at, stand_at, stand_in, stand_of, stuck, why_of, work_of}
 use Rattle.device_service.specs.Throughout.{HoldsThroughout}
-use Rattle.device_service.specs.Work.{Work, End, Took, Own, Done, Answered, Slept, Raised, Shut, after_answer, all_pages, connected, device, part_of, settled}
+use Rattle.device_service.specs.Work.{Work, End, Took, Own, Done, Answered, Slept, Raised, Shut, after_answer, all_pages, connected, device, first_station, part_of, settled}
 use Rattle.device_service.proofs.InPages.{fits_before, in_answer, in_raise, in_sleeping, in_take, stays}
 use Rattle.device_service.proofs.PartsLaws.{held_bare, held_open, held_told, joined_count, joined_none}
 use Rattle.device_service.proofs.Holding.Lengths.{same_length, times_at}

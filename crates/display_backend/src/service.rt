@@ -308,7 +308,7 @@ impl Serve for Service {
 
     ghost holds_pages = { λ s e. holds_pages s.course (stock_of s.store) e };
 
-    ghost begins_bare = { λ nodes. refl };
+    ghost begins_bare = { λ x nodes. refl };
 
     ghost stays_bare = { stays_bare };
 

@@ -7,7 +7,6 @@ use Rattle.pv_words.specs.declared.grant.GrantRefusal.{GrantRefusal}
 use Rattle.pv_words.specs.declared.setup.DeviceKind.TheVariants as kind
 use Rattle.pv_words.specs.Found.{Found}
 use Rattle.displ_wire.specs.declared.Request.{Request}
-use Rattle.xenbus_states.specs.Nodes.{no_nodes}
 use Rattle.device_core.specs.Machine.{Happening, HappensTo, IsRun, Snapshot}
 use Rattle.device_core.specs.Order.{Own, Did, Spoke, Rested, Heard, Refused, Others}
 use Rattle.device_core.specs.Site.{Site}
@@ -88,7 +87,7 @@ module _ (site : Site) where
   settles =
       record {
         Fine = IsFine;
-        begun = λ nodes q e d. none_some q e;
+        begun = λ y nodes f q e d. none_some q e;
         taken = λ y part words f q e d. false_true d;
         dropped = λ y f q e d. false_true d;
         replied = λ y n status f. replied_fine y y.request n status f;
@@ -105,7 +104,7 @@ module _ (site : Site) where
       }
 
   first_calm : IsCalm table site settles first_snapshot.rows
-  first_calm = bare_calm table site settles first_snapshot.rows refl refl (settles.begun no_nodes)
+  first_calm = bare_calm table site settles first_snapshot.rows refl refl (λ q e d. none_some q e)
 
   pub display_answers : (before later : List (Happening Event)) (now end : Snapshot (Rows Lines Waiting)) (h : Hand) (q : Request) → IsRun (HappensTo true (machine site)) first_snapshot (before ++ later) end → IsRun (HappensTo true (machine site)) first_snapshot before now → now.rows.hand ≡ Some h → now.rows.service.request ≡ Some q → verdict now.rows.service.buffers now.rows.service.scene q.asked ≡ pos 0 → IsAnsweredIn told_of (accepted_of h q) now.rows.service.denied later
   display_answers before later now end h q whole front in_hand asks accepted =

@@ -14,7 +14,6 @@ use Rattle.pv_words.specs.Found.{Found, nothing_found}
 use Rattle.displ_wire.specs.declared.Request.{Request}
 use Rattle.page_directory.specs.Laws as walk
 use Rattle.xenbus_states.specs.Bus.{first_bus}
-use Rattle.xenbus_states.specs.Nodes.{no_nodes}
 use Rattle.device_core.specs.Order as order
 use Rattle.device_core.specs.Learned.{found_next}
 use Rattle.device_core.specs.Order.{Own, Spoke, Station, at_rest, due_at, followed, made_by}
@@ -22,15 +21,15 @@ use Rattle.device_core.specs.Machine.{Happening, HappensTo, IsRun, Snapshot, Tab
 use Rattle.device_core.specs.Site.{Site}
 use Rattle.device_core.specs.Told.{told_by}
 use Rattle.device_service.specs.Claims as service
-use Rattle.device_service.specs.Claims.{first_station, first_view}
+use Rattle.device_service.specs.Claims.{first_view}
 use Rattle.device_service.specs.Reading.{reading, told_of}
 use Rattle.device_service.specs.declared.round.Hand.{Hand}
 use Rattle.device_service.specs.Rows.{Event, Rows}
 use Rattle.device_service.specs.Truth.{ShowsReason}
-use Rattle.device_service.specs.Work.{Work, End, device}
+use Rattle.device_service.specs.Work.{Work, End, device, first_station}
 use Rattle.display_backend.specs.declared.waiting.Waiting.{Waiting}
 use Rattle.display_backend.specs.Verdict.{is_creation, verdict}
-use Rattle.display_backend.specs.Service.{Ending, Known, Lines, display, shows, table}
+use Rattle.display_backend.specs.Service.{Ending, Known, Lines, display, no_lines, nothing_known, shows, table}
 use Rattle.display_backend.specs.Waiting.{is_for}
 use Rattle.backend_core.specs.Answered.{Accepted, IsAnsweredIn}
 
@@ -44,7 +43,7 @@ takes_event (Display connectors) e = is_for connectors e
 
 -- where a display stands that has done and heard this since it was declared
 abbrev pub display_station : Site → List Own → Station (Work Known Waiting) (End Ending Waiting)
-display_station site es = after (followed (device display site)) (first_station display table shows site) es
+display_station site es = after (followed (device display site)) (first_station nothing_known) es
 
 -- behind what a device has done and heard, these are what its order of work gives next, one after another, with what may be
 -- heard at any moment
@@ -78,7 +77,7 @@ wants_memory (Display connectors) site es e = order.wants_at (device display sit
 
 -- its accesses, and what each is for
 abbrev pub made_after : DeviceKind → Site → List Own → List Made
-made_after (Display connectors) site es = made_by (device display site) (first_station display table shows site) es
+made_after (Display connectors) site es = made_by (device display site) (first_station nothing_known) es
 
 -- the display machine: its rows, the names that its replies make, and the refusals that it owes
 abbrev pub machine : Site → Table (Rows Lines Waiting) Event
@@ -88,7 +87,7 @@ machine site = (reading display table shows site).table
 abbrev pub first_snapshot : Snapshot (Rows Lines Waiting)
 first_snapshot =
     record {
-      rows = record { bus = first_bus; hand = None; replies = 0; waiting = []; service = table.begun no_nodes };
+      rows = record { bus = first_bus; hand = None; replies = 0; waiting = []; service = no_lines };
       names = [];
       touched = [];
       owes = None;
@@ -99,7 +98,7 @@ abbrev pub display_events : Site → List Own → List (Happening Event)
 display_events site es =
     history
     (device display site) (reading display table shows site)
-    (first_station display table shows site) (first_view display table shows site) es
+    (first_station nothing_known) (first_view display table shows site) es
 
 -- what the history of a device's machine tells of what the device said, heard and refused
 abbrev pub told_after : DeviceKind → Site → List Own → List Own
@@ -107,7 +106,7 @@ told_after (Display connectors) site es = told_by told_of (display_events site e
 
 -- what a device says and hears, with the words that are drawn, is a run of its machine
 abbrev pub IsMachineRun : DeviceKind → Site → List Own → Type 0
-IsMachineRun (Display connectors) site es = service.IsMachineRun display table shows site es
+IsMachineRun (Display connectors) site es = service.IsMachineRun display table shows site nothing_known es
 
 -- a request that a display accepted: pages are mapped for a CREATE
 abbrev pub accepted_of : Hand → Request → Accepted

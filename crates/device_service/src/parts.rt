@@ -131,15 +131,6 @@ impl Parts {
         self.held() == 0
     }
 
-    /// The event page of this part.
-    pub fn event_page(&self, part: u8) -> Hold
-        requires { IsOpen part self.now }
-        ensures { (j : Joined) → slice_get (joined_of self.now) part ≡ Some j → result ≡ j.event }
-    {
-        let link = &self.links[part as usize];
-        link.hold_at(link.held() - 1)
-    }
-
     /// The index up to which events were written when this part was connected.
     pub fn in_prod(&self, part: u8) -> u32
         requires { IsOpen part self.now }

@@ -782,8 +782,9 @@ module _ (frames grants : ℕ → ℕ) (dom parts : ℕ) where
         refusal_is = λ b vs e. refl;
         pages_are = λ x s. s.0;
         short = λ x. short x x.request;
-        begun_sane = λ nodes. ((tt, no_buffers, none_sound []), ((refl, (refl, refl)), tt), refl);
-        begun_shows = λ nodes. (refl, refl, refl);
+        begun_sane = λ x nodes. ((tt, no_buffers, none_sound []), ((refl, (refl, refl)), tt), refl);
+        begun_named = λ x nodes. refl;
+        begun_shows = λ x m nodes named. refl;
         strips = λ x s. ((subst (λ hs. AreOf (grants dom) dom hs) (sym (none_left x.stock)) tt, like_sound x.stock.buffers (all_bared x.stock.buffers) (sym (numbered_all_bared x.stock.buffers [])) s.1, like_scene x.stock.buffers (all_bared x.stock.buffers) x.scene (sym (numbered_all_bared x.stock.buffers [])) s.2), none_left x.stock);
         strips_shows = λ x m s named. (named ∙ sym (like_length (all_bared x.stock.buffers) x.stock.buffers (numbered_all_bared x.stock.buffers [])), ap (λ z. record (shows.rows x m) { buffers = z }) (numbered_all_bared x.stock.buffers m), none_bared x.stock.buffers m, λ key. ap (number_under key) (numbered_all_bared x.stock.buffers m));
         drops = λ x s. (s, refl);

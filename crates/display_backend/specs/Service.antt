@@ -168,11 +168,15 @@ abbrev pub flipped_for : Known → Option Waiting → Known
 flipped_for x (Some (waiting.Blank part)) = record x { scene = flipped_at x.scene part (pending_at x.scene part) }
 flipped_for x other = x
 
+-- what a display knows that is just declared, and that takes a state: it forgets all, whatever it knew before
+abbrev pub nothing_known : Known
+nothing_known = record { stock = no_stock; scene = no_scene; request = None; progress = progress.Decided }
+
 abbrev pub display : Service Known Ending Waiting
 display =
     record {
       kind = Ringed;
-      begun = λ nodes. record { stock = no_stock; scene = no_scene; request = None; progress = progress.Decided };
+      begun = λ x nodes. nothing_known;
       pages = λ x. pages_of x.stock;
       stripped = λ x. record x { stock = stock.stripped x.stock };
       dropped = λ x. record x { request = None; progress = progress.Decided };
@@ -249,11 +253,14 @@ abbrev pub makes_for : Option Request → ℤ → Bool
 makes_for None status = false
 makes_for (Some q) status = is_creation q.asked && is_accepted status
 
+abbrev pub no_lines : Lines
+no_lines = record { request = None; denied = false; buffers = []; scene = no_scene }
+
 abbrev pub table : Table Lines Waiting
 table =
     record {
       kind = Ringed;
-      begun = λ nodes. record { request = None; denied = false; buffers = []; scene = no_scene };
+      begun = λ y nodes. no_lines;
       taken = λ y part words. record y { request = Some (request_of words); denied = false; scene = record y.scene { part = part } };
       dropped = λ y. record y { request = None; denied = false };
       Tells = Tells;

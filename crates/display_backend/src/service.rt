@@ -61,11 +61,10 @@ impl Service {
     ghost use Rattle.display_backend.specs.Over.{WalksOn, create_walk, site_over, walk_over};
     ghost use Rattle.display_backend.specs.Service.{Freed, Listed, after_walk, display, says_at};
     ghost use Rattle.display_buffers.specs.Stock.{pages_under};
-    ghost use Rattle.xenbus_states.specs.Nodes.{no_nodes};
 
     /// The service of a display that isn't connected.
     pub fn new(alloc: Global) -> Result<Service, AllocError>
-        ensures knows { IfOk result (λ s. known_of s ≡ display.begun no_nodes) }
+        ensures knows { IfOk result (λ s. known_of s ≡ nothing_known) }
         ensures idle { IfOk result (λ s. going_of s ≡ false) }
         ensures bare { IfOk result (λ s. held_of s ≡ []) }
     {
@@ -309,7 +308,7 @@ impl Serve for Service {
 
     ghost holds_pages = { λ s e. holds_pages s.course (stock_of s.store) e };
 
-    ghost begins_bare = { λ nodes. refl };
+    ghost begins_bare = { λ x nodes. refl };
 
     ghost stays_bare = { stays_bare };
 

@@ -422,7 +422,9 @@ impl Serve for Service {
         requires idle { going_of self.old ≡ false }
         ensures knows { known_of self.new ≡ known_of self.old }
         ensures idle { going_of self.new ≡ false }
-    {}
+    {
+        // No room for the event: its flip stays pending, and the next blank tries it again.
+    }
 
     fn go_on<W: Words>(&mut self, dom: DomId, parts: u8, words: &mut W) -> Deed {
         if let Course::Frees(cookie) = self.course {

@@ -59,7 +59,7 @@ impl Service {
     ghost use Rattle.display_backend.specs.Known.{known_of, going_of, left_of, is_of, held_of};
     ghost use Rattle.display_backend.specs.Over.{BeginsCreate, GoesOn, HasCreateFor, HasCreateOf};
     ghost use Rattle.display_backend.specs.Over.{WalksOn, create_walk, site_over, walk_over};
-    ghost use Rattle.display_backend.specs.Service.{Freed, Listed, after_walk, display, says_at};
+    ghost use Rattle.display_backend.specs.Service.{Freed, Listed, after_walk, nothing_known, says_at};
     ghost use Rattle.display_backend.specs.Stock.{pages_under};
 
     /// The service of a display that isn't connected.

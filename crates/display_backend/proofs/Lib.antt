@@ -11,6 +11,7 @@ pub mod Numbered
 pub mod Scenes
 pub mod Serviced
 mod Pictures
+mod ShowsLive
 mod Loads
 mod Taking
 mod Wholes

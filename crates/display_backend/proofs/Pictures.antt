@@ -169,7 +169,7 @@ sourced bs sc part s e = by_picture (picture_of (connector_at sc part)) refl e
     by_picture (Some p) g e = by_frame p (frame_of p.fb sc.frames) g refl e
 
 -- what is so of each framebuffer is so of the live one of a cookie
-frame_so : (Q : Framebuffer → Type 0) (fb : ℕ) (fs : List Framebuffer) (f : Framebuffer) → AllByRecursion Q fs → frame_of fb fs ≡ Some f → Q f
+pub frame_so : (Q : Framebuffer → Type 0) (fb : ℕ) (fs : List Framebuffer) (f : Framebuffer) → AllByRecursion Q fs → frame_of fb fs ≡ Some f → Q f
 frame_so Q fb [] f all e = let wrong : ⊥ = cc in absurd wrong
 frame_so Q fb (x ∷ xs) f all e = by_test (λ g. frame_so Q fb xs f all.1 g) (x.cookie == fb) e
   where

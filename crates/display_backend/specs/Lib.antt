@@ -8,6 +8,7 @@ pub mod Names
 pub mod Over
 pub mod Picture
 pub mod Reply
+pub mod Scans
 pub mod Scene
 pub mod Service
 pub mod Showing

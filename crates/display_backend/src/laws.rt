@@ -1,7 +1,7 @@
-//! What a display tells that it holds, and that it keeps the laws of a service.
+//! What a display tells that it holds, what it shows, and that it keeps the laws of a service.
 
 ghost use Rattle.device_service.specs.Claims.{Keeps, RestsAsleep, Runs, Tells};
-ghost use Rattle.display_backend.specs.Laws.{TellsWhatIsHeld};
+ghost use Rattle.display_backend.specs.Laws.{ShowsStaySound, TellsWhatIsHeld};
 ghost use Rattle.display_backend.specs.Service.{display, shows, table};
 
 use crate::service::Service;
@@ -27,3 +27,9 @@ pub fn tells_what_is_held()
 {
     device_service::tells_what_is_held::<Service>();
 }
+
+/// Whatever a display has done and heard by its order of work: the cookie that a connector shows, and that of a pending flip whose
+/// mark stands, names a live framebuffer in which the configured rectangle lies, and which lies in a live display buffer.
+pub fn shows_stay_sound()
+    ensures { ShowsStaySound }
+{}

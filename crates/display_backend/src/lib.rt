@@ -11,5 +11,5 @@ mod verdict;
 mod waiting;
 
 pub use display::Display;
-pub use laws::{displays_run, tells_what_is_held};
+pub use laws::{displays_run, shows_stay_sound, tells_what_is_held};
 pub use service::Service;

@@ -1,11 +1,12 @@
 //! A picture that a connector shows, and its reading.
 
 ghost use Rattle.std.specs.Prelude.{◌≡◌, ◌<◌, false, length, IfSome};
-ghost use Rattle.pv_words.specs.Plan.{MayGo, Makes, Turns};
+ghost use Rattle.pv_words.specs.Plan.{MayGo, Makes};
 ghost use Rattle.picture_scan.specs.Scan.{LiesIn, is_over, left_of, shape_of};
 ghost use Rattle.picture_scan.specs.Steps.{GoesOn, IsInPages};
 ghost use Rattle.display_buffers.specs.Left.{pages_at};
 ghost use Rattle.display_buffers.specs.Store.{stock_of};
+ghost use Rattle.display_backend.specs.Scans.{ScansOn};
 
 use display_buffers::Store;
 use picture_scan::{Scan, Shape, Shown};
@@ -41,7 +42,7 @@ pub(crate) fn scan_at<W: Words>(
     requires going { is_over scan.old ≡ false }
     requires lies { LiesIn (pages_at (stock_of store.now).buffers k) (shape_of scan.old) }
     requires may { MayGo (W.may words.old) (left_of (pages_at (stock_of store.now).buffers k) scan.old) }
-    ensures turns { Turns (left_of (pages_at (stock_of store.now).buffers k) scan.old) result.access result.done (left_of (pages_at (stock_of store.now).buffers k) scan.new) }
+    ensures turns { ScansOn (stock_of store.now).buffers k scan.old result.access result.done scan.new }
     ensures made { Makes W.makes words.old result.access words.new }
     ensures goes_on { GoesOn scan.old result.done scan.new }
     ensures stays { IfSome result.access (IsInPages (pages_at (stock_of store.now).buffers k)) }

@@ -59,7 +59,7 @@ impl Service {
     ghost use Rattle.display_backend.specs.Known.{known_of, going_of, left_of, is_of, held_of};
     ghost use Rattle.display_backend.specs.Over.{BeginsCreate, GoesOn, HasCreateFor, HasCreateOf};
     ghost use Rattle.display_backend.specs.Over.{WalksOn, create_walk, site_over, walk_over};
-    ghost use Rattle.display_backend.specs.Service.{Freed, Listed, after_walk, display, says_at};
+    ghost use Rattle.display_backend.specs.Service.{Freed, Listed, after_walk, nothing_known, says_at};
     ghost use Rattle.display_buffers.specs.Stock.{pages_under};
 
     /// The service of a display that isn't connected.
@@ -421,7 +421,9 @@ impl Serve for Service {
         requires idle { going_of self.old ≡ false }
         ensures knows { known_of self.new ≡ known_of self.old }
         ensures idle { going_of self.new ≡ false }
-    {}
+    {
+        // No room for the event: its flip stays pending, and the next blank tries it again.
+    }
 
     fn go_on<W: Words>(&mut self, dom: DomId, parts: u8, words: &mut W) -> Deed {
         if let Course::Frees(cookie) = self.course {

@@ -11,6 +11,7 @@ pub mod Mapped
 pub mod Names
 pub mod Numbered
 pub mod Order
+pub mod Pending
 pub mod Places
 pub mod Scenes
 pub mod Serviced

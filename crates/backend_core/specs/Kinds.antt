@@ -31,7 +31,9 @@ use Rattle.display_backend.specs.declared.waiting.Waiting.{Waiting}
 use Rattle.display_backend.specs.Verdict.{is_creation, verdict}
 use Rattle.display_backend.specs.Service.{Ending, Known, Lines, display, no_lines, nothing_known, shows, table}
 use Rattle.display_backend.specs.Waiting.{is_for}
+use Rattle.backend_core.specs.AfterGone as names
 use Rattle.backend_core.specs.Answered.{Accepted, IsAnsweredIn}
+use Rattle.backend_core.specs.Flips.{AreInOrder, flips_next, no_flips}
 
 -- how many parts a device has: a display's connectors
 abbrev pub parts_of : DeviceKind → ℕ
@@ -121,6 +123,16 @@ AnswersAll (Display connectors) site es =
     → IsRun (HappensTo true (machine site)) first_snapshot before now
     → now.rows.hand ≡ Some h → now.rows.service.request ≡ Some q → verdict now.rows.service.buffers now.rows.service.scene q.asked ≡ pos 0
     → IsAnsweredIn told_of (accepted_of h q) now.rows.service.denied later
+
+-- At each moment the flips of each connector, in the connection that stands, are done in the order in which they were accepted.
+abbrev pub FlipsAreInOrder : DeviceKind → Site → List Own → Type 0
+FlipsAreInOrder (Display connectors) site es =
+    (part : ℕ) (before later : List (Happening Event)) → display_events site es ≡ before ++ later
+    → AreInOrder (after (flips_next part) no_flips before)
+
+-- Nothing happens to a name of its machine that is gone.
+abbrev pub NothingAfterGone : DeviceKind → Site → List Own → Type 0
+NothingAfterGone (Display connectors) site es = names.NothingAfterGone (display_events site es)
 
 -- What it says is as these words show, where it says which index is too far, or why a map was refused: of a Connect, by which
 -- reference; of a CREATE, from which first page of the directory on.

@@ -1,4 +1,5 @@
 pub mod Answers
+mod Changes
 pub mod Consequences
 mod Displays
 pub mod EachKind
@@ -7,4 +8,5 @@ pub mod Histories
 mod Holding
 pub mod Items
 pub mod OneNext
+mod Pictures
 mod Truth

@@ -44,8 +44,9 @@ use Rattle.backend_core.specs.declared.device.Device.TheVariants.{Display}
 use Rattle.backend_core.specs.Device as backend
 use Rattle.backend_core.specs.Device.{GoesOn, IsDisplay, MayMakeNext, StandsFor}
 use Rattle.backend_core.specs.History.{held_after, site_of}
-use Rattle.backend_core.specs.Kinds.{AnswersAll, Continues, IsExplained, IsMachineRun, IsSettled, IsShownBy, TellsTruly, display_station, due_after, first_snapshot, machine, made_after, owed_after, parts_of, takes_event, told_after, wants_memory}
+use Rattle.backend_core.specs.Kinds.{AnswersAll, Continues, IsExplained, IsMachineRun, IsSettled, IsShownBy, ShowsNamed, TellsTruly, display_events, display_station, due_after, first_snapshot, machine, made_after, owed_after, parts_of, takes_event, told_after, wants_memory}
 use Rattle.backend_core.proofs.Displays.{display_answers, display_shown}
+use Rattle.backend_core.proofs.Pictures.{display_names}
 
 abbrev DisplayWork : Type 0
 DisplayWork = Work Known Waiting
@@ -187,6 +188,11 @@ module _ (frames grants : ℕ → ℕ) (dom : ℕ) where
       let site = site_as (kind.Display n) in
       let run = runs (kind.Display n) es x true_to in
       display_answers site before later now run.0 h q (subst (λ (hs : List (Happening Event)). IsRun (HappensTo true (machine site)) first_snapshot hs run.0) split run.1) front in_hand asks accepted
+
+  pub names_shown : (k : DeviceKind) (es : List Own) → IsExplained k (site_as k) es → AreTrueTo (Words zeros) es → ShowsNamed k (site_as k) es
+  names_shown (kind.Display n) es x true_to =
+      let run = runs (kind.Display n) es x true_to in
+      display_names (site_as (kind.Display n)) (display_events (site_as (kind.Display n)) es) run.0 run.1
 
   pub keeps : (k : DeviceKind) (es : List Own) → IsExplained k (site_as k) es → KeepsToGrants frames grants dom (holds_of []) (made_after k (site_as k) es)
   keeps (kind.Display n) es x = services_keep display table shows facts keeps_laws frames grants dom n nothing_known es refl x

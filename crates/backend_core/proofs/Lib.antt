@@ -1,4 +1,5 @@
 pub mod Answers
+mod Changes
 pub mod Consequences
 mod Displays
 pub mod EachKind
@@ -10,4 +11,5 @@ mod Holding
 pub mod Items
 pub mod OneNext
 mod Outcomes
+mod Pictures
 mod Truth

@@ -144,6 +144,10 @@ InOrderIn frames grants m s = kinds.FlipsAreInOrder s.kind (site_of frames grant
 abbrev pub AfterGoneIn : (frames grants : ℕ → ℕ) → List Item → DeviceSetup → Type 0
 AfterGoneIn frames grants m s = kinds.NothingAfterGone s.kind (site_of frames grants s) (own s.dev.0 m)
 
+-- each picture that it tells is of the framebuffer that was named last
+abbrev pub ShowsNamedIn : (frames grants : ℕ → ℕ) → List Item → DeviceSetup → Type 0
+ShowsNamedIn frames grants m s = kinds.ShowsNamed s.kind (site_of frames grants s) (own s.dev.0 m)
+
 -- Each access of a device to a cell lies in a page that it mapped and hasn't unmapped by then, so that none comes after the
 -- page is gone, and each that may write in one that it mapped for writing; each other access goes to a grant entry of its
 -- domain.

@@ -34,6 +34,7 @@ use Rattle.display_backend.specs.Waiting.{is_for}
 use Rattle.backend_core.specs.AfterGone as names
 use Rattle.backend_core.specs.Answered.{Accepted, IsAnsweredIn}
 use Rattle.backend_core.specs.Flips.{AreInOrder, flips_next, no_flips}
+use Rattle.backend_core.specs.Pictures as pictures
 
 -- how many parts a device has: a display's connectors
 abbrev pub parts_of : DeviceKind → ℕ
@@ -133,6 +134,10 @@ FlipsAreInOrder (Display connectors) site es =
 -- Nothing happens to a name of its machine that is gone.
 abbrev pub NothingAfterGone : DeviceKind → Site → List Own → Type 0
 NothingAfterGone (Display connectors) site es = names.NothingAfterGone (display_events site es)
+
+-- Each picture that a display tells is of the framebuffer that was named last.
+abbrev pub ShowsNamed : DeviceKind → Site → List Own → Type 0
+ShowsNamed (Display connectors) site es = pictures.ShowsNamed (display_events site es)
 
 -- What it says is as these words show, where it says which index is too far, or why a map was refused: of a Connect, by which
 -- reference; of a CREATE, from which first page of the directory on.

@@ -8,7 +8,7 @@ use Rattle.page_directory.specs.Same.{AreSame, times}
 use Rattle.device_core.specs.Order.{Own}
 use Rattle.backend_core.specs.declared.device.Device.{Device}
 use Rattle.backend_core.specs.Device.{StandsFor, MayMakeNext, held_of}
-use Rattle.backend_core.specs.History.{AfterGoneIn, AnswersIn, InOrderIn, IsHistory, IsMachineRunIn, IsPromptIn, KeepsIn, TellsIn, TellsTrulyIn}
+use Rattle.backend_core.specs.History.{AfterGoneIn, AnswersIn, InOrderIn, IsHistory, IsMachineRunIn, IsPromptIn, KeepsIn, TellsIn, TellsTrulyIn, ShowsNamedIn}
 use Rattle.backend_core.specs.History.{held_after, site_of}
 use Rattle.backend_core.specs.Kinds.{IsExplained}
 use Rattle.backend_core.specs.Marked.{Item}
@@ -32,6 +32,11 @@ abbrev pub NothingComesAfterGone : Type 0
 NothingComesAfterGone =
     (frames grants : ℕ → ℕ) (devices : List DeviceSetup) (m : List Item) → IsHistory frames grants devices m
     → AllByRecursion (AfterGoneIn frames grants m) devices
+-- Each picture that a device tells is of the framebuffer that was named last, as its words were found that were taken.
+abbrev pub PicturesAreNamed : Type 0
+PicturesAreNamed =
+    (frames grants : ℕ → ℕ) (devices : List DeviceSetup) (m : List Item) → IsHistory frames grants devices m
+    → AllByRecursion (ShowsNamedIn frames grants m) devices
 
 -- Each refusal of a map that a device tells is the one that the words of its last map show, and each request index that is too far
 -- is the word that its Look loaded.

@@ -6,3 +6,4 @@ pub mod History
 pub mod Kinds
 pub mod Laws
 pub mod Marked
+pub mod Pictures

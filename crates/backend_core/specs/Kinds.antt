@@ -33,6 +33,7 @@ use Rattle.display_backend.specs.Verdict.{is_creation, verdict}
 use Rattle.display_backend.specs.Service.{Ending, Known, Lines, display, shows, table}
 use Rattle.display_backend.specs.Waiting.{is_for}
 use Rattle.backend_core.specs.Answered.{Accepted, IsAnsweredIn}
+use Rattle.backend_core.specs.Drawn.{TakesLast}
 use Rattle.backend_core.specs.Pictures as pictures
 
 -- how many parts a device has: a display's connectors
@@ -124,9 +125,9 @@ AnswersAll (Display connectors) site es =
     → now.rows.hand ≡ Some h → now.rows.service.request ≡ Some q → verdict now.rows.service.buffers now.rows.service.scene q.asked ≡ pos 0
     → IsAnsweredIn told_of (accepted_of h q) now.rows.service.denied later
 
--- Each picture that a display tells is of the framebuffer that was named last.
+-- Each picture that a display tells is of the framebuffer that was named last, and each word that it takes is the one last written there.
 abbrev pub ShowsNamed : DeviceKind → Site → List Own → Type 0
-ShowsNamed (Display connectors) site es = pictures.ShowsNamed (display_events site es)
+ShowsNamed (Display connectors) site es = pictures.ShowsNamed (display_events site es) × TakesLast (display_events site es)
 
 -- What it says is as these words show, where it says which index is too far, or why a map was refused: of a Connect, by which
 -- reference; of a CREATE, from which first page of the directory on.

@@ -1,5 +1,6 @@
 pub mod Answered
 pub mod Device
+pub mod Drawn
 pub mod History
 pub mod Kinds
 pub mod Laws

@@ -1,5 +1,5 @@
 -- What came to pass on a display tells what its framebuffers, buffers and connectors are.
-use Rattle.std.proofs.Common.{◌≡◌, ◌≢◌, ℕ, ◌<◌, ℤ, pos, Bool, true, false, cond, ◌==◌, ◌&&◌, List, [], ◌∷◌, ◌++◌, length, map, get_or, set, Option, Some, None, Ok, option_map, refl, sym, subst, ◌∙◌, ap, eq-eqb}
+use Rattle.std.proofs.Common.{◌≡◌, ◌≢◌, ℕ, ◌<◌, pos, Bool, true, false, cond, ◌==◌, ◌&&◌, List, [], ◌∷◌, ◌++◌, length, map, Option, Some, None, Ok, option_map, refl, sym, subst, ◌∙◌, ap, eq-eqb}
 use Rattle.std.proofs.Math.ListN.{get_or-map}
 use Rattle.std.proofs.lemmas.Bool.{eqb-false, eqb-true, ne_eqb}
 use Rattle.std.proofs.lemmas.List.{get_or-replicate, get_or-set_other, get_or-set_same, length-map, length-set}
@@ -23,13 +23,13 @@ use Rattle.framebuffers.specs.Frames.{attach_check, frame_of, with_frame, withou
 use Rattle.framebuffers.proofs.Checks.{passes}
 use Rattle.connectors.specs.declared.connector.Connector.{Connector}
 use Rattle.connectors.specs.declared.connector.Flip.{Flip}
-use Rattle.connectors.specs.Connectors.{after_blank, after_config, after_detach, after_flip, first_connector, other_than, pending_of, rectangle_of, shown_after, without_mark, without_mark_at}
+use Rattle.connectors.specs.Connectors.{after_blank, after_config, after_detach, after_flip, first_connector, other_than, rectangle_of, shown_after, without_mark, without_mark_at}
 use Rattle.display_backend.specs.Reply.{replied_to}
 use Rattle.display_backend.specs.Scene.{IsSound, Scene, after_blank_at, asking, buffer_at, connector_at, no_scene, pending_at, scene_after, with_connector}
 use Rattle.display_backend.specs.Verdict.{verdict}
 use Rattle.display_backend.proofs.Numbered.{passes_by}
 use Rattle.display_backend.proofs.Scenes.{answered_scene, asked_scene, blanked_scene, none_sound}
-use Rattle.backend_core.specs.Pictures.{Change, Created, Destroyed, Attached, Detached, Configured, Flipped, Raised, Making, accepted_after, answered_after, attached, is_marked, made, named, rectangle_at, rectangle_in, frame_in}
+use Rattle.backend_core.specs.Pictures.{Change, Created, Destroyed, Attached, Detached, Configured, Flipped, Raised, answered_after, attached, is_marked, made, named, rectangle_at}
 use Rattle.backend_core.proofs.Answers.{none_some}
 
 -- What is found by a cookie is so still, and so is what comes under a free one.

@@ -46,6 +46,7 @@ use Rattle.backend_core.specs.Device.{GoesOn, IsDisplay, MayMakeNext, StandsFor}
 use Rattle.backend_core.specs.History.{held_after, site_of}
 use Rattle.backend_core.specs.Kinds.{AnswersAll, Continues, IsExplained, IsMachineRun, IsSettled, IsShownBy, ShowsNamed, TellsTruly, display_events, display_station, due_after, first_snapshot, machine, made_after, owed_after, parts_of, takes_event, told_after, wants_memory}
 use Rattle.backend_core.proofs.Displays.{display_answers, display_shown}
+use Rattle.backend_core.proofs.Drawn.{display_takes}
 use Rattle.backend_core.proofs.Pictures.{display_names}
 
 abbrev DisplayWork : Type 0
@@ -192,7 +193,8 @@ module _ (frames grants : ℕ → ℕ) (dom : ℕ) where
   pub names_shown : (k : DeviceKind) (es : List Own) → IsExplained k (site_as k) es → AreTrueTo (Words zeros) es → ShowsNamed k (site_as k) es
   names_shown (kind.Display n) es x true_to =
       let run = runs (kind.Display n) es x true_to in
-      display_names (site_as (kind.Display n)) (display_events (site_as (kind.Display n)) es) run.0 run.1
+      let events = display_events (site_as (kind.Display n)) es in
+      (display_names (site_as (kind.Display n)) events run.0 run.1, display_takes (site_as (kind.Display n)) events run.0 run.1)
 
   pub keeps : (k : DeviceKind) (es : List Own) → IsExplained k (site_as k) es → KeepsToGrants frames grants dom (holds_of []) (made_after k (site_as k) es)
   keeps (kind.Display n) es x = services_keep display table shows facts keeps_laws frames grants dom n nothing_known es refl x

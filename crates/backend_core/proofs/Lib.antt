@@ -2,6 +2,7 @@ pub mod Answers
 mod Changes
 pub mod Consequences
 mod Displays
+mod Drawn
 pub mod EachKind
 mod FlipOrder
 mod Going

@@ -1,44 +1,40 @@
 -- Each picture that a display tells is of the framebuffer that was named last.
-use Rattle.std.proofs.Common.{◌≡◌, ◌⊎◌, inl, inr, ℕ, suc, ◌<◌, ◌≤◌, ℤ, pos, Bool, true, false, cond, ◌&&◌, ◌==◌, nat_lt, nat_le, ◌+◌, List, [], ◌∷◌, ◌++◌, Option, Some, None, option_map, IsSomeAnd, refl, sym, subst, ◌∙◌, ap}
+use Rattle.std.proofs.Common.{◌≡◌, ◌⊎◌, inl, inr, ℕ, suc, ◌<◌, ◌≤◌, ℤ, pos, Bool, true, false, cond, ◌&&◌, ◌==◌, nat_le, ◌+◌, List, [], ◌∷◌, ◌++◌, Option, Some, None, option_map, IsSomeAnd, refl, sym, subst, ◌∙◌, ap}
 use Rattle.std.proofs.lemmas.Bool.{and_parts, leb-true}
 use Rattle.std.proofs.lemmas.Option.{same_Some}
 use Rattle.std.specs.List.{AllByRecursion}
 use Rattle.pv_words.specs.declared.device.Said.{Said}
 use Rattle.pv_words.specs.declared.device.Said.TheVariants as said
 use Rattle.pv_words.specs.Along.{after}
-use Rattle.pv_words.specs.Found.{Found}
 use Rattle.displ_wire.specs.declared.Request.{Request}
 use Rattle.displ_wire.specs.declared.buffer.Buffer.{Buffer}
 use Rattle.display_buffers.specs.declared.live.Live.{Live}
 use Rattle.display_buffers.specs.Buffers.{buffer_of, has_cookie}
 use Rattle.framebuffers.specs.declared.frame.Framebuffer.{Framebuffer}
 use Rattle.framebuffers.specs.Frames.{LiesIn, frame_of}
-use Rattle.framebuffers.specs.Frames as frames
 use Rattle.connectors.specs.declared.rectangle.Rectangle.{Rectangle}
 use Rattle.connectors.specs.declared.connector.Picture.{Picture}
-use Rattle.connectors.specs.Connectors.{is_shown_by, lies_in, picture_in}
+use Rattle.connectors.specs.Connectors.{lies_in, picture_in}
 use Rattle.connectors.specs.Laws as connectors
 use Rattle.picture_scan.specs.declared.scan.Shown.{Shown}
-use Rattle.picture_scan.specs.declared.shape.Shape.{Shape}
 use Rattle.picture_scan.specs.Laws.{HasShown}
 use Rattle.device_core.specs.Machine.{Happening, Row, Meanwhile, Refuses, Gone, Draw, Touches, HappensTo, IsRun, Snapshot}
 use Rattle.device_core.specs.Order.{Sets, Hosts}
 use Rattle.device_core.specs.Site.{Site}
 use Rattle.device_core.specs.Touched.{Touch}
 use Rattle.device_service.specs.Rows.{Event, Evidence, Moves, Own, Paid, Rows, Says, Hears, Begins, Served, Tells as SaysBy}
-use Rattle.display_backend.specs.declared.picture.Source.{Source}
 use Rattle.display_backend.specs.declared.waiting.Waiting.{Waiting}
 use Rattle.display_backend.specs.declared.waiting.Waiting.TheVariants as waiting
 use Rattle.display_backend.specs.Picture.{AreShown, number_under, source_at, source_by, source_in, source_of}
-use Rattle.display_backend.specs.Scene.{LiesInLive, Scene, after_blank_at, buffer_at, connector_at, scene_after}
-use Rattle.display_backend.specs.Service.{IsAnswer, Lines, Serves, Tells, replied_for, table}
+use Rattle.display_backend.specs.Scene.{LiesInLive, Scene, after_blank_at, connector_at}
+use Rattle.display_backend.specs.Service.{Lines, Serves, Tells, replied_for, table}
 use Rattle.display_backend.specs.Verdict.{IsStatus, is_accepted, verdict}
 use Rattle.display_backend.proofs.Numbered.{accepted_is}
 use Rattle.display_backend.proofs.Scenes.{connector_sound}
 use Rattle.backend_core.specs.Kinds.{first_snapshot, machine}
 use Rattle.backend_core.specs.Pictures.{Asking, Change, IsPictureOf, IsShownAt, IsShownOf, Making, Past, ShowsNamed, answered_after, event_after, made, named, no_past, past_next, past_of, rectangle_at, said_after, shape_in}
 use Rattle.backend_core.proofs.Answers.{false_true, none_some, run_parts}
-use Rattle.backend_core.proofs.Changes.{AreChanges, IsBuffer, IsFrame, asked_by, changes_answered, changes_raised, nothing_changed}
+use Rattle.backend_core.proofs.Changes.{AreChanges, IsFrame, asked_by, changes_answered, changes_raised, nothing_changed}
 
 -- a status that accepts is the verdict
 status_accepts : (denied : Bool) (y : Lines) (q : Request) (status : ℤ) → IsStatus denied y.buffers y.scene q.asked status → is_accepted status ≡ true → verdict y.buffers y.scene q.asked ≡ pos 0
@@ -47,17 +43,17 @@ status_accepts false y q status (inl is) h = sym is ∙ accepted_is status h
 status_accepts false y q status (inr x) h = x.1
 
 -- the request in hand, with the part by which it came
-abbrev asking_of : ℕ → Request → Asking
+abbrev pub asking_of : ℕ → Request → Asking
 asking_of part q = record { part = part; asks = q.asked }
 
 -- what a display's rows are is told by the past
-record IsToldBy (p : Past) (y : Lines) : Type 0 where
-  hand : p.hand ≡ option_map (asking_of y.scene.part) y.request
-  are : AreChanges y.buffers y.scene p.changes
+pub record IsToldBy (p : Past) (y : Lines) : Type 0 where
+  pub hand : p.hand ≡ option_map (asking_of y.scene.part) y.request
+  pub are : AreChanges y.buffers y.scene p.changes
 
-record IsPast (p : Past) (r : Rows Lines Waiting) : Type 0 where
-  replies : p.replies ≡ r.replies
-  told : IsToldBy p r.service
+pub record IsPast (p : Past) (r : Rows Lines Waiting) : Type 0 where
+  pub replies : p.replies ≡ r.replies
+  pub told : IsToldBy p r.service
 
 -- after a reply
 replied_told : (y : Lines) (o : Option Request) (p : Past) (n : ℕ) (status : ℤ) → y.request ≡ o → (q : Request) → o ≡ Some q → IsStatus y.denied y.buffers y.scene q.asked status → IsToldBy p y → p.replies ≡ n → IsToldBy (said_after p (said.Replied 0 0 status false) []) (replied_for y o n status)
@@ -143,14 +139,14 @@ module _ (site : Site) where
   event_keeps p Begins = refl
 
   -- so it is after each thing that happens
-  record IsNow (p : Past) (m : Snapshot (Rows Lines Waiting)) : Type 0 where
-    rows : IsPast p m.rows
-    touched : p.touched ≡ m.touched
+  pub record IsNow (p : Past) (m : Snapshot (Rows Lines Waiting)) : Type 0 where
+    pub rows : IsPast p m.rows
+    pub touched : p.touched ≡ m.touched
 
   past_with : (p : Past) (r : Rows Lines Waiting) (ts : List Touch) → IsPast p r → IsPast (record p { touched = ts }) r
   past_with p r ts was = record { replies = was.replies; told = record { hand = was.told.hand; are = was.told.are } }
 
-  happens_now : (p : Past) (m k : Snapshot (Rows Lines Waiting)) (e : Happening Event) → HappensTo true (machine site) m e k → IsNow p m → IsNow (past_next p e) k
+  pub happens_now : (p : Past) (m k : Snapshot (Rows Lines Waiting)) (e : Happening Event) → HappensTo true (machine site) m e k → IsNow p m → IsNow (past_next p e) k
   happens_now p m k (Row e words) x now =
       record { rows = past_with (event_after p e) k.rows [] (moves_past p m.rows k.rows m.touched e x.move now.rows); touched = sym x.touched }
   happens_now p m k (Meanwhile e) x now =
@@ -167,6 +163,10 @@ module _ (site : Site) where
       }
   happens_now p m k (Gone number) x now = record { rows = subst (λ r. IsPast p r) (sym x.0.rows) now.rows; touched = now.touched ∙ sym x.0.touched }
   happens_now p m k (Draw w) x now = record { rows = subst (λ r. IsPast p r) (sym x.0.rows) now.rows; touched = now.touched ∙ sym x.0.touched }
+
+  -- at first
+  pub nothing_now : IsNow no_past first_snapshot
+  nothing_now = record { rows = record { replies = refl; told = record { hand = refl; are = nothing_changed } }; touched = refl }
 
   run_now : (p : Past) (m n : Snapshot (Rows Lines Waiting)) (es : List (Happening Event)) → IsRun (HappensTo true (machine site)) m es n → IsNow p m → IsNow (after past_next p es) n
   run_now p m n [] x now = subst (λ k. IsNow p k) x now
@@ -256,13 +256,9 @@ module _ (site : Site) where
       served_shows p old.service x.service x.event told part pixels mark x.serves small was.told same
   says_shows p old new told part pixels mark (inr (inr x)) small was same = absurd x.pays
 
-  -- at first
-  nothing_now : IsNow site no_past first_snapshot
-  nothing_now = record { rows = record { replies = refl; told = record { hand = refl; are = nothing_changed } }; touched = refl }
-
   pub display_names : (es : List (Happening Event)) (end : Snapshot (Rows Lines Waiting)) → IsRun (HappensTo true (machine site)) first_snapshot es end → ShowsNamed es
-  display_names es end run before later part pixels mark words made found split small =
+  display_names es end run before later part pixels mark taken drawn found split small =
       let whole = subst (λ (hs : List (Happening Event)). IsRun (HappensTo true (machine site)) first_snapshot hs end) split run in
-      let parts = run_parts (HappensTo true (machine site)) first_snapshot end before (Row (Says (said.Shown part pixels mark) words found) made ∷ later) whole in
-      let now = run_now site no_past first_snapshot parts.0 before parts.1 nothing_now in
+      let parts = run_parts (HappensTo true (machine site)) first_snapshot end before (Row (Says (said.Shown part pixels mark) taken found) drawn ∷ later) whole in
+      let now = run_now site no_past first_snapshot parts.0 before parts.1 (nothing_now site) in
       says_shows (past_of before) parts.0.rows parts.2.0.rows (record { touched = parts.0.touched; found = found }) part pixels mark parts.2.1.move small now.rows now.touched

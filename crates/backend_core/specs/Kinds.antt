@@ -34,6 +34,7 @@ use Rattle.display_backend.specs.Waiting.{is_for}
 use Rattle.backend_core.specs.AfterGone as names
 use Rattle.backend_core.specs.Answered.{Accepted, IsAnsweredIn}
 use Rattle.backend_core.specs.Flips.{AreInOrder, flips_next, no_flips}
+use Rattle.backend_core.specs.Drawn.{TakesLast}
 use Rattle.backend_core.specs.Pictures as pictures
 
 -- how many parts a device has: a display's connectors
@@ -135,9 +136,9 @@ FlipsAreInOrder (Display connectors) site es =
 abbrev pub NothingAfterGone : DeviceKind → Site → List Own → Type 0
 NothingAfterGone (Display connectors) site es = names.NothingAfterGone (display_events site es)
 
--- Each picture that a display tells is of the framebuffer that was named last.
+-- Each picture that a display tells is of the framebuffer that was named last, and each word that it takes is the one last written there.
 abbrev pub ShowsNamed : DeviceKind → Site → List Own → Type 0
-ShowsNamed (Display connectors) site es = pictures.ShowsNamed (display_events site es)
+ShowsNamed (Display connectors) site es = pictures.ShowsNamed (display_events site es) × TakesLast (display_events site es)
 
 -- What it says is as these words show, where it says which index is too far, or why a map was refused: of a Connect, by which
 -- reference; of a CREATE, from which first page of the directory on.

@@ -1,6 +1,7 @@
 pub mod AfterGone
 pub mod Answered
 pub mod Device
+pub mod Drawn
 pub mod Flips
 pub mod History
 pub mod Kinds

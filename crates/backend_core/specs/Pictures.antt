@@ -1,6 +1,6 @@
 -- Which picture a display shows: that of the framebuffer which was named last. It is read off what the display says, where each request
 -- comes with its words, and off the words of its buffers that it takes.
-use Rattle.std.specs.Prelude.{◌≡◌, ℕ, zero, suc, ◌+◌, ◌<◌, ◌≤◌, ◌==◌, ◌&&◌, Bool, true, false, List, [], ◌∷◌, ◌++◌, Option, Some, None, if◌then◌else◌}
+use Rattle.std.specs.Prelude.{◌≡◌, ℕ, suc, ◌+◌, ◌<◌, ◌≤◌, ◌==◌, ◌&&◌, Bool, true, false, List, [], ◌∷◌, ◌++◌, Option, Some, None, if◌then◌else◌}
 use Rattle.pv_words.specs.declared.device.Said.{Said}
 use Rattle.pv_words.specs.declared.device.Said.TheVariants as said
 use Rattle.pv_words.specs.Along.{after}
@@ -10,7 +10,6 @@ use Rattle.displ_wire.specs.declared.Asked.TheVariants as asked
 use Rattle.displ_wire.specs.declared.Attach.{Attach}
 use Rattle.displ_wire.specs.declared.Config.{Config}
 use Rattle.displ_wire.specs.declared.Create.{Create}
-use Rattle.displ_wire.specs.declared.Request.{Request}
 use Rattle.displ_wire.specs.Wire.{all_zero, request_of}
 use Rattle.connectors.specs.declared.rectangle.Rectangle.{Rectangle}
 use Rattle.connectors.specs.Connectors.{other_than, rectangle_of}
@@ -177,6 +176,6 @@ IsShownAt part p x = IsShownOf (rectangle_at part p.changes) (named part p.chang
 -- in the framebuffer that was named last; and no pixel, where there is none of them.
 abbrev pub ShowsNamed : List (Happening Event) → Type 0
 ShowsNamed es =
-    (before later : List (Happening Event)) (part pixels mark : ℕ) (words made : List ℕ) (found : Found)
-    → es ≡ before ++ Row (Says (said.Shown part pixels mark) words found) made ∷ later → part < 4
+    (before later : List (Happening Event)) (part pixels mark : ℕ) (taken drawn : List ℕ) (found : Found)
+    → es ≡ before ++ Row (Says (said.Shown part pixels mark) taken found) drawn ∷ later → part < 4
     → IsShownAt part (past_of before) (record { pixels = pixels; mark = mark })

@@ -193,10 +193,8 @@ impl Parts {
         let part = self.first_held();
         if part == self.links.len() {
             self.doing = Doing::Bare;
-            return Turn {
-                access: None,
-                done: Some(Err(why)),
-            };
+            let done = Some(Err(why));
+            return Turn { access: None, done };
         }
         let turn = self.links[part].drop_step(words);
         let access = turn.access;
@@ -237,10 +235,8 @@ impl Parts {
             if access.is_none() {
                 return self.undo(words, why);
             }
-            return Turn {
-                access,
-                done: self.undone(why),
-            };
+            let done = self.undone(why);
+            return Turn { access, done };
         }
         let following = part + 1;
         if (following as usize) < self.links.len() {
@@ -248,10 +244,8 @@ impl Parts {
             return Turn { access, done: None };
         }
         self.doing = Doing::Open;
-        Turn {
-            access,
-            done: Some(Ok(())),
-        }
+        let done = Some(Ok(()));
+        Turn { access, done }
     }
 
     /// The one access of a Look at this part's ring.
@@ -375,10 +369,8 @@ impl Parts {
             return Turn { access, done: None };
         }
         self.doing = Doing::Open;
-        Turn {
-            access,
-            done: Some(quiet),
-        }
+        let done = Some(quiet);
+        Turn { access, done }
     }
 
     /// The parts that rest are to be given up: none is joined any longer.

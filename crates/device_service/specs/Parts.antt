@@ -1,5 +1,5 @@
 -- What the parts of a device hold, and what is left of their activities.
-use Rattle.std.specs.Prelude.{◌≡◌, ◌⊎◌, ℕ, ◌+◌, ◌-◌, ◌<◌, Bool, true, false, List, [], ◌∷◌, Option, Some, None, Result, Ok, Err, drop, length, map, slice_get, take}
+use Rattle.std.specs.Prelude.{◌≡◌, ◌⊎◌, ℕ, ◌+◌, ◌-◌, ◌<◌, Bool, true, false, List, [], ◌∷◌, Option, Some, None, Result, Ok, Err, drop, is_some, length, map, slice_get, take}
 use Rattle.pv_words.specs.declared.access.Access.{Access}
 use Rattle.pv_words.specs.declared.device.NodeValue.{NodeValue}
 use Rattle.pv_words.specs.declared.grant.GrantRefusal.{GrantRefusal}
@@ -150,9 +150,12 @@ abbrev pub MayServe : Doing → Doing → Type 0
 MayServe old new = (old ≡ doing.Open) ⊎ (old ≡ new)
 
 -- what is under way after a step of an activity: it is over, or it goes on
+abbrev pub rest_if : Bool → Doing → Doing
+rest_if true d = doing.Open
+rest_if false d = d
+
 abbrev pub open_or : {A : Type 0} → Option A → Doing → Doing
-open_or None d = d
-open_or (Some x) d = doing.Open
+open_or o d = rest_if (is_some o) d
 
 -- a Sleep may begin, or it is under way
 abbrev pub MaySleep : Doing → Type 0

@@ -2,6 +2,7 @@
 
 ghost use Rattle.std.specs.Prelude.{◌≡◌, ◌<◌, ◌≤◌, ◌==◌, [], IfOk, IsSome, Some, false, length, slice_get, true};
 ghost use Rattle.device_service.specs.Doing.{Whole};
+ghost use Rattle.device_service.specs.Parts.{rest_if};
 
 use crate::reading::{event_ref, ring_ref};
 use link_core::{Link, Put};
@@ -31,6 +32,13 @@ pub enum Doing {
     Sleeping(u8),
     /// The pages are given up, one after another.
     Dropping,
+}
+
+// What joined parts do after a step of this activity: they rest once it is over.
+fn rest_if(over: bool, doing: Doing) -> Doing
+    ensures { result ≡ rest_if over doing }
+{
+    if over { Doing::Open } else { doing }
 }
 
 /// The pages of each part of a device, the indices of its rings, and how far the activity on them has come. Each step makes the next
@@ -277,11 +285,7 @@ impl Parts {
         ensures keeps { Keeps self.old self.new }
     {
         let turn = self.links[part as usize].take_step(words);
-        self.doing = if turn.done.is_some() {
-            Doing::Open
-        } else {
-            Doing::Taking(part)
-        };
+        self.doing = rest_if(turn.done.is_some(), Doing::Taking(part));
         turn
     }
 
@@ -305,11 +309,7 @@ impl Parts {
         ensures same { Same self.old self.new }
     {
         let turn = self.links[part as usize].answer_step(words, reply);
-        self.doing = if turn.done.is_some() {
-            Doing::Open
-        } else {
-            Doing::Answering(part)
-        };
+        self.doing = rest_if(turn.done.is_some(), Doing::Answering(part));
         turn
     }
 
@@ -327,11 +327,7 @@ impl Parts {
         ensures same { Same self.old self.new }
     {
         let turn = self.links[part as usize].raise_step(words, w);
-        self.doing = if turn.done.is_some() {
-            Doing::Open
-        } else {
-            Doing::Raising(part)
-        };
+        self.doing = rest_if(turn.done.is_some(), Doing::Raising(part));
         turn
     }
 

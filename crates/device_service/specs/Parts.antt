@@ -23,7 +23,7 @@ use Rattle.device_service.specs.Nodes.{Kind, refs_at, refs_from}
 pub use Rattle.device_service.specs.Dropping.{Drops, MayDrop}
 use Rattle.device_service.specs.Claims.{site_of}
 use Rattle.device_service.specs.Work.{after_part, all_pages, connect_parts, counted, ring_page, sleep_all, sleeps_on, with_event}
-pub use Rattle.device_service.specs.Doing.{all_held, is_open}
+pub use Rattle.device_service.specs.Doing.{all_held, is_open, rest_if}
 pub use Rattle.device_service.specs.Moves.{connects, is_asleep}
 
 -- the domain of their pages
@@ -150,10 +150,6 @@ abbrev pub MayServe : Doing → Doing → Type 0
 MayServe old new = (old ≡ doing.Open) ⊎ (old ≡ new)
 
 -- what is under way after a step of an activity: it is over, or it goes on
-abbrev pub rest_if : Bool → Doing → Doing
-rest_if true d = doing.Open
-rest_if false d = d
-
 abbrev pub open_or : {A : Type 0} → Option A → Doing → Doing
 open_or o d = rest_if (is_some o) d
 

@@ -1,8 +1,7 @@
 //! The parts of a device.
 
 ghost use Rattle.std.specs.Prelude.{◌≡◌, ◌<◌, ◌≤◌, ◌==◌, [], IfOk, IsSome, Some, false, length, slice_get, true};
-ghost use Rattle.device_service.specs.Doing.{Whole};
-ghost use Rattle.device_service.specs.Parts.{rest_if};
+ghost use Rattle.device_service.specs.Doing.{Whole, rest_if};
 
 use crate::reading::{event_ref, ring_ref};
 use link_core::{Link, Put};

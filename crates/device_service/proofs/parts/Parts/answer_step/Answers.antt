@@ -31,7 +31,7 @@ invariant_of-self g c =
     let l = c.index_mut.result.now in
     let turn = c.answer_step-turn in
     let at = here ls k l _ c.requires.part c.index_mut.ensures.value in
-    let is = c.rest_if.ensures ∙ ap (λ b. rest_if b (doing.Answering k)) c.is_some.ensures in
+    let is = c.rest_if-self.ensures ∙ ap (λ b. rest_if b (doing.Answering k)) c.is_some.ensures in
     let whole = whole_served p.dom.0 p.ringed p.doing (doing.Answering k) ls k l turn.new.self turn.result.done p.whole refl refl c.requires.part (λ _. rung_by p.ringed c.requires.ringed) c.requires.serving at turn.ensures.keeps.dom turn.ensures.keeps.held (pages_answered turn.result.done l turn.new.self turn.ensures.joined) turn.ensures.rests in
     record { whole = subst (λ (d : Doing). Whole p.dom.0 p.ringed d (slice_set ls k turn.new.self)) (sym is) whole }
 
@@ -60,7 +60,7 @@ returns-clause-stays g c =
 pub returns-clause-doing : goal.returns-clause-doing
 unfolding doing_of
 returns-clause-doing g c =
-    c.rest_if.ensures ∙ ap (λ b. rest_if b (doing.Answering c.args.part)) c.is_some.ensures
+    c.rest_if-self.ensures ∙ ap (λ b. rest_if b (doing.Answering c.args.part)) c.is_some.ensures
 
 pub returns-clause-held : goal.returns-clause-held
 unfolding count_of held_of
@@ -81,10 +81,10 @@ returns-clause-joined g c =
     let l = c.index_mut.result.now in
     let turn = c.answer_step-turn in
     let at = here ls k l _ c.requires.part c.index_mut.ensures.value in
-    let is = c.rest_if.ensures ∙ ap (λ b. rest_if b (doing.Answering k)) c.is_some.ensures in
+    let is = c.rest_if-self.ensures ∙ ap (λ b. rest_if b (doing.Answering k)) c.is_some.ensures in
     let opened = serving_open p.doing (doing.Answering k) refl c.requires.serving in
     let after = ap is_open is ∙ open_after turn.result.done (doing.Answering k) refl in
-    answered_set turn.result.done (is_open p.doing) (is_open c.rest_if.result) ls k l turn.new.self opened after at turn.ensures.joined
+    answered_set turn.result.done (is_open p.doing) (is_open c.rest_if-self.result) ls k l turn.new.self opened after at turn.ensures.joined
 
 pub returns-clause-same : goal.returns-clause-same
 unfolding count_of dom_of kind_of

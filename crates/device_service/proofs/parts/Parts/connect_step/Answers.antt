@@ -211,9 +211,9 @@ returns-then-is_none-clause-same g c =
     let s = c.undo-then-is_none.ensures.same in
     record { dom = s.dom; count = s.count ∙ length-set c.args.self.now.links.items c.in-Connecting.part c.connect_step-turn.new.self; kind = s.kind }
 
-pub undone-requires : goal.undone-requires
+pub undone-done-requires : goal.undone-done-requires
 unfolding doing_of
-undone-requires g c =
+undone-done-requires g c =
     refl
 
 pub returns-in-Err-clause-leads : goal.returns-in-Err-clause-leads

@@ -32,7 +32,7 @@ invariant_of-self g c =
     let l = c.index_mut.result.now in
     let turn = c.take_step-turn in
     let at = here ls k l _ c.requires.part c.index_mut.ensures.value in
-    let is = c.rest_if.ensures ∙ ap (λ b. rest_if b (doing.Taking k)) c.is_some.ensures in
+    let is = c.rest_if-self.ensures ∙ ap (λ b. rest_if b (doing.Taking k)) c.is_some.ensures in
     let whole = whole_served p.dom.0 p.ringed p.doing (doing.Taking k) ls k l turn.new.self turn.result.done p.whole refl refl c.requires.part (λ _. rung_by p.ringed c.requires.ringed) c.requires.serving at turn.ensures.keeps.dom turn.ensures.keeps.held (ap pages_of turn.ensures.joined) turn.ensures.rests in
     record { whole = subst (λ (d : Doing). Whole p.dom.0 p.ringed d (slice_set ls k turn.new.self)) (sym is) whole }
 
@@ -61,7 +61,7 @@ returns-clause-stays g c =
 pub returns-clause-doing : goal.returns-clause-doing
 unfolding doing_of
 returns-clause-doing g c =
-    c.rest_if.ensures ∙ ap (λ b. rest_if b (doing.Taking c.args.part)) c.is_some.ensures
+    c.rest_if-self.ensures ∙ ap (λ b. rest_if b (doing.Taking c.args.part)) c.is_some.ensures
 
 pub returns-clause-keeps : goal.returns-clause-keeps
 unfolding count_of doing_of dom_of held_of joined_of kind_of
@@ -72,11 +72,11 @@ returns-clause-keeps g c =
     let l = c.index_mut.result.now in
     let turn = c.take_step-turn in
     let at = here ls k l _ c.requires.part c.index_mut.ensures.value in
-    let is = c.rest_if.ensures ∙ ap (λ b. rest_if b (doing.Taking k)) c.is_some.ensures in
+    let is = c.rest_if-self.ensures ∙ ap (λ b. rest_if b (doing.Taking k)) c.is_some.ensures in
     let opened = serving_open p.doing (doing.Taking k) refl c.requires.serving in
     let after = ap is_open is ∙ open_after turn.result.done (doing.Taking k) refl in
     record {
       same = record { dom = refl; count = length-set ls k turn.new.self; kind = refl };
       held = held_set ls k l turn.new.self at turn.ensures.keeps.held;
-      stays = joined_set (is_open p.doing) (is_open c.rest_if.result) ls k l turn.new.self opened after at turn.ensures.joined;
+      stays = joined_set (is_open p.doing) (is_open c.rest_if-self.result) ls k l turn.new.self opened after at turn.ensures.joined;
     }

@@ -16,9 +16,9 @@ use Rattle.page_directory.proofs.Remaining.{walk_comes}
 use Rattle.device_service.specs.Claims.{site_of}
 use Rattle.device_service.specs.Laws.{AreHeld}
 use Rattle.device_service.specs.Throughout.{HoldsThroughout}
-use Rattle.device_service.proofs.InPages.{StaysInPages, fits_before, stays}
+use Rattle.device_service.proofs.InPages.{fits_before, stays}
 use Rattle.display_backend.specs.declared.picture.Reading.{Reading}
-use Rattle.display_backend.specs.Course.{reading_left, scan_left}
+use Rattle.display_backend.specs.Course.{scan_left}
 use Rattle.display_backend.specs.Service.{Pictured}
 use Rattle.display_backend.proofs.Loads.{in_scan}
 use Rattle.device_service.proofs.Unmapping.{unmaps_come}

@@ -67,7 +67,7 @@ use Rattle.display_backend.proofs.Numbered.{AreLike, like_length, like_sound, li
 use Rattle.display_backend.proofs.Scenes.{answered_scene, asked_scene, blanked_scene, like_scene, none_sound}
 use Rattle.display_buffers.proofs.Order.{none_left, none_under, parted}
 use Rattle.display_backend.proofs.Taking.{may_take, word_of_name}
-use Rattle.display_backend.proofs.Wholes.{answered_whole, bared_whole, found_at, not_mapped, whole_any, whole_still}
+use Rattle.display_backend.proofs.Wholes.{answered_whole, bared_whole, not_mapped, whole_any, whole_still}
 use Rattle.display_backend.proofs.Pictures.{picture_within, same_source, shown_numbered, within_so}
 use Rattle.device_service.proofs.Soundness.Plans.{fits_drop}
 use Rattle.device_service.proofs.Soundness.Same.{are_append, are_left, are_right, are_same}

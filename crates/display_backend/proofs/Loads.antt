@@ -1,5 +1,5 @@
 -- The reading of a picture: its steps, and where its accesses lie.
-use Rattle.std.proofs.Common.{◌≡◌, ℕ, zero, suc, ◌+◌, ◌<◌, Bool, true, false, List, [], ◌∷◌, ◌++◌, fold, length, slice_index_or, IfSome, inl, inr, Option, Some, None, IsTrue, ◌↔◌, ◌≤◌, ◌*◌, ◌/◌, refl, sym, ap, ◌∙◌, arith, subst}
+use Rattle.std.proofs.Common.{◌≡◌, ℕ, zero, suc, ◌+◌, ◌<◌, Bool, true, false, List, [], ◌∷◌, ◌++◌, length, slice_index_or, IfSome, inl, inr, Option, Some, None, IsTrue, ◌↔◌, ◌≤◌, ◌*◌, ◌/◌, refl, sym, ap, ◌∙◌, arith, subst}
 use Rattle.std.proofs.lemmas.Bool.{false≢true}
 use Rattle.std.proofs.lemmas.Bool.Decides.{nat_tests}
 use Rattle.std.proofs.lemmas.Nat.{mul-le}
@@ -14,16 +14,14 @@ use Rattle.device_service.specs.declared.deed.Now.TheVariants.{GoesOn, Over}
 use Rattle.device_service.specs.Operating.{Continues, Leaves, Serves}
 use Rattle.display_backend.specs.declared.waiting.Waiting.{Waiting}
 use Rattle.display_backend.specs.Waiting.{said_of}
-use Rattle.display_buffers.specs.Left.{IsFirst}
 use Rattle.display_backend.proofs.Serviced.{goes_mapped}
 use Rattle.device_service.specs.Service.{Deed, Runs}
 use Rattle.device_service.proofs.InPages.{StaysInPages}
-use Rattle.octet_window.specs.Octets.{octets_in, words_of}
+use Rattle.octet_window.specs.Octets.{words_of}
 use Rattle.picture_scan.specs.declared.pixels.Pixels.{Pixels}
 use Rattle.picture_scan.specs.declared.shape.Shape.{Shape}
-use Rattle.picture_scan.specs.Pixels.{fed}
 use Rattle.picture_scan.specs.declared.scan.Shown.{Shown}
-use Rattle.picture_scan.specs.Rectangle.{IsWithin, is_depth, row_pixels, row_words}
+use Rattle.picture_scan.specs.Rectangle.{IsWithin, is_depth, row_words}
 use Rattle.picture_scan.specs.Scan.{LiesIn, left_in, left_of}
 use Rattle.picture_scan.specs.Scanning.{rows_plan, scan_plan, take_words}
 use Rattle.display_backend.specs.declared.picture.Reading.{Reading}

@@ -1,5 +1,5 @@
 -- A list of which each item is replaced in turn.
-use Rattle.std.proofs.Common.{◌≡◌, ℕ, zero, suc, ◌+◌, ◌<◌, List, [], ◌∷◌, ◌++◌, drop, get_or, length, map, set, take, refl, sym, ap, ◌∙◌, arith}
+use Rattle.std.proofs.Common.{◌≡◌, ℕ, zero, suc, ◌+◌, ◌<◌, List, [], ◌∷◌, ◌++◌, drop, get_or, length, map, set, take, refl, ap, ◌∙◌, arith}
 
 abbrev through : {X : Type 0} → (X → X) → List X → ℕ → List X
 through f xs k = map f (take k xs) ++ drop k xs

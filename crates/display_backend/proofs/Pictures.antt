@@ -1,6 +1,6 @@
 -- What a connector shows lies in the pages of a live display buffer, and is the same for buffers that are the same but for their pages.
-use Rattle.std.proofs.Common.{◌≡◌, ◌⊎◌, inl, inr, ℕ, zero, suc, ◌+◌, ◌*◌, ◌/◌, ◌<◌, ◌≤◌, ◌==◌, ◌&&◌, ◌||◌, nat_lt, nat_le, Bool, true, false, cond, List, [], ◌∷◌, ◌++◌, length, map, Option, Some, None, IsSomeAnd, refl, sym, ap, ◌∙◌, arith, subst}
-use Rattle.std.proofs.lemmas.Bool.{and_parts, eqb-true, leb-true}
+use Rattle.std.proofs.Common.{◌≡◌, ◌⊎◌, inl, inr, ℕ, zero, suc, ◌+◌, ◌*◌, ◌/◌, ◌<◌, ◌≤◌, ◌==◌, ◌&&◌, nat_lt, nat_le, Bool, true, false, cond, List, [], ◌∷◌, ◌++◌, length, map, Option, Some, None, IsSomeAnd, refl, ap, ◌∙◌, arith, subst}
+use Rattle.std.proofs.lemmas.Bool.{and_parts, leb-true}
 use Rattle.std.proofs.lemmas.Bool.Decides.{nat_tests}
 use Rattle.std.proofs.lemmas.List.{map-append}
 use Rattle.std.proofs.Math.Nat.{mul-le-mul_right, mul_comm}
@@ -23,7 +23,7 @@ use Rattle.device_core.specs.Touched.{Touch, Took}
 use Rattle.picture_scan.specs.declared.scan.Shown.{Shown}
 use Rattle.picture_scan.specs.declared.shape.Shape.{Shape}
 use Rattle.picture_scan.specs.Laws.{AreRead, IsShown, taken}
-use Rattle.picture_scan.specs.Rectangle.{IsWithin, is_depth, row_pixels, row_words, rows_octets}
+use Rattle.picture_scan.specs.Rectangle.{IsWithin, is_depth, row_words, rows_octets}
 use Rattle.display_backend.specs.Names.{numbered}
 use Rattle.display_backend.specs.declared.picture.Source.{Source}
 use Rattle.display_backend.specs.Picture.{is_within, source_at, source_by, source_in, source_of}

@@ -1,5 +1,5 @@
 -- What a display shows stays sound: each framebuffer lies in a live display buffer, each picture in a live framebuffer.
-use Rattle.std.proofs.Common.{◌≡◌, ◌≢◌, ℕ, zero, suc, Bool, true, false, cond, ◌==◌, ◌||◌, List, [], ◌∷◌, ◌++◌, map, get_or, set, Option, Some, None, Ok, option_map, is_some, pos, IsSomeAnd, refl, sym, ap, ◌∙◌, arith, subst, eq-eqb}
+use Rattle.std.proofs.Common.{◌≡◌, ◌≢◌, ℕ, zero, suc, Bool, true, false, ◌==◌, List, [], ◌∷◌, ◌++◌, map, get_or, set, Option, Some, None, Ok, option_map, is_some, pos, IsSomeAnd, refl, sym, ◌∙◌, arith, subst, eq-eqb}
 use Rattle.std.proofs.lemmas.Bool.{or_parts, true≢false}
 use Rattle.std.proofs.lemmas.List.Folds.{find-append}
 use Rattle.std.specs.List.{AllByRecursion}
@@ -9,9 +9,6 @@ use Rattle.cookie_table.proofs.Names as table
 use Rattle.displ_wire.specs.declared.Asked.{Asked}
 use Rattle.displ_wire.specs.declared.Asked.TheVariants as asked
 use Rattle.displ_wire.specs.declared.Attach.{Attach}
-use Rattle.displ_wire.specs.declared.Config.{Config}
-use Rattle.displ_wire.specs.declared.Create.{Create}
-use Rattle.displ_wire.specs.declared.buffer.Buffer.{Buffer}
 use Rattle.displ_wire.specs.declared.buffer.Refused.TheVariants.{Unknown}
 use Rattle.display_buffers.specs.declared.live.Live.{Live}
 use Rattle.display_buffers.specs.Buffers.{buffer_of, has_cookie, made_of, with_buffer, without_buffer}
@@ -30,7 +27,7 @@ use Rattle.page_directory.proofs.WalkAlong.{all_weaker}
 use Rattle.display_backend.specs.Reply.{replied_to}
 use Rattle.display_backend.specs.Scene.{IsSound, LiesInLive, Scene, after_blank_at, asking, connector_at, live_among, no_scene, scene_after, with_connector}
 use Rattle.display_buffers.specs.Buffers.{buffer_at}
-use Rattle.display_backend.specs.Verdict.{checked, destroy_verdict, verdict}
+use Rattle.display_backend.specs.Verdict.{destroy_verdict, verdict}
 use Rattle.display_buffers.specs.Stock.{Held}
 use Rattle.display_backend.proofs.Numbered.{AreLike, like_buffer, not_refused, passes_by}
 

@@ -1,5 +1,5 @@
 -- The picture that a connector shows: a rectangle of a display buffer.
-use Rattle.std.specs.Prelude.{◌≡◌, ℕ, ◌+◌, ◌&&◌, nat_lt, nat_le, Bool, List, [], ◌∷◌, ◌++◌, Option, Some, None, if◌then◌else◌}
+use Rattle.std.specs.Prelude.{◌≡◌, ℕ, ◌+◌, ◌&&◌, nat_lt, nat_le, Bool, List, [], ◌∷◌, Option, Some, None, if◌then◌else◌}
 use Rattle.displ_wire.specs.declared.buffer.Buffer.{Buffer}
 use Rattle.display_buffers.specs.declared.live.Live.{Live}
 use Rattle.display_buffers.specs.Buffers.{has_cookie}

@@ -11,7 +11,10 @@ mod range;
 mod store;
 
 pub use buffers::Buffers;
-pub use laws::{creates_one, destroys_one, frees_in_order, gives_up_in_order, keeps_pages, pixels_inside, stays_sound};
+pub use laws::{
+    creates_one, destroys_one, frees_in_order, gives_up_in_order, keeps_pages, pixels_inside,
+    stays_sound,
+};
 pub use left::LeftPages;
 pub use live::Live;
 pub use store::Store;

@@ -1,4 +1,4 @@
-use Rattle.std.proofs.Common.{◌≡◌, ◌*◌, Bool, true, false, not, Option, Some, None, sym, ap, ◌∙◌, subst, length, List, refl}
+use Rattle.std.proofs.Common.{◌≡◌, ◌*◌, true, Option, sym, ap, ◌∙◌, subst, length, List, refl}
 use Rattle.pv_words.specs.declared.grant.Hold.{Hold}
 use Rattle.picture_scan.specs.declared.shape.Shape.{Shape}
 use Rattle.picture_scan.specs.Rectangle.{IsWithin}
@@ -10,7 +10,6 @@ use Rattle.display_backend.specs.Over.{ReadsFor}
 use Rattle.display_backend.specs.Picture.{is_within, source_at}
 use Rattle.display_backend.specs.Service.{show_of}
 use Rattle.display_backend.specs.Showing.{scene_of}
-use Rattle.display_buffers.specs.Stock.{Stock}
 use Rattle.display_buffers.specs.Store.{stock_of}
 use Rattle.display_backend.proofs.Loads.{read_by, tested, told_by, told_without}
 use Rattle.display_backend.proofs.Pictures.{within_by}

@@ -20,7 +20,7 @@ use Rattle.display_backend.specs.declared.waiting.Waiting.{Waiting}
 use Rattle.display_backend.specs.Kept.{facts}
 use Rattle.display_backend.specs.Laws.{IsToShow, ShowsLive, ShowsStaySound}
 use Rattle.display_backend.specs.Scene.{IsSound, LiesInLive, connector_at, live_among}
-use Rattle.display_backend.specs.Service.{Known, Ending, Lines, display, shows, table}
+use Rattle.display_backend.specs.Service.{Known, Ending, Lines, display, nothing_known, shows, table}
 use Rattle.display_backend.proofs.Keeps.{keeps_laws}
 use Rattle.display_backend.proofs.Pictures.{frame_so}
 use Rattle.display_backend.proofs.Scenes.{connector_sound}
@@ -81,5 +81,5 @@ shows_sound frames grants dom parts es work part fb is =
       known = facts frames grants dom parts;
       l = keeps_laws frames grants dom parts;
     } in
-    let sane = sane_at D (station D es).stand (carried D es) (good D es work) in
-    shows_live (work_at (station D es).stand).service fb sane.sane.2 part is
+    let sane = sane_at D (station D nothing_known refl es).stand (carried D nothing_known refl es) (good D nothing_known refl es work) in
+    shows_live (work_at (station D nothing_known refl es).stand).service fb sane.sane.2 part is

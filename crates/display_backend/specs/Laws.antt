@@ -10,12 +10,12 @@ use Rattle.connectors.specs.declared.connector.Connector.{Connector}
 use Rattle.connectors.specs.declared.rectangle.Rectangle.{Rectangle}
 use Rattle.device_core.specs.Order.{Own, followed, work_at}
 use Rattle.device_core.specs.Site.{Site}
-use Rattle.device_service.specs.Claims.{IsWork, first_station, site_of}
+use Rattle.device_service.specs.Claims.{IsWork, site_of}
 use Rattle.device_service.specs.Held as held
-use Rattle.device_service.specs.Work.{device}
+use Rattle.device_service.specs.Work.{device, first_station}
 use Rattle.display_backend.specs.declared.display.Display.{Display}
 use Rattle.display_backend.specs.Scene.{connector_at}
-use Rattle.display_backend.specs.Service.{Known, display, shows, table}
+use Rattle.display_backend.specs.Service.{Known, display, nothing_known, shows, table}
 
 -- Whatever it has done and heard, where it stands by that its accesses hold so many pages; and they hold this page.
 abbrev pub HoldsAsMany : Display → ℕ → Type 0
@@ -31,7 +31,7 @@ TellsWhatIsHeld = (d : Display) → held.TellsWhatIsHeld d.backend
 
 -- what a display's service knows that has done and heard this since it was declared
 abbrev pub known_by : Site → List Own → Known
-known_by site es = (work_at (after (followed (device display site)) (first_station display table shows site) es).stand).service
+known_by site es = (work_at (after (followed (device display site)) (first_station nothing_known) es).stand).service
 
 -- a connector shows the framebuffer of this cookie, or is to show it by a pending flip whose mark stands
 abbrev pub IsToShow : Connector → ℕ → Type 0
@@ -57,6 +57,6 @@ pub record ShowsLive (x : Known) (configured : Option Rectangle) (fb : ℕ) : Ty
 abbrev pub ShowsStaySound : Type 0
 ShowsStaySound =
     (frames grants : ℕ → ℕ) (dom parts : ℕ) (es : List Own)
-    → IsWork display table shows (site_of frames grants dom parts) es
+    → IsWork display table shows (site_of frames grants dom parts) nothing_known es
     → (part fb : ℕ) → IsToShow (connector_at (known_by (site_of frames grants dom parts) es).scene part) fb
     → ShowsLive (known_by (site_of frames grants dom parts) es) (connector_at (known_by (site_of frames grants dom parts) es).scene part).rectangle fb

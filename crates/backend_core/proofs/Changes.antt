@@ -17,7 +17,7 @@ use Rattle.display_buffers.specs.declared.live.Live.{Live}
 use Rattle.display_buffers.specs.Buffers as buffers
 use Rattle.display_buffers.specs.Buffers.{buffer_of, check_of, with_buffer, without_buffer}
 use Rattle.display_buffers.proofs.Checks.{leaves_cookie}
-use Rattle.framebuffers.specs.declared.frame.Framebuffer.{Framebuffer}
+use Rattle.displ_wire.specs.declared.framebuffer.Framebuffer.{Framebuffer}
 use Rattle.framebuffers.specs.Frames as frames
 use Rattle.framebuffers.specs.Frames.{attach_check, frame_of, with_frame, without_frame}
 use Rattle.framebuffers.proofs.Checks.{passes}

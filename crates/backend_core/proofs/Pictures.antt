@@ -10,7 +10,7 @@ use Rattle.displ_wire.specs.declared.Request.{Request}
 use Rattle.displ_wire.specs.declared.buffer.Buffer.{Buffer}
 use Rattle.display_buffers.specs.declared.live.Live.{Live}
 use Rattle.display_buffers.specs.Buffers.{buffer_of, has_cookie}
-use Rattle.framebuffers.specs.declared.frame.Framebuffer.{Framebuffer}
+use Rattle.displ_wire.specs.declared.framebuffer.Framebuffer.{Framebuffer}
 use Rattle.framebuffers.specs.Frames.{LiesIn, frame_of}
 use Rattle.connectors.specs.declared.rectangle.Rectangle.{Rectangle}
 use Rattle.connectors.specs.declared.connector.Picture.{Picture}

@@ -1,5 +1,5 @@
 -- A display does flips in the order in which it accepted them: what it told of them, beside the flip that is pending in its rows.
-use Rattle.std.proofs.Common.{◌≡◌, inl, inr, ℕ, zero, suc, ℤ, pos, negsuc, Bool, true, false, cond, ◌==◌, List, [], ◌∷◌, ◌++◌, Option, Some, None, refl, sym, subst, ◌∙◌, ap, append-nil, eq-eqb, eqb-true}
+use Rattle.std.proofs.Common.{◌≡◌, inl, inr, ℕ, zero, suc, ℤ, pos, negsuc, Bool, true, false, cond, ◌==◌, List, [], ◌∷◌, ◌++◌, Option, Some, None, refl, sym, subst, ◌∙◌, ap, append-nil, eqb-true}
 use Rattle.std.proofs.lemmas.Bool.{eqb-false}
 use Rattle.std.proofs.lemmas.Option.{same_Some}
 use Rattle.pv_words.specs.declared.device.Said.{Said}
@@ -109,9 +109,9 @@ module _ (site : Site) (part : ℕ) where
         asked = ap (λ (z : Lines). asked_in z.request) (sym done);
         by = λ h i. none_some h (sym hand ∙ i);
         order =
-          ap (λ (z : Lines). f.raised ++ pending (pending_at z.scene part)) done
-          ∙ (answers y part k f.raised f.accepted p.asked (is_accepted status) by (status_accepts y y.denied p.asked status status_is) order
-          ∙ ap (λ o. cond (k == part) (with_accepted f.accepted o (is_accepted status)) f.accepted) (sym a));
+            ap (λ (z : Lines). f.raised ++ pending (pending_at z.scene part)) done
+            ∙ (answers y part k f.raised f.accepted p.asked (is_accepted status) by (status_accepts y y.denied p.asked status status_is) order
+            ∙ ap (λ o. cond (k == part) (with_accepted f.accepted o (is_accepted status)) f.accepted) (sym a));
       }
 
   -- the same request and connectors

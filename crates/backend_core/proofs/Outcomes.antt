@@ -1,5 +1,5 @@
 -- What follows from a device's run of its machine, by its kind.
-use Rattle.std.proofs.Common.{◌≡◌, ℕ, true, List, ◌++◌, refl, subst}
+use Rattle.std.proofs.Common.{ℕ, true, List, refl, subst}
 use Rattle.pv_words.specs.declared.setup.DeviceKind.{DeviceKind}
 use Rattle.pv_words.specs.declared.setup.DeviceKind.TheVariants as kind
 use Rattle.pv_words.specs.Memory.{zeros}

@@ -1,5 +1,5 @@
 -- Which flip is pending on a connector, as requests are answered and blanks come.
-use Rattle.std.proofs.Common.{◌≡◌, ◌≢◌, ℕ, zero, suc, pos, Bool, true, false, List, [], ◌∷◌, map, get_or, set, Option, Some, None, Ok, option_map, refl, sym, ap, ◌∙◌}
+use Rattle.std.proofs.Common.{◌≡◌, ◌≢◌, ℕ, zero, suc, pos, List, [], ◌∷◌, get_or, set, Option, Some, None, Ok, refl, ap, ◌∙◌}
 use Rattle.std.proofs.Math.ListN as lists
 use Rattle.std.proofs.lemmas.List.{get_or-set_other}
 use Rattle.displ_wire.specs.declared.Asked.TheVariants as asked

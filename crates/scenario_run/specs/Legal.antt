@@ -17,7 +17,7 @@ pub record IsTrueJournal (s : Scenario) (m : List Item) (es : List Entry) : Type
   pub prompt : AllByRecursion (IsPromptIn (frames_by s.sizes) (grants_by s.sizes) m) s.devices
   pub machine_run : AllByRecursion (IsMachineRunIn (frames_by s.sizes) (grants_by s.sizes) m) s.devices
   pub answered : AllByRecursion (AnswersIn (frames_by s.sizes) (grants_by s.sizes) m) s.devices
-  -- each picture that is told is of the framebuffer that was named last
+  -- each picture that is told is of the framebuffer that was named last, by words that were last written there
   pub named : AllByRecursion (ShowsNamedIn (frames_by s.sizes) (grants_by s.sizes) m) s.devices
   -- no access comes after its page is gone
   pub kept : AllByRecursion (KeepsIn (frames_by s.sizes) (grants_by s.sizes) m) s.devices

@@ -139,9 +139,9 @@ module _ (bs : List (Live ℕ)) (sc : Scene) (cs : List Change) (are : AreChange
         connectors = λ part small. let k = are.connectors part small in record { rectangle = k.rectangle; shown = k.shown; mark = k.mark };
         frames = λ fb f e. let k = are.frames fb f e in record { attach = k.attach; of = k.of; is = k.is; frame = k.frame };
         buffers = found_added buffers.cookie_of (IsBuffer cs) (IsBuffer (Created n c ∷ cs)) bs (record { buffer = buffers.made_of c; pages = n }) (leaves_cookie bs c passed)
-        (λ d b apart k. record { create = k.create; is = other_if c.dbuf_cookie d _ _ apart ∙ k.is; buffer = k.buffer })
-        (record { create = c; is = same_if c.dbuf_cookie _ _; buffer = refl })
-        are.buffers;
+            (λ d b apart k. record { create = k.create; is = other_if c.dbuf_cookie d _ _ apart ∙ k.is; buffer = k.buffer })
+            (record { create = c; is = same_if c.dbuf_cookie _ _; buffer = refl })
+            are.buffers;
       }
 
   -- a DESTROY
@@ -153,8 +153,8 @@ module _ (bs : List (Live ℕ)) (sc : Scene) (cs : List Change) (are : AreChange
         connectors = λ part small. let k = are.connectors part small in record { rectangle = k.rectangle; shown = k.shown; mark = k.mark };
         frames = λ fb f e. let k = are.frames fb f e in record { attach = k.attach; of = k.of; is = k.is; frame = k.frame };
         buffers = found_without buffers.cookie_of (IsBuffer cs) (IsBuffer (Destroyed cookie ∷ cs)) bs cookie
-        (λ d b apart k. record { create = k.create; is = other_if cookie d _ _ apart ∙ k.is; buffer = k.buffer })
-        are.buffers;
+            (λ d b apart k. record { create = k.create; is = other_if cookie d _ _ apart ∙ k.is; buffer = k.buffer })
+            are.buffers;
       }
 
   -- an ATTACH
@@ -169,10 +169,10 @@ module _ (bs : List (Live ℕ)) (sc : Scene) (cs : List Change) (are : AreChange
         four = are.four;
         connectors = λ part small. let k = are.connectors part small in record { rectangle = k.rectangle; shown = k.shown; mark = k.mark };
         frames = subst (λ (o : Option Buffer). (fb : ℕ) (f : Framebuffer) → frame_of fb (with_frame sc.frames a o) ≡ Some f → IsFrame (Attached a ∷ cs) fb f) (sym p.live)
-        (found_added frames.cookie_of (IsFrame cs) (IsFrame (Attached a ∷ cs)) sc.frames (frames.made_of a p.of) p.free
-        (λ fb f apart k. record { attach = k.attach; of = k.of; is = other_if a.fb_cookie fb _ _ apart ∙ k.is; frame = k.frame })
-        (record { attach = a; of = p.of; is = same_if a.fb_cookie _ _; frame = refl })
-        are.frames);
+            (found_added frames.cookie_of (IsFrame cs) (IsFrame (Attached a ∷ cs)) sc.frames (frames.made_of a p.of) p.free
+            (λ fb f apart k. record { attach = k.attach; of = k.of; is = other_if a.fb_cookie fb _ _ apart ∙ k.is; frame = k.frame })
+            (record { attach = a; of = p.of; is = same_if a.fb_cookie _ _; frame = refl })
+            are.frames);
         buffers = λ d b e. let k = are.buffers d b e in record { create = k.create; is = k.is; buffer = k.buffer };
       }
 
@@ -211,8 +211,8 @@ module _ (bs : List (Live ℕ)) (sc : Scene) (cs : List Change) (are : AreChange
             subst (λ c. IsConnector (Detached fb ∷ cs) part c) (sym (get_or-map (after_detach fb) sc.connectors part first_connector))
             (connector_detached fb part (connector_at sc part) (are.connectors part small));
         frames = found_without frames.cookie_of (IsFrame cs) (IsFrame (Detached fb ∷ cs)) sc.frames fb
-        (λ other f apart k. record { attach = k.attach; of = k.of; is = other_if fb other _ _ apart ∙ k.is; frame = k.frame })
-        are.frames;
+            (λ other f apart k. record { attach = k.attach; of = k.of; is = other_if fb other _ _ apart ∙ k.is; frame = k.frame })
+            are.frames;
         buffers = λ d b e. let k = are.buffers d b e in record { create = k.create; is = k.is; buffer = k.buffer };
       }
 
@@ -252,11 +252,11 @@ module _ (bs : List (Live ℕ)) (sc : Scene) (cs : List Change) (are : AreChange
         sound = sound;
         four = length-set sc.connectors sc.part (after_config (asking sc) asks) ∙ are.four;
         connectors = one_changed sc.part (after_config (asking sc) asks) (Configured sc.part asks ∷ cs) (λ small. connector_configured sc.part (asking sc) asks)
-        (λ part x apart k. record {
-          rectangle = k.rectangle ∙ sym (other_if sc.part part _ _ apart);
-          shown = k.shown ∙ sym (other_if sc.part part _ _ apart);
-          mark = λ p e. k.mark p e ∙ sym (other_if sc.part part _ _ apart);
-        });
+            (λ part x apart k. record {
+              rectangle = k.rectangle ∙ sym (other_if sc.part part _ _ apart);
+              shown = k.shown ∙ sym (other_if sc.part part _ _ apart);
+              mark = λ p e. k.mark p e ∙ sym (other_if sc.part part _ _ apart);
+            });
         frames = λ fb f e. let k = are.frames fb f e in record { attach = k.attach; of = k.of; is = k.is; frame = k.frame };
         buffers = λ d b e. let k = are.buffers d b e in record { create = k.create; is = k.is; buffer = k.buffer };
       }
@@ -268,7 +268,7 @@ module _ (bs : List (Live ℕ)) (sc : Scene) (cs : List Change) (are : AreChange
         rectangle = k.rectangle;
         shown = k.shown;
         mark = λ p e. subst (λ (q : Flip). q.marked ≡ cond (part == part) (fb == q.fb) (is_marked part q.fb cs)) (same_Some _ p e)
-        (sym (same_if part _ _ ∙ eq-eqb fb fb refl));
+            (sym (same_if part _ _ ∙ eq-eqb fb fb refl));
       }
 
   flips : (fb : ℕ) → IsSound bs (with_connector sc sc.part (after_flip (asking sc) fb)) → AreChanges bs (with_connector sc sc.part (after_flip (asking sc) fb)) (Flipped sc.part fb ∷ cs)
@@ -277,11 +277,11 @@ module _ (bs : List (Live ℕ)) (sc : Scene) (cs : List Change) (are : AreChange
         sound = sound;
         four = length-set sc.connectors sc.part (after_flip (asking sc) fb) ∙ are.four;
         connectors = one_changed sc.part (after_flip (asking sc) fb) (Flipped sc.part fb ∷ cs) (λ small. connector_flipped sc.part fb (asking sc) (are.connectors sc.part small))
-        (λ part x apart k. record {
-          rectangle = k.rectangle;
-          shown = k.shown;
-          mark = λ p e. k.mark p e ∙ sym (other_if sc.part part _ _ apart);
-        });
+            (λ part x apart k. record {
+              rectangle = k.rectangle;
+              shown = k.shown;
+              mark = λ p e. k.mark p e ∙ sym (other_if sc.part part _ _ apart);
+            });
         frames = λ other f e. let k = are.frames other f e in record { attach = k.attach; of = k.of; is = k.is; frame = k.frame };
         buffers = λ d b e. let k = are.buffers d b e in record { create = k.create; is = k.is; buffer = k.buffer };
       }
@@ -326,16 +326,16 @@ module _ (bs : List (Live ℕ)) (sc : Scene) (cs : List Change) (are : AreChange
         sound = blanked_scene bs sc are.sound k;
         four = length-set sc.connectors k (after_blank c) ∙ are.four;
         connectors = one_changed k (after_blank c) (Raised k fb ∷ cs)
-        (λ small. let x = are.connectors k small in record {
-          rectangle = x.rectangle;
-          shown = shown_raised k fb c.flip c.shown x.mark pending x.shown;
-          mark = λ p e. none_some p e;
-        })
-        (λ part x apart y. record {
-          rectangle = y.rectangle;
-          shown = y.shown ∙ sym (other_raised k fb part apart);
-          mark = y.mark;
-        });
+            (λ small. let x = are.connectors k small in record {
+              rectangle = x.rectangle;
+              shown = shown_raised k fb c.flip c.shown x.mark pending x.shown;
+              mark = λ p e. none_some p e;
+            })
+            (λ part x apart y. record {
+              rectangle = y.rectangle;
+              shown = y.shown ∙ sym (other_raised k fb part apart);
+              mark = y.mark;
+            });
         frames = λ other f e. let x = are.frames other f e in record { attach = x.attach; of = x.of; is = x.is; frame = x.frame };
         buffers = λ d b e. let x = are.buffers d b e in record { create = x.create; is = x.is; buffer = x.buffer };
       }

@@ -88,8 +88,8 @@ drawn_wrote replies ds s old new are x =
       below = all_put (λ (n : Drawn). n.number < replies) x.before is x.behind (all_but (λ (n : Drawn). n.number < replies) x.before was x.behind a.below) (all_middle (λ (n : Drawn). n.number < replies) x.before was x.behind a.below);
       apart = subst AreDistinct (sym (map-append number_of x.before (is ∷ x.behind))) split;
       words = all_put (IsDrawn (Wrote s ∷ ds)) x.before is x.behind
-      (all_by (λ (n : Drawn). n.number ≢ s.number) (IsDrawn ds) (IsDrawn (Wrote s ∷ ds)) (other_wrote s ds) (x.before ++ x.behind) others (all_but (IsDrawn ds) x.before was x.behind a.words))
-      (this_wrote s ds x.words x.inside (all_middle (IsDrawn ds) x.before was x.behind a.words));
+          (all_by (λ (n : Drawn). n.number ≢ s.number) (IsDrawn ds) (IsDrawn (Wrote s ∷ ds)) (other_wrote s ds) (x.before ++ x.behind) others (all_but (IsDrawn ds) x.before was x.behind a.words))
+          (this_wrote s ds x.words x.inside (all_middle (IsDrawn ds) x.before was x.behind a.words));
     })
 
 -- a name is gone
@@ -124,8 +124,8 @@ drawn_came true replies words ds ns are =
       below = all_push (λ (n : Drawn). n.number < suc replies) ns new (below_more replies ns are.below) (omega arith);
       apart = subst AreDistinct (sym (map-append number_of ns (new ∷ []))) (distinct_push (numbers ns) replies are.apart (fresh_below replies ns are.below));
       words = all_push (IsDrawn (Came replies words ∷ ds)) ns new
-      (all_by (λ (n : Drawn). n.number < replies) (IsDrawn ds) (IsDrawn (Came replies words ∷ ds)) (other_came replies words ds) ns are.below are.words)
-      (λ i v e. ap (λ t. cond t (slice_get words i) (word_at replies i ds)) (eq-eqb replies replies refl) ∙ e);
+          (all_by (λ (n : Drawn). n.number < replies) (IsDrawn ds) (IsDrawn (Came replies words ∷ ds)) (other_came replies words ds) ns are.below are.words)
+          (λ i v e. ap (λ t. cond t (slice_get words i) (word_at replies i ds)) (eq-eqb replies replies refl) ∙ e);
     }
 drawn_came false replies words ds ns are = record { below = below_more replies ns are.below; apart = are.apart; words = are.words }
 

@@ -65,7 +65,7 @@ replied_told y (Some r) p n status in_hand q e is old same =
     record {
       hand = refl;
       are = subst (λ o. AreChanges (replied_for y (Some r) n status).buffers (replied_for y (Some r) n status).scene (answered_after p.replies o (is_accepted status) p.changes)) (sym hand)
-      (subst (λ k. AreChanges (replied_for y (Some r) n status).buffers (replied_for y (Some r) n status).scene (answered_after k (Some (asking_of y.scene.part r)) (is_accepted status) p.changes)) (sym same) new);
+          (subst (λ k. AreChanges (replied_for y (Some r) n status).buffers (replied_for y (Some r) n status).scene (answered_after k (Some (asking_of y.scene.part r)) (is_accepted status) p.changes)) (sym same) new);
     }
 
 module _ (site : Site) where
@@ -218,7 +218,7 @@ module _ (bs : List (Live ℕ)) (sc : Scene) (changes : List Change) (are : AreC
         down = subst (λ n. r.y + r.height ≤ n) (ap (λ (g : Framebuffer). g.height) frame.frame) within.1;
         before = shown.0;
         pixels = subst (λ n. HasShown (shape_in r buffer.create) n shown.0 touched x) (number_found f.dbuf bs b e)
-        (subst (λ (k : Buffer). HasShown (record { width = k.width; bpp = k.bpp; x = r.x; y = r.y; columns = r.width; rows = r.height }) (number_under f.dbuf bs) shown.0 touched x) buffer.buffer shown.1);
+            (subst (λ (k : Buffer). HasShown (record { width = k.width; bpp = k.bpp; x = r.x; y = r.y; columns = r.width; rows = r.height }) (number_under f.dbuf bs) shown.0 touched x) buffer.buffer shown.1);
       }
 
   by_frame : (r : Rectangle) (fb : ℕ) (o : Option Framebuffer) → frame_of fb sc.frames ≡ o → IsSomeAnd o (λ f. lies_in r f ≡ true) → AreShown bs (source_by bs (picture_as fb r) o) touched x → IsPictureOf r fb changes touched x

@@ -32,7 +32,8 @@ abbrev pub NothingComesAfterGone : Type 0
 NothingComesAfterGone =
     (frames grants : ℕ → ℕ) (devices : List DeviceSetup) (m : List Item) → IsHistory frames grants devices m
     → AllByRecursion (AfterGoneIn frames grants m) devices
--- Each picture that a device tells is of the framebuffer that was named last, as its words were found that were taken.
+
+-- Each picture that a device tells is of the framebuffer that was named last, and each word of it the one that was last written there.
 abbrev pub PicturesAreNamed : Type 0
 PicturesAreNamed =
     (frames grants : ℕ → ℕ) (devices : List DeviceSetup) (m : List Item) → IsHistory frames grants devices m

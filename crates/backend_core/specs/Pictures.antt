@@ -104,7 +104,7 @@ pub record IsPictureOf (r : Rectangle) (fb : ℕ) (changes : List Change) (taken
 abbrev pub IsShownOf : Option Rectangle → Option ℕ → List Change → List Touch → Shown → Type 0
 IsShownOf (Some r) (Some fb) changes taken x = IsPictureOf r fb changes taken x
 IsShownOf (Some r) None changes taken x = (x.pixels ≡ 0) × (x.mark ≡ 0)
-IsShownOf None named changes taken x = (x.pixels ≡ 0) × (x.mark ≡ 0)
+IsShownOf None fb changes taken x = (x.pixels ≡ 0) × (x.mark ≡ 0)
 
 -- what a request asks, and by which part it came
 pub record Asking : Type 0 where

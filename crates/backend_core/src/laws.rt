@@ -22,8 +22,8 @@ pub fn nothing_comes_after_gone()
 
 /// Each time that a display says what a connector shows, the pixels and their mark are those of the framebuffer that the last accepted
 /// SET_CONFIG of this connection named, or the last flip that was raised while its mark stood, whichever came later, in the rectangle of
-/// that SET_CONFIG, as the words of its buffer's name were found that were taken; none, where no framebuffer is named, or where
-/// it was detached since.
+/// that SET_CONFIG, as the words of its buffer's name were found that were taken, each the last that anybody wrote there; none, where
+/// no framebuffer is named, or where it was detached since.
 pub fn pictures_are_named()
     ensures { PicturesAreNamed }
 {}

@@ -21,7 +21,7 @@ pub record IsTrueJournal (s : Scenario) (m : List Item) (es : List Entry) : Type
   pub in_order : AllByRecursion (InOrderIn (frames_by s.sizes) (grants_by s.sizes) m) s.devices
   -- no word of a buffer is taken, and no write to one is told, once the buffer is gone
   pub after_gone : AllByRecursion (AfterGoneIn (frames_by s.sizes) (grants_by s.sizes) m) s.devices
-  -- each picture that is told is of the framebuffer that was named last
+  -- each picture that is told is of the framebuffer that was named last, by words that were last written there
   pub named : AllByRecursion (ShowsNamedIn (frames_by s.sizes) (grants_by s.sizes) m) s.devices
   -- no access comes after its page is gone
   pub kept : AllByRecursion (KeepsIn (frames_by s.sizes) (grants_by s.sizes) m) s.devices

@@ -1,10 +1,9 @@
 -- What joined parts show.
-use Rattle.std.proofs.Common.{◌≡◌, ℕ, ◌-◌, ◌<◌, ◌++◌, Bool, true, false, List, [], ◌∷◌, Option, Some, None, if◌then◌else◌, is_some, length, map, slice_get, slice_set, refl, sym, ap, subst, ◌∙◌, arith}
+use Rattle.std.proofs.Common.{◌≡◌, ℕ, Bool, true, false, List, Option, Some, None, if◌then◌else◌, is_some, length, map, slice_get, slice_set, refl, sym, ap, subst, ◌∙◌}
 use Rattle.pv_words.specs.declared.access.Access.{Access}
-use Rattle.pv_words.specs.declared.grant.Hold.{Hold}
 use Rattle.pv_words.specs.Plan.{MayGo, Plan, Turns, Want}
 use Rattle.link_core.specs.declared.link.Link.{Link}
-use Rattle.link_core.specs.Activities.{Joined, Page, answer_plan, hold_list, look_plan, pages_of, take_plan}
+use Rattle.link_core.specs.Activities.{Joined, Page, answer_plan, look_plan, pages_of, take_plan}
 use Rattle.link_core.specs.declared.link.Put.{Put}
 use Rattle.link_core.specs.declared.link.Put.TheVariants as put
 use Rattle.link_core.specs.Link.{Leads, answered_of, held_of, idle, joined_of, page_of, raised_of, rsp_of, raised_if as link_raised}

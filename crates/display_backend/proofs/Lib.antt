@@ -8,6 +8,7 @@ pub mod Keeps
 pub mod Mapped
 pub mod Names
 pub mod Numbered
+pub mod Ports
 pub mod Scenes
 pub mod Serviced
 mod Pictures

@@ -6,10 +6,10 @@ use Rattle.pv_words.specs.declared.setup.Kind.TheVariants.{Wild}
 use Rattle.pv_words.specs.declared.setup.DeviceKind.TheVariants as kinds
 use Rattle.scenario_text.specs.declared.draft.Item.{Item}
 use Rattle.scenario_text.specs.declared.draft.Item.TheVariants as items
-use Rattle.scenario_text.specs.declared.fault.Flaw.{Flaw}
-use Rattle.scenario_text.specs.Flaws.{◌>>=◌}
-use Rattle.scenario_text.specs.Cursors.{Cursor}
-use Rattle.scenario_text.specs.Arguments.{between_at, keyword_at}
+use Rattle.script_tokens.specs.declared.fault.Flaw.{Flaw}
+use Rattle.script_tokens.specs.Flaws.{◌>>=◌}
+use Rattle.script_tokens.specs.Cursors.{Cursor}
+use Rattle.script_tokens.specs.Next.{between_at, keyword_at}
 use Rattle.scenario_text.specs.Lookups.{frames_left, grants_left, new_domain_at, size_at, new_device_at}
 use Rattle.scenario_text.specs.Scenario.{Scenario}
 

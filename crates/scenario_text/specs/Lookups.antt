@@ -1,5 +1,6 @@
 -- The domains and devices that a line names.
 use Rattle.std.specs.Prelude.{ℕ, ◌-◌, ◌==◌, Bool, List, Option, Some, Result, Ok, Err, is_some, find, sum_by, if◌then◌else◌}
+use Rattle.std.specs.Borrow.{Bor}
 use Rattle.std.specs.List.{list_any}
 use Rattle.pv_words.specs.declared.place.DomId.{DomId}
 use Rattle.pv_words.specs.declared.place.DevId.{DevId}
@@ -7,11 +8,12 @@ use Rattle.pv_words.specs.declared.setup.DomainSize.{DomainSize}
 use Rattle.pv_words.specs.declared.setup.DeviceSetup.{DeviceSetup}
 use Rattle.pv_words.specs.declared.setup.DeviceKind.{DeviceKind}
 use Rattle.pv_words.specs.declared.setup.DeviceKind.TheVariants as kinds
-use Rattle.scenario_text.specs.declared.fault.Flaw.{Flaw}
-use Rattle.scenario_text.specs.declared.fault.FaultKind.TheVariants.{Twice, Undeclared, WrongDevice}
-use Rattle.scenario_text.specs.Flaws.{flaw, ◌>>=◌, or_flaw}
-use Rattle.scenario_text.specs.Cursors.{Cursor}
-use Rattle.scenario_text.specs.Arguments.{between_at, below_at}
+use Rattle.script_tokens.specs.declared.fault.Flaw.{Flaw}
+use Rattle.script_tokens.specs.declared.fault.FaultKind.TheVariants.{Twice, Undeclared, WrongDevice}
+use Rattle.script_tokens.specs.Flaws.{flaw, ◌>>=◌, or_flaw}
+use Rattle.script_tokens.specs.declared.token.Tokens.{Tokens}
+use Rattle.script_tokens.specs.Cursors.{Cursor, cursor}
+use Rattle.script_tokens.specs.Next.{between_at, below_at}
 
 -- the domain of this number
 unfoldable pub size_of : ℕ → List DomainSize → Option DomainSize
@@ -74,3 +76,7 @@ connector_at devices c = do
   connectors ← or_flaw (connectors_of device.kind) dev.0.column WrongDevice
   connector ← below_at connectors dev.1
   Ok ((device.dev, connector.0.value), connector.1)
+
+-- a device that was found, and the tokens behind its number, as the values that they stand for
+abbrev pub seen_device : Bor DeviceSetup × Tokens → DeviceSetup × Cursor
+seen_device x = (x.0.now, cursor x.1)

@@ -10,10 +10,11 @@ use Rattle.scenario_text.specs.declared.draft.Item.TheVariants.{Step}
 use Rattle.scenario_text.specs.declared.statement.Filling.{Filling}
 use Rattle.scenario_text.specs.declared.statement.Opening.{Opening}
 use Rattle.scenario_text.specs.declared.statement.Statement.TheVariants.{Put, Fill, Swap, Open, End, Node, Bus, Wake, Host, Back, Serve}
-use Rattle.scenario_text.specs.declared.fault.Flaw.{Flaw}
-use Rattle.scenario_text.specs.Flaws.{◌>>=◌}
-use Rattle.scenario_text.specs.Cursors.{Cursor}
-use Rattle.scenario_text.specs.Arguments.{between_at, below_at, half_at, mode_at, key_at, node_value_at, state_at}
+use Rattle.script_tokens.specs.declared.fault.Flaw.{Flaw}
+use Rattle.script_tokens.specs.Flaws.{◌>>=◌}
+use Rattle.script_tokens.specs.Cursors.{Cursor}
+use Rattle.script_tokens.specs.Next.{between_at, below_at}
+use Rattle.scenario_text.specs.Arguments.{half_at, mode_at, key_at, node_value_at, state_at}
 use Rattle.scenario_text.specs.Lookups.{size_at, device_at, connector_at, parts_of}
 use Rattle.scenario_text.specs.Scenario.{Scenario}
 

@@ -5,6 +5,7 @@ pub use Rattle.script_tokens.specs.Cursors
 pub use Rattle.script_tokens.specs.Numbers
 pub use Rattle.script_tokens.specs.Next
 pub use Rattle.script_tokens.specs.Kinds
+pub mod Limits
 pub mod Nodes
 pub mod Scenario
 pub mod Arguments

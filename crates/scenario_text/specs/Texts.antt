@@ -1,8 +1,6 @@
 -- The text of a fault.
 use Rattle.std.specs.Prelude.{ℕ, List, ◌++◌, codes}
 use Rattle.std.specs.Fmt.{decimal}
-use Rattle.script_tokens.specs.declared.fault.FaultKind.{FaultKind}
-use Rattle.script_tokens.specs.declared.fault.FaultKind.TheVariants as kind
 use Rattle.scenario_text.specs.declared.fault.ScriptFault.{ScriptFault}
 use Rattle.scenario_text.specs.declared.fault.ParseFault.{ParseFault}
 use Rattle.scenario_text.specs.declared.fault.ParseFault.TheVariants.{Fault, OutOfMemory}

@@ -7,6 +7,7 @@ ghost use Rattle.scenario_text.specs.Scenario.{drafted};
 ghost use Rattle.scenario_text.specs.Declarations.{domain_at, display_at};
 
 use crate::draft::{Draft, Item};
+use crate::limit::CONNECTOR_LIMIT;
 use crate::lookup::{declared_domain, frames_left, grants_left, new_device, new_domain};
 use pv_words::{DeviceKind, DeviceSetup, DomainSize, Frame, Kind};
 use script_tokens::{Flaw, Tokens};
@@ -37,7 +38,7 @@ pub fn display<'a>(so_far: &Draft, tokens: Tokens<'a>) -> Result<(Item, Tokens<'
 {
     let (dev, tokens) = new_device(&so_far.devices, tokens)?;
     let (size, tokens) = declared_domain(&so_far.sizes, tokens)?;
-    let (connectors, tokens) = tokens.between(1, 4)?;
+    let (connectors, tokens) = tokens.between(1, CONNECTOR_LIMIT)?;
     let device = DeviceSetup {
         dev,
         dom: size.dom,

@@ -10,6 +10,7 @@ mod declaration;
 mod draft;
 mod fault;
 mod item;
+mod limit;
 mod lookup;
 mod reading;
 mod script;

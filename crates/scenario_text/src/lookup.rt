@@ -7,11 +7,9 @@ ghost use Rattle.scenario_text.specs.Lookups.{size_of, device_of, has_device, pa
 ghost use Rattle.scenario_text.specs.Lookups.{frames_left, grants_left, new_domain_at, size_at};
 ghost use Rattle.scenario_text.specs.Lookups.{new_device_at, device_at, connector_at, seen_device};
 
+use crate::limit::{DEVICE_LIMIT, DOMAIN_LIMIT, SIZE_LIMIT};
 use pv_words::{DevId, DeviceKind, DeviceSetup, DomId, DomainSize};
 use script_tokens::{FaultKind, Flaw, Tokens};
-
-/// The most frames, and the most grants, of all domains together.
-const MOST: u32 = 16384;
 
 /// The domain of this number.
 #[tactic(auto, unfolding(crate::specs::Lookups::size_of))]
@@ -60,7 +58,7 @@ fn has_device(dev: u64, devices: &[DeviceSetup]) -> bool
 pub fn frames_left(sizes: &[DomainSize]) -> u32
     ensures { result ≡ frames_left sizes.now }
 {
-    let mut left = MOST;
+    let mut left = SIZE_LIMIT;
     for size in sizes {
         left = left.saturating_sub(size.frames);
     }
@@ -72,7 +70,7 @@ pub fn frames_left(sizes: &[DomainSize]) -> u32
 pub fn grants_left(sizes: &[DomainSize]) -> u32
     ensures { result ≡ grants_left sizes.now }
 {
-    let mut left = MOST;
+    let mut left = SIZE_LIMIT;
     for size in sizes {
         left = left.saturating_sub(size.grants);
     }
@@ -84,7 +82,7 @@ pub fn grants_left(sizes: &[DomainSize]) -> u32
 pub fn new_domain<'a>(sizes: &[DomainSize], tokens: Tokens<'a>) -> Result<(DomId, Tokens<'a>), Flaw>
     ensures { Gives seen result (new_domain_at sizes.now (cursor tokens.entry)) }
 {
-    let (dom, tokens) = tokens.between(1, 4)?;
+    let (dom, tokens) = tokens.between(1, DOMAIN_LIMIT)?;
     if size_of(dom.value, sizes).is_some() {
         return Err(Flaw {
             column: dom.column,
@@ -103,7 +101,7 @@ pub fn declared_domain<'a>(
 ) -> Result<(DomainSize, Tokens<'a>), Flaw>
     ensures { Gives seen result (size_at sizes.now (cursor tokens.entry)) }
 {
-    let (dom, tokens) = tokens.between(1, 4)?;
+    let (dom, tokens) = tokens.between(1, DOMAIN_LIMIT)?;
     match size_of(dom.value, sizes) {
         Some(size) => Ok((size, tokens)),
         None => Err(Flaw {
@@ -115,10 +113,13 @@ pub fn declared_domain<'a>(
 
 /// The next token as the number of a device that is not declared yet.
 #[tactic(auto, unfolding(crate::specs::Lookups::new_device_at))]
-pub fn new_device<'a>(devices: &[DeviceSetup], tokens: Tokens<'a>) -> Result<(DevId, Tokens<'a>), Flaw>
+pub fn new_device<'a>(
+    devices: &[DeviceSetup],
+    tokens: Tokens<'a>,
+) -> Result<(DevId, Tokens<'a>), Flaw>
     ensures { Gives seen result (new_device_at devices.now (cursor tokens.entry)) }
 {
-    let (dev, tokens) = tokens.between(1, 16)?;
+    let (dev, tokens) = tokens.between(1, DEVICE_LIMIT)?;
     if has_device(dev.value, devices) {
         return Err(Flaw {
             column: dev.column,
@@ -137,7 +138,7 @@ pub fn declared_device<'d, 'a>(
 ) -> Result<(&'d DeviceSetup, Tokens<'a>), Flaw>
     ensures { Gives seen_device result (device_at devices.now (cursor tokens.entry)) }
 {
-    let (dev, tokens) = tokens.between(1, 16)?;
+    let (dev, tokens) = tokens.between(1, DEVICE_LIMIT)?;
     match device_of(dev.value, devices) {
         Some(device) => Ok((device, tokens)),
         None => Err(Flaw {
@@ -155,7 +156,7 @@ pub fn connector<'a>(
 ) -> Result<((DevId, u8), Tokens<'a>), Flaw>
     ensures { Gives seen result (connector_at devices.now (cursor tokens.entry)) }
 {
-    let (dev, tokens) = tokens.between(1, 16)?;
+    let (dev, tokens) = tokens.between(1, DEVICE_LIMIT)?;
     let column = dev.column;
     let Some(device) = device_of(dev.value, devices) else {
         return Err(Flaw {

@@ -10,6 +10,7 @@ ghost use Rattle.scenario_text.specs.Statements.{back_at, serve_at};
 
 use crate::argument::{half, key, mode, node_value, state};
 use crate::draft::{Draft, Item};
+use crate::limit::PAGE_WORDS;
 use crate::lookup::{connector, declared_device, declared_domain, parts_of};
 use pv_words::{DevId, DomId, Frame, GrantRef, Half, HostEvent, Mode, NodeValue, Place, State};
 use script_tokens::{Flaw, Tokens};
@@ -86,9 +87,6 @@ pub enum Statement {
     Serve(DevId),
 }
 
-/// The number of words of a page.
-const PAGE_WORDS: u64 = 1024;
-
 /// `put D F W V`: store V at word W of frame F of domain D.
 #[tactic(auto, unfolding(crate::specs::Statements::put_at))]
 pub fn put<'a>(so_far: &Draft, tokens: Tokens<'a>) -> Result<(Item, Tokens<'a>), Flaw>
@@ -99,7 +97,10 @@ pub fn put<'a>(so_far: &Draft, tokens: Tokens<'a>) -> Result<(Item, Tokens<'a>),
     let (word, tokens) = tokens.below(PAGE_WORDS)?;
     let (value, tokens) = tokens.below(1 << 32)?;
     let place = Place::Cell(size.dom, Frame(frame.value as u32), word.value as u16);
-    Ok((Item::Step(Statement::Put(place, value.value as u32)), tokens))
+    Ok((
+        Item::Step(Statement::Put(place, value.value as u32)),
+        tokens,
+    ))
 }
 
 /// `fill D F W N V T`: store V, V + T, V + 2T and so on, modulo 2^32, at the N words from word W of frame F
@@ -137,7 +138,10 @@ pub fn put_grant<'a>(so_far: &Draft, tokens: Tokens<'a>) -> Result<(Item, Tokens
     let (half, tokens) = half(tokens)?;
     let (value, tokens) = tokens.below(1 << 32)?;
     let place = Place::Grant(size.dom, GrantRef(gref.value as u32), half);
-    Ok((Item::Step(Statement::Put(place, value.value as u32)), tokens))
+    Ok((
+        Item::Step(Statement::Put(place, value.value as u32)),
+        tokens,
+    ))
 }
 
 /// `swap D G OLD NEW`: exchange the flags of grant entry G of domain D, where they are OLD, for NEW.

@@ -14,3 +14,6 @@ pub use fault::{FaultKind, Flaw};
 pub use line::{after_line, code_of};
 pub use number::Number;
 pub use token::{Token, Tokens};
+
+#[cfg(test)]
+mod tests;

@@ -15,7 +15,7 @@ use Rattle.displ_wire.specs.declared.buffer.Buffer.{Buffer}
 use Rattle.displ_wire.specs.Wire.{all_zero}
 use Rattle.display_buffers.specs.declared.live.Live.{Live}
 use Rattle.display_buffers.specs.Buffers as buffers
-use Rattle.display_buffers.specs.Buffers.{buffer_of, check_of, with_buffer, without_buffer}
+use Rattle.display_buffers.specs.Buffers.{buffer_at, buffer_of, check_of, with_buffer, without_buffer}
 use Rattle.display_buffers.proofs.Checks.{leaves_cookie}
 use Rattle.displ_wire.specs.declared.framebuffer.Framebuffer.{Framebuffer}
 use Rattle.framebuffers.specs.Frames as frames
@@ -25,12 +25,13 @@ use Rattle.connectors.specs.declared.connector.Connector.{Connector}
 use Rattle.connectors.specs.declared.connector.Flip.{Flip}
 use Rattle.connectors.specs.Connectors.{after_blank, after_config, after_detach, after_flip, first_connector, other_than, rectangle_of, shown_after, without_mark, without_mark_at}
 use Rattle.display_backend.specs.Reply.{replied_to}
-use Rattle.display_backend.specs.Scene.{IsSound, Scene, after_blank_at, asking, buffer_at, connector_at, no_scene, pending_at, scene_after, with_connector}
+use Rattle.display_backend.specs.Scene.{IsSound, Scene, after_blank_at, asking, connector_at, no_scene, pending_at, scene_after, with_connector}
 use Rattle.display_backend.specs.Verdict.{verdict}
 use Rattle.display_backend.proofs.Numbered.{passes_by}
 use Rattle.display_backend.proofs.Scenes.{answered_scene, asked_scene, blanked_scene, none_sound}
 use Rattle.backend_core.specs.Pictures.{Change, Created, Destroyed, Attached, Detached, Configured, Flipped, Raised, answered_after, attached, is_marked, made, named, rectangle_at}
 use Rattle.backend_core.proofs.Answers.{none_some}
+use Rattle.backend_core.proofs.Pending.{Pends, configured_pends, detached_pends, flipped_pends, nothing_pends, raised_pends}
 
 -- What is found by a cookie is so still, and so is what comes under a free one.
 module _ {T : Type 0} (name : T → ℕ) (P Q : ℕ → T → Type 0) where
@@ -81,13 +82,14 @@ pub record IsConnector (changes : List Change) (part : ℕ) (c : Connector) : Ty
   pub shown : c.shown ≡ named part changes
   pub mark : (p : Flip) → c.flip ≡ Some p → p.marked ≡ is_marked part p.fb changes
 
--- so it is with all of them
+-- so it is with all of them, and with the flips that are pending
 pub record AreChanges (bs : List (Live ℕ)) (sc : Scene) (changes : List Change) : Type 0 where
   pub sound : IsSound bs sc
   pub four : length sc.connectors ≡ 4
   pub connectors : (part : ℕ) → part < 4 → IsConnector changes part (connector_at sc part)
   pub frames : (fb : ℕ) (f : Framebuffer) → frame_of fb sc.frames ≡ Some f → IsFrame changes fb f
   pub buffers : (d : ℕ) (b : Live ℕ) → buffer_of d bs ≡ Some b → IsBuffer changes d b
+  pub pends : Pends sc changes
 
 -- at first nothing is there
 first_is : (part : ℕ) → IsConnector [] part first_connector
@@ -101,6 +103,7 @@ nothing_changed =
       connectors = λ part small. subst (λ c. IsConnector [] part c) (sym (get_or-replicate 4 part first_connector first_connector small)) (first_is part);
       frames = λ fb f e. none_some f e;
       buffers = λ d b e. none_some b e;
+      pends = nothing_pends;
     }
 
 module _ (bs : List (Live ℕ)) (sc : Scene) (cs : List Change) (are : AreChanges bs sc cs) where
@@ -113,6 +116,7 @@ module _ (bs : List (Live ℕ)) (sc : Scene) (cs : List Change) (are : AreChange
         connectors = are.connectors;
         frames = are.frames;
         buffers = are.buffers;
+        pends = are.pends;
       }
 
   -- the connector of a part changes, and no other
@@ -142,6 +146,7 @@ module _ (bs : List (Live ℕ)) (sc : Scene) (cs : List Change) (are : AreChange
             (λ d b apart k. record { create = k.create; is = other_if c.dbuf_cookie d _ _ apart ∙ k.is; buffer = k.buffer })
             (record { create = c; is = same_if c.dbuf_cookie _ _; buffer = refl })
             are.buffers;
+        pends = are.pends;
       }
 
   -- a DESTROY
@@ -155,6 +160,7 @@ module _ (bs : List (Live ℕ)) (sc : Scene) (cs : List Change) (are : AreChange
         buffers = found_without buffers.cookie_of (IsBuffer cs) (IsBuffer (Destroyed cookie ∷ cs)) bs cookie
             (λ d b apart k. record { create = k.create; is = other_if cookie d _ _ apart ∙ k.is; buffer = k.buffer })
             are.buffers;
+        pends = are.pends;
       }
 
   -- an ATTACH
@@ -174,6 +180,7 @@ module _ (bs : List (Live ℕ)) (sc : Scene) (cs : List Change) (are : AreChange
             (record { attach = a; of = p.of; is = same_if a.fb_cookie _ _; frame = refl })
             are.frames);
         buffers = λ d b e. let k = are.buffers d b e in record { create = k.create; is = k.is; buffer = k.buffer };
+        pends = are.pends;
       }
 
   abbrev unframed : ℕ → Scene
@@ -214,6 +221,7 @@ module _ (bs : List (Live ℕ)) (sc : Scene) (cs : List Change) (are : AreChange
             (λ other f apart k. record { attach = k.attach; of = k.of; is = other_if fb other _ _ apart ∙ k.is; frame = k.frame })
             are.frames;
         buffers = λ d b e. let k = are.buffers d b e in record { create = k.create; is = k.is; buffer = k.buffer };
+        pends = detached_pends sc cs are.pends fb;
       }
 
   -- the connector that asks, after a SET_CONFIG
@@ -259,6 +267,7 @@ module _ (bs : List (Live ℕ)) (sc : Scene) (cs : List Change) (are : AreChange
             });
         frames = λ fb f e. let k = are.frames fb f e in record { attach = k.attach; of = k.of; is = k.is; frame = k.frame };
         buffers = λ d b e. let k = are.buffers d b e in record { create = k.create; is = k.is; buffer = k.buffer };
+        pends = configured_pends sc cs are.pends asks;
       }
 
   -- the connector that asks, after a FLIP
@@ -271,8 +280,8 @@ module _ (bs : List (Live ℕ)) (sc : Scene) (cs : List Change) (are : AreChange
             (sym (same_if part _ _ ∙ eq-eqb fb fb refl));
       }
 
-  flips : (fb : ℕ) → IsSound bs (with_connector sc sc.part (after_flip (asking sc) fb)) → AreChanges bs (with_connector sc sc.part (after_flip (asking sc) fb)) (Flipped sc.part fb ∷ cs)
-  flips fb sound =
+  flips : (fb : ℕ) → verdict bs sc (asked.Flip fb) ≡ pos 0 → IsSound bs (with_connector sc sc.part (after_flip (asking sc) fb)) → AreChanges bs (with_connector sc sc.part (after_flip (asking sc) fb)) (Flipped sc.part fb ∷ cs)
+  flips fb passed sound =
       record {
         sound = sound;
         four = length-set sc.connectors sc.part (after_flip (asking sc) fb) ∙ are.four;
@@ -284,6 +293,7 @@ module _ (bs : List (Live ℕ)) (sc : Scene) (cs : List Change) (are : AreChange
             });
         frames = λ other f e. let k = are.frames other f e in record { attach = k.attach; of = k.of; is = k.is; frame = k.frame };
         buffers = λ d b e. let k = are.buffers d b e in record { create = k.create; is = k.is; buffer = k.buffer };
+        pends = flipped_pends sc cs are.pends bs fb passed;
       }
 
   -- an answer, by 0 or by another status
@@ -296,7 +306,7 @@ module _ (bs : List (Live ℕ)) (sc : Scene) (cs : List Change) (are : AreChange
       by_asked (asked.Attach a) true h sound = attaches a (passes_by (attach_check sc.frames a (buffer_at a.dbuf_cookie bs)) (h refl)) sound
       by_asked (asked.Detach fb) true h sound = detaches fb sound
       by_asked (asked.Config c) true h sound = configures c sound
-      by_asked (asked.Flip fb) true h sound = flips fb sound
+      by_asked (asked.Flip fb) true h sound = flips fb (h refl) sound
       by_asked asked.Other true h sound = are
       by_asked (asked.Create c) false h sound = are
       by_asked (asked.Destroy cookie) false h sound = are
@@ -338,4 +348,5 @@ module _ (bs : List (Live ℕ)) (sc : Scene) (cs : List Change) (are : AreChange
             });
         frames = λ other f e. let x = are.frames other f e in record { attach = x.attach; of = x.of; is = x.is; frame = x.frame };
         buffers = λ d b e. let x = are.buffers d b e in record { create = x.create; is = x.is; buffer = x.buffer };
+        pends = raised_pends sc cs are.pends k fb pending;
       }

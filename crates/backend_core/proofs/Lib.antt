@@ -4,7 +4,6 @@ pub mod Consequences
 mod Displays
 mod Drawn
 pub mod EachKind
-mod FlipOrder
 mod Going
 mod Hearing
 pub mod Histories
@@ -12,5 +11,6 @@ mod Holding
 pub mod Items
 pub mod OneNext
 mod Outcomes
+mod Pending
 mod Pictures
 mod Truth

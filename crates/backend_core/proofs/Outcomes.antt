@@ -1,24 +1,23 @@
 -- What follows from a device's run of its machine, by its kind.
-use Rattle.std.proofs.Common.{ℕ, true, List, refl, subst}
+use Rattle.std.proofs.Common.{ℕ, List, refl}
 use Rattle.pv_words.specs.declared.setup.DeviceKind.{DeviceKind}
 use Rattle.pv_words.specs.declared.setup.DeviceKind.TheVariants as kind
 use Rattle.pv_words.specs.Memory.{zeros}
-use Rattle.device_core.specs.Machine.{AreTrueTo, Happening, HappensTo, IsRun}
+use Rattle.device_core.specs.Machine.{AreTrueTo}
 use Rattle.device_core.specs.Names.{Words}
 use Rattle.device_core.specs.Order.{Own}
-use Rattle.device_service.specs.Rows.{Event}
 use Rattle.display_backend.specs.Service.{table}
-use Rattle.backend_core.specs.Kinds.{FlipsAreInOrder, IsExplained, NothingAfterGone, display_events, first_snapshot, machine}
+use Rattle.backend_core.specs.Kinds.{FlipsAreInOrder, IsExplained, NothingAfterGone, display_events, first_snapshot}
 use Rattle.backend_core.proofs.EachKind.{runs, site_as}
-use Rattle.backend_core.proofs.FlipOrder.{display_flips}
+use Rattle.backend_core.proofs.Pictures.{display_flips}
 use Rattle.backend_core.proofs.Going.{nothing_after}
 
 module _ (frames grants : ℕ → ℕ) (dom : ℕ) where
   pub flips_in_order : (k : DeviceKind) (es : List Own) → IsExplained k (site_as frames grants dom k) es → AreTrueTo (Words zeros) es → FlipsAreInOrder k (site_as frames grants dom k) es
-  flips_in_order (kind.Display n) es x true_to = λ part before later split.
+  flips_in_order (kind.Display n) es x true_to =
       let site = site_as frames grants dom (kind.Display n) in
       let run = runs frames grants dom (kind.Display n) es x true_to in
-      display_flips site part before later run.0 (subst (λ (hs : List (Happening Event)). IsRun (HappensTo true (machine site)) first_snapshot hs run.0) split run.1)
+      display_flips site (display_events site es) run.0 run.1
 
   pub nothing_after_gone : (k : DeviceKind) (es : List Own) → IsExplained k (site_as frames grants dom k) es → AreTrueTo (Words zeros) es → NothingAfterGone k (site_as frames grants dom k) es
   nothing_after_gone (kind.Display n) es x true_to =

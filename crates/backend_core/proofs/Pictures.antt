@@ -26,14 +26,16 @@ use Rattle.device_service.specs.Rows.{Event, Evidence, Moves, Own, Paid, Rows, S
 use Rattle.display_backend.specs.declared.waiting.Waiting.{Waiting}
 use Rattle.display_backend.specs.declared.waiting.Waiting.TheVariants as waiting
 use Rattle.display_backend.specs.Picture.{AreShown, number_under, source_at, source_by, source_in, source_of}
-use Rattle.display_backend.specs.Scene.{LiesInLive, Scene, after_blank_at, connector_at}
+use Rattle.display_backend.specs.Scene.{LiesInLive, Scene, after_blank_at, connector_at, live_among}
 use Rattle.display_backend.specs.Service.{Lines, Serves, Tells, replied_for, table}
 use Rattle.display_backend.specs.Verdict.{IsStatus, is_accepted, verdict}
 use Rattle.display_backend.proofs.Numbered.{accepted_is}
 use Rattle.display_backend.proofs.Scenes.{connector_sound}
 use Rattle.backend_core.specs.Kinds.{first_snapshot, machine}
+use Rattle.backend_core.specs.Flips.{FlipsKeepOrder}
 use Rattle.backend_core.specs.Pictures.{Asking, Change, IsPictureOf, IsShownAt, IsShownOf, Making, Past, ShowsNamed, answered_after, event_after, made, named, no_past, past_next, past_of, rectangle_at, said_after, shape_in}
 use Rattle.backend_core.proofs.Answers.{false_true, none_some, run_parts}
+use Rattle.backend_core.proofs.Pending.{in_order}
 use Rattle.backend_core.proofs.Changes.{AreChanges, IsFrame, asked_by, changes_answered, changes_raised, nothing_changed}
 
 -- a status that accepts is the verdict
@@ -226,7 +228,7 @@ module _ (bs : List (Live ℕ)) (sc : Scene) (changes : List Change) (are : AreC
   by_frame r fb (Some f) e live shown =
       by_buffer r fb f (buffer_of f.dbuf bs) (are.frames fb f e) live refl (frame_so (λ g. LiesInLive bs g) fb sc.frames f are.sound.frames_lie e) shown
 
-  by_named : (r : Option Rectangle) (fb : Option ℕ) → ((n : ℕ) → fb ≡ Some n → connectors.CanShow sc.frames r n) → AreShown bs (source_of bs sc.frames (picture_in r fb)) touched x → IsShownOf r fb changes touched x
+  by_named : (r : Option Rectangle) (fb : Option ℕ) → ((n : ℕ) → fb ≡ Some n → connectors.CanShow (live_among sc.frames) r n) → AreShown bs (source_of bs sc.frames (picture_in r fb)) touched x → IsShownOf r fb changes touched x
   by_named None fb can shown = shown
   by_named (Some r) None can shown = shown
   by_named (Some r) (Some fb) can shown = by_frame r fb (frame_of fb sc.frames) refl (can fb refl) shown
@@ -262,3 +264,11 @@ module _ (site : Site) where
       let parts = run_parts (HappensTo true (machine site)) first_snapshot end before (Row (Says (said.Shown part pixels mark) taken found) drawn ∷ later) whole in
       let now = run_now site no_past first_snapshot parts.0 before parts.1 (nothing_now site) in
       says_shows (past_of before) parts.0.rows parts.2.0.rows (record { touched = parts.0.touched; found = found }) part pixels mark parts.2.1.move small now.rows now.touched
+
+  -- what was accepted and done of flips
+  pub display_flips : (es : List (Happening Event)) (end : Snapshot (Rows Lines Waiting)) → IsRun (HappensTo true (machine site)) first_snapshot es end → FlipsKeepOrder es
+  display_flips es end run part before later split =
+      let whole = subst (λ (hs : List (Happening Event)). IsRun (HappensTo true (machine site)) first_snapshot hs end) split run in
+      let parts = run_parts (HappensTo true (machine site)) first_snapshot end before later whole in
+      let now = run_now site no_past first_snapshot parts.0 before parts.1 (nothing_now site) in
+      in_order parts.0.rows.service.scene (past_of before).changes part now.rows.told.are.pends

@@ -33,8 +33,8 @@ use Rattle.display_backend.specs.Service.{Ending, Known, Lines, display, no_line
 use Rattle.display_backend.specs.Waiting.{is_for}
 use Rattle.backend_core.specs.AfterGone as names
 use Rattle.backend_core.specs.Answered.{Accepted, IsAnsweredIn}
-use Rattle.backend_core.specs.Flips.{AreInOrder, flips_next, no_flips}
 use Rattle.backend_core.specs.Drawn.{TakesLast}
+use Rattle.backend_core.specs.Flips.{FlipsKeepOrder}
 use Rattle.backend_core.specs.Pictures as pictures
 
 -- how many parts a device has: a display's connectors
@@ -126,11 +126,9 @@ AnswersAll (Display connectors) site es =
     → now.rows.hand ≡ Some h → now.rows.service.request ≡ Some q → verdict now.rows.service.buffers now.rows.service.scene q.asked ≡ pos 0
     → IsAnsweredIn told_of (accepted_of h q) now.rows.service.denied later
 
--- At each moment the flips of each connector, in the connection that stands, are done in the order in which they were accepted.
+-- In each connection the flips of each connector are done in the order in which they were accepted.
 abbrev pub FlipsAreInOrder : DeviceKind → Site → List Own → Type 0
-FlipsAreInOrder (Display connectors) site es =
-    (part : ℕ) (before later : List (Happening Event)) → display_events site es ≡ before ++ later
-    → AreInOrder (after (flips_next part) no_flips before)
+FlipsAreInOrder (Display connectors) site es = FlipsKeepOrder (display_events site es)
 
 -- Nothing happens to a name of its machine that is gone.
 abbrev pub NothingAfterGone : DeviceKind → Site → List Own → Type 0

@@ -9,6 +9,7 @@ pub mod Mapped
 pub mod Names
 pub mod Numbered
 pub mod Pending
+pub mod Ports
 pub mod Scenes
 pub mod Serviced
 mod Pictures

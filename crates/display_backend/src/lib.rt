@@ -13,3 +13,6 @@ mod waiting;
 pub use display::Display;
 pub use laws::{displays_run, shows_stay_sound, tells_what_is_held};
 pub use service::Service;
+
+#[cfg(test)]
+mod tests;

@@ -25,6 +25,7 @@ flips_are_in_order frames grants devices m h =
 pub nothing_comes_after_gone : NothingComesAfterGone
 nothing_comes_after_gone frames grants devices m h =
     all_weaker (IsExplainedIn frames grants m) (AfterGoneIn frames grants m) (λ s x. nothing_after_gone frames grants s.dom.0 s.kind (own s.dev.0 m) x (own_true frames grants s.dev.0 no_nodes m zeros h.lawful)) devices h.explained
+
 pub pictures_are_named : PicturesAreNamed
 pictures_are_named frames grants devices m h =
     all_weaker (IsExplainedIn frames grants m) (ShowsNamedIn frames grants m) (λ s x. names_shown frames grants s.dom.0 s.kind (own s.dev.0 m) x (own_true frames grants s.dev.0 no_nodes m zeros h.lawful)) devices h.explained

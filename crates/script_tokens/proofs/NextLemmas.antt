@@ -1,5 +1,6 @@
 -- What the next token of a line is read as, and what is true of it.
-use Rattle.std.proofs.Common.{◌≡◌, ℕ, ◌+◌, ◌<◌, ◌≤◌, ◌&&◌, List, [], ◌∷◌, drop, Some, None, Ok, Err, refl, sym, subst, inl, inr}
+use Rattle.std.proofs.lemmas.List.{drop-drop}
+use Rattle.std.proofs.Common.{ap, arith, ◌∙◌, ◌≡◌, ℕ, ◌+◌, ◌<◌, ◌≤◌, ◌&&◌, List, [], ◌∷◌, drop, Some, None, Ok, Err, refl, sym, subst, inl, inr}
 use Rattle.std.specs.Prelude.{nat_le, nat_lt}
 use Rattle.std.specs.List.{AllByRecursion}
 use Rattle.std.specs.Str.{bytes_eq}
@@ -18,14 +19,17 @@ pub number_is_missing : (past : ℕ) (ts : List Piece) → ts ≡ [] → number_
 unfolding number_at next_of first_of
 number_is_missing past ts none = rw none refl
 
-pub number_is_bad : (past column : ℕ) (ts : List Piece) (rest : List ℕ) → StandsAt column rest ts → None ≡ in_64_bits (number_of (front rest)) → number_at (record { past = past; tokens = ts }) ≡ Err (flaw column BadNumber)
+pub number_is_bad : (past start : ℕ) (ts : List Piece) (rest : List ℕ) → StandsAt (start + 1) rest ts → None ≡ in_64_bits (number_of (front rest)) → number_at (record { past = past; tokens = ts }) ≡ Err (flaw (start + 1) BadNumber)
 unfolding number_at next_of first_of
-number_is_bad past column ts rest stands none = rw (stands, sym none) refl
+number_is_bad past start ts rest stands none = rw (stands, sym none) refl
 
-pub number_is : (past column value len : ℕ) (ts : List Piece) (rest back : List ℕ) → StandsAt column rest ts → Some value ≡ in_64_bits (number_of (front rest)) → len ≡ filled rest → back ≡ drop len rest
-    → number_at (record { past = past; tokens = ts }) ≡ Ok (record { column = column; value = value }, record { past = column + len; tokens = tokens (column + len) back })
+pub number_is : (past start value len : ℕ) (ts : List Piece) (rest code : List ℕ) → StandsAt (start + 1) rest ts → rest ≡ drop start code → Some value ≡ in_64_bits (number_of (front rest)) → len ≡ filled rest
+    → number_at (record { past = past; tokens = ts }) ≡ Ok (record { column = start + 1; value = value }, record { past = start + len + 1; tokens = tokens (start + len + 1) (drop (start + len) code) })
 unfolding number_at next_of first_of
-number_is past column value len ts rest back stands value-is len-is back-is = rw (stands, sym value-is, back-is, len-is) (rw (front_length rest) refl)
+number_is past start value len ts rest code stands rest-is value-is len-is =
+    let c : start + filled rest + 1 ≡ start + 1 + filled rest = omega arith in
+    let d : drop (start + filled rest) code ≡ drop (filled rest) rest = sym (drop-drop (filled rest) start code) ∙ ap (drop (filled rest)) (sym rest-is) in
+    rw (len-is, c, d, stands, sym value-is) (rw (front_length rest) refl)
 
 pub between_gives : (low high : ℕ) (c : Cursor) (n : Number × Cursor) → between_at low high c ≡ Ok n → (low ≤ n.0.value) × (n.0.value ≤ high)
 unfolding between_at

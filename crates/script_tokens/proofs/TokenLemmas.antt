@@ -4,6 +4,7 @@ use Rattle.std.specs.Prelude.{filter}
 use Rattle.std.specs.List.{position_or_len, before_first}
 use Rattle.std.proofs.Math.Seq.{take-length}
 use Rattle.std.proofs.lemmas.Bool.{cases_Bool}
+use Rattle.std.proofs.lemmas.List.{drop-drop}
 use Rattle.std.proofs.lemmas.List.Folds.{length-prefix_len}
 use Rattle.std.proofs.lemmas.List.Sums.{prefix_len-le-length}
 use Rattle.script_tokens.specs.Cursors.{StandsAt, first_of}
@@ -95,6 +96,10 @@ leads column b (d ∷ ds) fails =
           rw (n, c) (leads_on column b d ds fails also ∙ ap (in_first_piece column b) (leads (column + 1) d ds also))
     ]
 
+-- what stands behind some octets, in two steps
+pub stands_behind : (code rest back : List ℕ) (read n : ℕ) → rest ≡ drop read code → back ≡ drop n rest → back ≡ drop (read + n) code
+stands_behind code rest back read n rest-is back-is = back-is ∙ ap (drop n) rest-is ∙ drop-drop n read code
+
 pub none_left : (column n : ℕ) (bs rest : List ℕ) → n ≡ blanks bs → rest ≡ drop n bs → length rest ≡ 0 → tokens column bs ≡ []
 none_left column n bs [] n-is e len = skip_blanks column bs ∙ ap (tokens (column + blanks bs)) (sym (rw n-is at e)) ∙ no_tokens (column + blanks bs)
 none_left column n bs (b ∷ rest) n-is e len = absurd (omega arith)
@@ -128,7 +133,12 @@ pub first_is_none : (past : ℕ) (ts : List Piece) → ts ≡ [] → None ≡ fi
 unfolding first_of
 first_is_none past ts none = rw none refl
 
-pub first_is : (past column len : ℕ) (ts : List Piece) (octets rest back : List ℕ) → StandsAt column rest ts → len ≡ filled rest → octets ≡ take len rest → back ≡ drop len rest
-    → Some (record { column = column; octets = octets }, record { past = column + length octets; tokens = tokens (column + length octets) back }) ≡ first_of (record { past = past; tokens = ts })
+pub first_is : (past start len : ℕ) (ts : List Piece) (octets rest code : List ℕ) → StandsAt (start + 1) rest ts → rest ≡ drop start code → len ≡ filled rest → octets ≡ take len rest
+    → Some (record { column = start + 1; octets = octets }, record { past = start + length octets + 1; tokens = tokens (start + length octets + 1) (drop (start + length octets) code) }) ≡ first_of (record { past = past; tokens = ts })
 unfolding first_of
-first_is past column len ts octets rest back stands len-is octets-is back-is = rw (stands, octets-is, back-is, len-is) (rw (front_length rest) refl)
+first_is past start len ts octets rest code stands rest-is len-is octets-is =
+    let whole : octets ≡ front rest = rw (octets-is, len-is) refl in
+    let n : length octets ≡ filled rest = rw whole (front_length rest) in
+    let c : start + filled rest + 1 ≡ start + 1 + filled rest = omega arith in
+    let d : drop (start + filled rest) code ≡ drop (filled rest) rest = sym (drop-drop (filled rest) start code) ∙ ap (drop (filled rest)) (sym rest-is) in
+    rw (n, c, d, stands, whole) (rw (front_length rest) refl)

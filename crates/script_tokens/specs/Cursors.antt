@@ -35,7 +35,7 @@ abbrev pub token : Token → Piece
 token t = record { column = t.column; octets = t.octets.now }
 
 abbrev pub cursor : Tokens → Cursor
-cursor ts = record { past = ts.past; tokens = tokens ts.column ts.rest.now }
+cursor ts = record { past = ts.read + 1; tokens = tokens (ts.read + 1) (drop ts.read ts.code.now) }
 
 abbrev pub seen_token : Token × Tokens → Piece × Cursor
 seen_token x = (token x.0, cursor x.1)

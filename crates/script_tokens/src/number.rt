@@ -1,6 +1,6 @@
 //! Numbers, decimal ones and those behind `0x`.
 
-ghost use Rattle.std.specs.Prelude.{◌≡◌, ◌<◌, ◌≤◌, ◌+◌, ◌^◌, option_map, IfSome};
+ghost use Rattle.std.specs.Prelude.{◌≡◌, ◌<◌, ◌≤◌, ◌+◌, ◌^◌, length, option_map, IfSome};
 ghost use Rattle.std.specs.List.{position_or_len, before_first};
 ghost use Rattle.script_tokens.specs.Tokens.{is_blank};
 ghost use Rattle.script_tokens.specs.Numbers.{digit_of, value_of, digits_of, number_of, in_64_bits};
@@ -35,6 +35,7 @@ pub fn front_digits(base: u64, octets: &[u8]) -> Option<(u64, usize)>
     requires { 0 < base }
     ensures value { option_map (λ x. x.0) result ≡ in_64_bits (digits_of base (before_first is_blank octets.now)) }
     ensures len { IfSome result (λ x. x.1 ≡ position_or_len is_blank octets.now) }
+    ensures bound { IfSome result (λ x. x.1 ≤ length octets.now) }
 {
     let mut value = 0u64;
     for (len, b) in octets.iter().enumerate() {
@@ -56,6 +57,7 @@ pub fn front_digits(base: u64, octets: &[u8]) -> Option<(u64, usize)>
 pub fn front_number(octets: &[u8]) -> Option<(u64, usize)>
     ensures value { option_map (λ x. x.0) result ≡ in_64_bits (number_of (before_first is_blank octets.now)) }
     ensures len { IfSome result (λ x. x.1 ≡ position_or_len is_blank octets.now) }
+    ensures bound { IfSome result (λ x. x.1 ≤ length octets.now) }
 {
     match octets.strip_prefix(b"0x".as_slice()) {
         Some(digits) => {

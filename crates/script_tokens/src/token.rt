@@ -1,6 +1,6 @@
 //! The tokens of a line, one after the other.
 
-ghost use Rattle.std.specs.Prelude.{◌≡◌, ◌<◌, ◌≤◌, ◌+◌, ◌-◌, ◌^◌, not, length, option_map, IfOk, IfSome, MatchOption, []};
+ghost use Rattle.std.specs.Prelude.{◌≡◌, ◌<◌, ◌≤◌, ◌+◌, ◌-◌, ◌^◌, not, length, drop, option_map, IfOk, IfSome, MatchOption, []};
 ghost use Rattle.std.specs.List.{position_or_len};
 ghost use Rattle.script_tokens.specs.Tokens.{is_blank, tokens};
 
@@ -19,12 +19,12 @@ pub struct Token<'a> {
 /// The tokens of a line that weren't read yet.
 #[derive(Clone, Copy, Debug)]
 pub struct Tokens<'a> {
-    /// The column of the first octet of the rest.
-    column: u32,
-    /// The column one past the token that was read last.
-    past: u32,
-    rest: &'a [u8],
-    ghost fits: { column + length rest.now < 2 ^ 32 },
+    /// The octets of the line's code.
+    code: &'a [u8],
+    /// How many of them were read: up to the end of the token that was read last.
+    read: usize,
+    ghost within: { read ≤ length code.now },
+    ghost fits: { length code.now < 2 ^ 32 - 1 },
 }
 
 /// The number of blanks at the front.
@@ -77,46 +77,48 @@ impl<'a> Tokens<'a> {
         requires { length code.now < 2 ^ 32 - 1 }
         ensures { cursor result ≡ record { past = 1; tokens = tokens 1 code.now } }
     {
-        Tokens {
-            column: 1,
-            past: 1,
-            rest: code,
-        }
+        Tokens { code, read: 0 }
     }
 
-    /// The column of the next token, and the octets from there on, if there is one.
-    fn start(self) -> Option<(u32, &'a [u8])>
-        ensures at { MatchOption result (tokens self.entry.column self.entry.rest.now ≡ []) (λ x. StandsAt x.0 x.1.now (tokens self.entry.column self.entry.rest.now)) }
-        ensures fits { IfSome result (λ x. x.0 + length x.1.now < 2 ^ 32) }
+    /// How many octets stand before the next token, and the octets from there on, if there is one.
+    #[inline(always)]
+    fn start(self) -> Option<(usize, &'a [u8])>
+        ensures at { MatchOption result (tokens (self.entry.read + 1) (drop self.entry.read self.entry.code.now) ≡ []) (λ x. StandsAt (x.0 + 1) x.1.now (tokens (self.entry.read + 1) (drop self.entry.read self.entry.code.now))) }
+        ensures place { IfSome result (λ x. (x.0 + length x.1.now ≡ length self.entry.code.now) × (x.1.now ≡ drop x.0 self.entry.code.now)) }
     {
-        let skipped = blank_len(self.rest);
-        let (_, rest) = self.rest.split_at(skipped);
+        let (_, rest) = self.code.split_at(self.read);
+        let skipped = blank_len(rest);
+        let (_, rest) = rest.split_at(skipped);
         if rest.is_empty() {
             return None;
         }
-        Some((self.column + skipped as u32, rest))
+        Some((self.read + skipped, rest))
     }
 
     /// The next token and those after it, if there is one.
     pub fn split_first(self) -> Option<(Token<'a>, Tokens<'a>)>
         ensures { option_map seen_token result ≡ first_of (cursor self.entry) }
     {
-        let (column, rest) = self.start()?;
-        let (octets, rest) = rest.split_at(token_len(rest));
-        let past = column + octets.len() as u32;
+        let (start, rest) = self.start()?;
+        let (octets, _) = rest.split_at(token_len(rest));
         let tokens = Tokens {
-            column: past,
-            past,
-            rest,
+            code: self.code,
+            read: start + octets.len(),
         };
-        Some((Token { column, octets }, tokens))
+        Some((
+            Token {
+                column: start as u32 + 1,
+                octets,
+            },
+            tokens,
+        ))
     }
 
     /// The next token and those after it, where the line must go on.
     pub fn next(self) -> Result<(Token<'a>, Tokens<'a>), Flaw>
         ensures { Gives seen_token result (next_of (cursor self.entry)) }
     {
-        let column = self.past;
+        let column = self.read as u32 + 1;
         self.split_first().ok_or(Flaw {
             column,
             kind: FaultKind::MissingWord,
@@ -128,24 +130,22 @@ impl<'a> Tokens<'a> {
     pub fn number(self) -> Result<(Number, Tokens<'a>), Flaw>
         ensures { Gives seen result (number_at (cursor self.entry)) }
     {
-        let Some((column, rest)) = self.start() else {
+        let Some((start, rest)) = self.start() else {
             return Err(Flaw {
-                column: self.past,
+                column: self.read as u32 + 1,
                 kind: FaultKind::MissingWord,
             });
         };
+        let column = start as u32 + 1;
         let Some((value, len)) = front_number(rest) else {
             return Err(Flaw {
                 column,
                 kind: FaultKind::BadNumber,
             });
         };
-        let (_, rest) = rest.split_at(len);
-        let past = column + len as u32;
         let tokens = Tokens {
-            column: past,
-            past,
-            rest,
+            code: self.code,
+            read: start + len,
         };
         Ok((Number { column, value }, tokens))
     }

@@ -1,4 +1,4 @@
-use Rattle.std.proofs.Common.{◌≡◌, ℕ, Option, Some, None, Ok, Err, refl, subst}
+use Rattle.std.proofs.Common.{◌≡◌, ℕ, ◌+◌, Option, Some, None, Ok, Err, refl, subst}
 use Rattle.std.specs.Option.{option_map, ok_or}
 use Rattle.script_tokens.specs.declared.fault.FaultKind.{FaultKind}
 use Rattle.script_tokens.specs.declared.fault.FaultKind.TheVariants.{MissingWord}
@@ -12,4 +12,4 @@ or_gives view (Some x) r column kind e = subst (λ (s : Option _). or_flaw s col
 
 pub returns : goal.returns
 unfolding next_of
-returns c = rw c.ok_or.ensures.value (or_gives seen_token c.split_first.result (first_of (cursor c.args.self)) c.args.self.past MissingWord c.split_first.ensures)
+returns c = rw c.ok_or.ensures.value (or_gives seen_token c.split_first.result (first_of (cursor c.args.self)) (c.args.self.read + 1) MissingWord c.split_first.ensures)

@@ -8,4 +8,4 @@ pub returns-in_default-front_number : goal.returns-in_default-front_number
 returns-in_default-front_number c = number_is_bad _ _ _ c.in-Some.rest.now c.in-Some.ensures.at c.in_default-front_number.ensures.value
 
 pub returns : goal.returns
-returns c = number_is _ _ _ _ _ c.in-Some.rest.now _ c.in-Some.ensures.at c.in-Some-front_number.ensures.value c.in-Some-front_number.ensures.len c.split_at.ensures.back
+returns c = number_is _ _ _ _ _ c.in-Some.rest.now c.args.self.code.now c.in-Some.ensures.at c.in-Some.ensures.place.1 c.in-Some-front_number.ensures.value c.in-Some-front_number.ensures.len

@@ -55,67 +55,57 @@ fn a_framebuffer_without_a_buffer_is_refused(rt: HostRuntime) -> Result<(), Fail
     Ok(())
 }
 
-// A flip waits for room in the event page; a buffer stays while a framebuffer of it is attached, and one that is detached is
-// shown no longer, but its flip is still told; a picture is read at each Show, though its grant entry is cleared.
+// Statements before the device connects and behind the configuration, and what comes of these. A flip waits for room in the event
+// page; a buffer stays while a framebuffer of it is attached, and one that is detached is shown no longer, but its flip is still told; a
+// request's words are loaded once; a picture is read at each Show, though its grant entry is cleared. In the second Show, pixel 5
+// was read already when it is written, and pixel 1000 is still to be read: 31 to the power 23, times 9.
+const COURSES: [(&str, &str, &str); 7] = [
+    (
+        "put 1 1 1 63\n",
+        "put 1 0 64 0x00050004\nput 1 0 66 11\nput 1 0 0 4\nserve 1\nblank 1 0\nserve 1\nblank 1 0\nserve 1\n\
+         put 1 0 80 0x00050005\nput 1 0 82 11\nput 1 0 0 5\nserve 1\nput 1 1 0 1\nblank 1 0\nserve 1\n",
+        "request 1 0 4 5\nreply 1 0 4 0\nfull 1 0\nfull 1 0\nrequest 1 0 5 5\nreply 1 0 5 -16\nflip 1 0 11\n",
+    ),
+    (
+        "",
+        "put 1 0 64 0x00050004\nput 1 0 66 11\nput 1 0 0 4\nserve 1\nput 1 0 80 0x00010005\nput 1 0 82 1\nput 1 0 0 5\nserve 1\n\
+         put 1 0 96 0x00030006\nput 1 0 98 11\nput 1 0 0 6\nserve 1\nshow 1 0\nserve 1\nblank 1 0\nserve 1\n\
+         put 1 0 112 0x00010007\nput 1 0 114 1\nput 1 0 0 7\nserve 1\n",
+        "request 1 0 4 5\nreply 1 0 4 0\nrequest 1 0 5 1\nreply 1 0 5 -16\nrequest 1 0 6 3\nreply 1 0 6 0\n\
+         shown 1 0 0 0\nflip 1 0 11\nrequest 1 0 7 1\nreply 1 0 7 0\n",
+    ),
+    (
+        "",
+        "put 1 0 64 0x00050004\nput 1 0 66 11\nput 1 0 0 4\nback 1 4\nput 1 0 66 12\nput 1 0 67 1\nserve 1\n",
+        "request 1 0 4 5\nreply 1 0 4 -2\n",
+    ),
+    (
+        "",
+        "put 1 0 64 0x00050004\nput 1 0 66 11\nput 1 0 0 4\nback 1 4\nput 1 0 66 12\nserve 1\n",
+        "request 1 0 4 5\nreply 1 0 4 0\n",
+    ),
+    (
+        "",
+        "end 1 3 1\nputg 1 3 flags 0\nput 1 3 1023 5\nshow 1 0\nserve 1\n",
+        "grant 1 3 busy 9\nshown 1 0 1024 5\n",
+    ),
+    (
+        "",
+        "show 1 0\nback 1 100\nput 1 3 5 7\nput 1 3 1000 9\nserve 1\n",
+        "shown 1 0 1024 3691906519\n",
+    ),
+    (
+        "",
+        "put 1 0 64 0x00030004\nput 1 0 66 11\nput 1 0 0 4\nserve 1\n\
+         put 1 0 80 0x00010005\nput 1 0 82 1\nput 1 0 0 5\nserve 1\nend 1 3 1\n",
+        "request 1 0 4 3\nreply 1 0 4 0\nrequest 1 0 5 1\nreply 1 0 5 0\ngrant 1 3 ended\n",
+    ),
+];
+
 #[test]
 fn flips_and_pictures(rt: HostRuntime) -> Result<(), Fail> {
     let alloc = rt.alloc();
-    let full = joined(
-        alloc,
-        &[
-            FLIPS,
-            "blank 1 0\nserve 1\nblank 1 0\nserve 1\nput 1 0 80 0x00050005\nput 1 0 82 11\nput 1 0 0 5\nserve 1\n",
-            "put 1 1 0 1\nblank 1 0\nserve 1\n",
-        ],
-    )?;
-    let detached = joined(
-        alloc,
-        &[
-            FLIPS,
-            "put 1 0 80 0x00010005\nput 1 0 82 1\nput 1 0 0 5\nserve 1\nput 1 0 96 0x00030006\nput 1 0 98 11\nput 1 0 0 6\nserve 1\n",
-            "show 1 0\nserve 1\nblank 1 0\nserve 1\nput 1 0 112 0x00010007\nput 1 0 114 1\nput 1 0 0 7\nserve 1\n",
-        ],
-    )?;
-    for (before, more, lines) in [
-        (
-            "put 1 1 1 63\n",
-            full.as_str(),
-            "request 1 0 4 5\nreply 1 0 4 0\nfull 1 0\nfull 1 0\nrequest 1 0 5 5\nreply 1 0 5 -16\nflip 1 0 11\n",
-        ),
-        (
-            "",
-            detached.as_str(),
-            "request 1 0 4 5\nreply 1 0 4 0\nrequest 1 0 5 1\nreply 1 0 5 -16\nrequest 1 0 6 3\nreply 1 0 6 0\n\
-             shown 1 0 0 0\nflip 1 0 11\nrequest 1 0 7 1\nreply 1 0 7 0\n",
-        ),
-        (
-            "",
-            "put 1 0 64 0x00050004\nput 1 0 66 11\nput 1 0 0 4\nback 1 4\nput 1 0 66 12\nput 1 0 67 1\nserve 1\n",
-            "request 1 0 4 5\nreply 1 0 4 -2\n",
-        ),
-        (
-            "",
-            "put 1 0 64 0x00050004\nput 1 0 66 11\nput 1 0 0 4\nback 1 4\nput 1 0 66 12\nserve 1\n",
-            "request 1 0 4 5\nreply 1 0 4 0\n",
-        ),
-        (
-            "",
-            "end 1 3 1\nputg 1 3 flags 0\nput 1 3 1023 5\nshow 1 0\nserve 1\n",
-            "grant 1 3 busy 9\nshown 1 0 1024 5\n",
-        ),
-        // pixel 5 was read already, and pixel 1000 is still to be read: 31 to the power 23, times 9
-        (
-            "",
-            "show 1 0\nback 1 100\nput 1 3 5 7\nput 1 3 1000 9\nserve 1\n",
-            "shown 1 0 1024 3691906519\n",
-        ),
-        (
-            "",
-            "put 1 0 64 0x00030004\nput 1 0 66 11\nput 1 0 0 4\nserve 1\n\
-             put 1 0 80 0x00010005\nput 1 0 82 1\nput 1 0 0 5\nserve 1\nend 1 3 1\n",
-            "request 1 0 4 3\nreply 1 0 4 0\nrequest 1 0 5 1\nreply 1 0 5 0\ngrant 1 3 ended\n",
-        ),
-    ] {
+    for (before, more, lines) in COURSES {
         let outcome = run_shown(alloc, before, more)?;
         let wanted = after_three_replies(alloc, lines)?;
         expect_played(&rt, &outcome, wanted.as_bytes());
@@ -148,46 +138,47 @@ fn requests_are_taken_anew_after_a_close(rt: HostRuntime) -> Result<(), Fail> {
     Ok(())
 }
 
-// What comes of a flip at a blank where the frontend consumed up to `cons`, and the next event's index is `prod`: an event page
-// holds 63 events, and takes none from the index 4294967232 on.
+// The index of the next event, up to which index the frontend consumed, and what comes of a flip at a blank then: an event page holds
+// 63 events, and takes none from the index 4294967232 on.
+const ROOM: [(u32, u32, &str); 16] = [
+    (0, 0, "flip 1 0 11\n"),
+    (62, 0, "flip 1 0 11\n"),
+    (63, 0, "full 1 0\n"),
+    (64, 0, "closed 1 badcons 64 0\nbus 1 back 6\n"),
+    (64, 1, "full 1 0\n"),
+    (64, 2, "flip 1 0 11\n"),
+    (5, 6, "closed 1 badcons 5 6\nbus 1 back 6\n"),
+    (0, 4_294_967_295, "flip 1 0 11\n"),
+    (56, 4_294_967_290, "flip 1 0 11\n"),
+    (57, 4_294_967_290, "full 1 0\n"),
+    (
+        58,
+        4_294_967_290,
+        "closed 1 badcons 58 4294967290\nbus 1 back 6\n",
+    ),
+    (4_294_967_231, 4_294_967_231, "flip 1 0 11\n"),
+    (4_294_967_231, 4_294_967_168, "full 1 0\n"),
+    (
+        4_294_967_231,
+        4_294_967_167,
+        "closed 1 badcons 4294967231 4294967167\nbus 1 back 6\n",
+    ),
+    (
+        4_294_967_232,
+        4_294_967_232,
+        "closed 1 spent 4294967232\nbus 1 back 6\n",
+    ),
+    (
+        4_294_967_295,
+        0,
+        "closed 1 spent 4294967295\nbus 1 back 6\n",
+    ),
+];
+
 #[test]
 fn room_in_an_event_page(rt: HostRuntime) -> Result<(), Fail> {
     let alloc = rt.alloc();
-    let (flip, full) = ("flip 1 0 11\n", "full 1 0\n");
-    for (prod, cons, lines) in [
-        (0u32, 0u32, flip),
-        (62, 0, flip),
-        (63, 0, full),
-        (64, 0, "closed 1 badcons 64 0\nbus 1 back 6\n"),
-        (64, 1, full),
-        (64, 2, flip),
-        (5, 6, "closed 1 badcons 5 6\nbus 1 back 6\n"),
-        (0, 4_294_967_295, flip),
-        (56, 4_294_967_290, flip),
-        (57, 4_294_967_290, full),
-        (
-            58,
-            4_294_967_290,
-            "closed 1 badcons 58 4294967290\nbus 1 back 6\n",
-        ),
-        (4_294_967_231, 4_294_967_231, flip),
-        (4_294_967_231, 4_294_967_168, full),
-        (
-            4_294_967_231,
-            4_294_967_167,
-            "closed 1 badcons 4294967231 4294967167\nbus 1 back 6\n",
-        ),
-        (
-            4_294_967_232,
-            4_294_967_232,
-            "closed 1 spent 4294967232\nbus 1 back 6\n",
-        ),
-        (
-            4_294_967_295,
-            0,
-            "closed 1 spent 4294967295\nbus 1 back 6\n",
-        ),
-    ] {
+    for (prod, cons, lines) in ROOM {
         let before = format!(in alloc; "put 1 1 1 {prod}\n")?;
         let more = format!(in alloc; "{FLIPS}put 1 1 0 {cons}\nblank 1 0\nserve 1\n")?;
         let outcome = run_shown(alloc, before.as_str(), more.as_str())?;

@@ -183,6 +183,40 @@ const BUFFER: [u32; 8] = [1, 0, 32, 32, 32, 4096, 0, 2];
 
 const FRAMEBUFFER: [u32; 8] = [1, 0, 11, 0, 32, 32, XR24, 0];
 
+// Requests that are taken one after another: the operation, the fields of its body, and the status of its reply.
+const REQUESTS: [(u32, [u32; 8], i32); 30] = [
+    (0, [1, 0, 32, 32, 32, 4096, 1, 2], -95),
+    (0, [1, 0, 32, 32, 32, 4096, 0, 9], -13),
+    (0, [1, 0, 32, 32, 32, 4095, 0, 2], -22),
+    (0, BUFFER, 0),
+    (0, [1, 0, 0, 0, 0, 0, 0, 0], -17),
+    (1, [2, 0, 0, 0, 0, 0, 0, 0], -2),
+    (2, [2, 0, 11, 0, 32, 32, XR24, 0], -2),
+    (2, [1, 0, 11, 0, 33, 32, XR24, 0], -22),
+    (2, [1, 0, 11, 0, 32, 32, RG16, 0], -22),
+    (5, [11, 0, 0, 0, 0, 0, 0, 0], -2),
+    (2, FRAMEBUFFER, 0),
+    (2, [2, 0, 11, 0, 0, 0, 0, 0], -17),
+    (5, [11, 0, 0, 0, 0, 0, 0, 0], -22),
+    (4, NOTHING, 0),
+    (4, [12, 0, 0, 0, 32, 32, 32, 0], -2),
+    (4, [11, 0, 1, 0, 32, 32, 32, 0], -22),
+    (4, [11, 0, 0, 0, 32, 32, 24, 0], -22),
+    (4, [11, 0, 1, 2, 31, 30, 32, 0], 0),
+    (2, [1, 0, 12, 1, 16, 16, XR24, 0], 0),
+    (5, [12, 1, 0, 0, 0, 0, 0, 0], -22),
+    (5, [11, 0, 0, 0, 0, 0, 0, 0], 0),
+    (5, [11, 0, 0, 0, 0, 0, 0, 0], -16),
+    (1, [1, 0, 0, 0, 0, 0, 0, 0], -16),
+    (3, [12, 0, 0, 0, 0, 0, 0, 0], -2),
+    (3, [12, 1, 0, 0, 0, 0, 0, 0], 0),
+    (1, [1, 0, 0, 0, 0, 0, 0, 0], -16),
+    (3, [11, 0, 0, 0, 0, 0, 0, 0], 0),
+    (1, [1, 0, 0, 0, 0, 0, 0, 0], 0),
+    (1, [1, 0, 0, 0, 0, 0, 0, 0], -2),
+    (6, NOTHING, -95),
+];
+
 #[test]
 fn requests_have_their_statuses(rt: HostRuntime) -> Result<(), Fail> {
     let mut domain = two_buffers(rt.alloc())?;
@@ -192,38 +226,7 @@ fn requests_have_their_statuses(rt: HostRuntime) -> Result<(), Fail> {
         Some(Said::State(State::Connected))
     );
     let mut index = 0u16;
-    for (op, fields, status) in [
-        (0, [1, 0, 32, 32, 32, 4096, 1, 2], -95),
-        (0, [1, 0, 32, 32, 32, 4096, 0, 9], -13),
-        (0, [1, 0, 32, 32, 32, 4095, 0, 2], -22),
-        (0, BUFFER, 0),
-        (0, [1, 0, 0, 0, 0, 0, 0, 0], -17),
-        (1, [2, 0, 0, 0, 0, 0, 0, 0], -2),
-        (2, [2, 0, 11, 0, 32, 32, XR24, 0], -2),
-        (2, [1, 0, 11, 0, 33, 32, XR24, 0], -22),
-        (2, [1, 0, 11, 0, 32, 32, RG16, 0], -22),
-        (5, [11, 0, 0, 0, 0, 0, 0, 0], -2),
-        (2, FRAMEBUFFER, 0),
-        (2, [2, 0, 11, 0, 0, 0, 0, 0], -17),
-        (5, [11, 0, 0, 0, 0, 0, 0, 0], -22),
-        (4, NOTHING, 0),
-        (4, [12, 0, 0, 0, 32, 32, 32, 0], -2),
-        (4, [11, 0, 1, 0, 32, 32, 32, 0], -22),
-        (4, [11, 0, 0, 0, 32, 32, 24, 0], -22),
-        (4, [11, 0, 1, 2, 31, 30, 32, 0], 0),
-        (2, [1, 0, 12, 1, 16, 16, XR24, 0], 0),
-        (5, [12, 1, 0, 0, 0, 0, 0, 0], -22),
-        (5, [11, 0, 0, 0, 0, 0, 0, 0], 0),
-        (5, [11, 0, 0, 0, 0, 0, 0, 0], -16),
-        (1, [1, 0, 0, 0, 0, 0, 0, 0], -16),
-        (3, [12, 0, 0, 0, 0, 0, 0, 0], -2),
-        (3, [12, 1, 0, 0, 0, 0, 0, 0], 0),
-        (1, [1, 0, 0, 0, 0, 0, 0, 0], -16),
-        (3, [11, 0, 0, 0, 0, 0, 0, 0], 0),
-        (1, [1, 0, 0, 0, 0, 0, 0, 0], 0),
-        (1, [1, 0, 0, 0, 0, 0, 0, 0], -2),
-        (6, NOTHING, -95),
-    ] {
+    for (op, fields, status) in REQUESTS {
         let said = asks(&mut display, &mut domain, index, op, fields);
         assert_eq!(rt; said, Some(Said::Replied(0, index, status, false)));
         index = index.wrapping_add(1);
@@ -248,6 +251,36 @@ const BLANK: HostEvent = HostEvent::Blank(0);
 
 // Buffer 1 ends with the pixel 5, and buffer 2 with the pixel 7. A flip is done at a blank, where the event page has room for
 // one of 63; a configuration takes its mark.
+const DEEDS: [Deed; 27] = [
+    Deed::Asks(0, BUFFER),
+    Deed::Asks(0, [2, 0, 32, 32, 32, 4096, 0, 4]),
+    Deed::Asks(2, FRAMEBUFFER),
+    Deed::Asks(2, [2, 0, 12, 0, 32, 32, XR24, 0]),
+    Deed::Tells(SHOW, Said::Shown(0, 0, 0)),
+    Deed::Asks(4, [11, 0, 0, 0, 32, 32, 32, 0]),
+    Deed::Tells(SHOW, Said::Shown(0, 1024, 5)),
+    Deed::Tells(BLANK, Said::Blank(0)),
+    Deed::Asks(5, [12, 0, 0, 0, 0, 0, 0, 0]),
+    Deed::Tells(SHOW, Said::Shown(0, 1024, 5)),
+    Deed::Tells(BLANK, Said::Raised(0, 12)),
+    Deed::Tells(SHOW, Said::Shown(0, 1024, 7)),
+    Deed::Tells(BLANK, Said::Blank(0)),
+    Deed::Asks(5, [11, 0, 0, 0, 0, 0, 0, 0]),
+    Deed::Consumes(4_294_967_234),
+    Deed::Tells(BLANK, Said::Full(0)),
+    Deed::Tells(SHOW, Said::Shown(0, 1024, 7)),
+    Deed::Consumes(4_294_967_235),
+    Deed::Tells(BLANK, Said::Raised(0, 11)),
+    Deed::Tells(SHOW, Said::Shown(0, 1024, 5)),
+    Deed::Asks(5, [12, 0, 0, 0, 0, 0, 0, 0]),
+    Deed::Asks(4, [11, 0, 0, 31, 32, 1, 32, 0]),
+    Deed::Consumes(2),
+    Deed::Tells(BLANK, Said::Raised(0, 12)),
+    Deed::Tells(SHOW, Said::Shown(0, 32, 5)),
+    Deed::Asks(3, [11, 0, 0, 0, 0, 0, 0, 0]),
+    Deed::Tells(SHOW, Said::Shown(0, 0, 0)),
+];
+
 #[test]
 fn flips_wait_for_their_blanks(rt: HostRuntime) -> Result<(), Fail> {
     let mut domain = two_buffers(rt.alloc())?;
@@ -257,35 +290,7 @@ fn flips_wait_for_their_blanks(rt: HostRuntime) -> Result<(), Fail> {
         Some(Said::State(State::Connected))
     );
     let mut index = 0u16;
-    for deed in [
-        Deed::Asks(0, BUFFER),
-        Deed::Asks(0, [2, 0, 32, 32, 32, 4096, 0, 4]),
-        Deed::Asks(2, FRAMEBUFFER),
-        Deed::Asks(2, [2, 0, 12, 0, 32, 32, XR24, 0]),
-        Deed::Tells(SHOW, Said::Shown(0, 0, 0)),
-        Deed::Asks(4, [11, 0, 0, 0, 32, 32, 32, 0]),
-        Deed::Tells(SHOW, Said::Shown(0, 1024, 5)),
-        Deed::Tells(BLANK, Said::Blank(0)),
-        Deed::Asks(5, [12, 0, 0, 0, 0, 0, 0, 0]),
-        Deed::Tells(SHOW, Said::Shown(0, 1024, 5)),
-        Deed::Tells(BLANK, Said::Raised(0, 12)),
-        Deed::Tells(SHOW, Said::Shown(0, 1024, 7)),
-        Deed::Tells(BLANK, Said::Blank(0)),
-        Deed::Asks(5, [11, 0, 0, 0, 0, 0, 0, 0]),
-        Deed::Consumes(4_294_967_234),
-        Deed::Tells(BLANK, Said::Full(0)),
-        Deed::Tells(SHOW, Said::Shown(0, 1024, 7)),
-        Deed::Consumes(4_294_967_235),
-        Deed::Tells(BLANK, Said::Raised(0, 11)),
-        Deed::Tells(SHOW, Said::Shown(0, 1024, 5)),
-        Deed::Asks(5, [12, 0, 0, 0, 0, 0, 0, 0]),
-        Deed::Asks(4, [11, 0, 0, 31, 32, 1, 32, 0]),
-        Deed::Consumes(2),
-        Deed::Tells(BLANK, Said::Raised(0, 12)),
-        Deed::Tells(SHOW, Said::Shown(0, 32, 5)),
-        Deed::Asks(3, [11, 0, 0, 0, 0, 0, 0, 0]),
-        Deed::Tells(SHOW, Said::Shown(0, 0, 0)),
-    ] {
+    for deed in DEEDS {
         match deed {
             Deed::Asks(op, fields) => {
                 let said = asks(&mut display, &mut domain, index, op, fields);

@@ -13,6 +13,7 @@ use pv_words::{DeviceKind, DeviceSetup, DomainSize, Frame, Kind};
 use script_tokens::{Flaw, Tokens};
 
 /// `domain D wild F G`: domain D with F frames and G grants.
+#[inline(never)]
 #[tactic(auto, unfolding(crate::specs::Declarations::domain_at))]
 pub fn domain<'a>(so_far: &Draft, tokens: Tokens<'a>) -> Result<(Item, Tokens<'a>), Flaw>
     ensures { Gives seen result (domain_at (drafted so_far.now) (cursor tokens.entry)) }
@@ -32,6 +33,7 @@ pub fn domain<'a>(so_far: &Draft, tokens: Tokens<'a>) -> Result<(Item, Tokens<'a
 }
 
 /// `display N D C`: device N of domain D with C connectors, 1 to 4.
+#[inline(never)]
 #[tactic(auto, unfolding(crate::specs::Declarations::display_at))]
 pub fn display<'a>(so_far: &Draft, tokens: Tokens<'a>) -> Result<(Item, Tokens<'a>), Flaw>
     ensures { Gives seen result (display_at (drafted so_far.now) (cursor tokens.entry)) }

@@ -88,6 +88,7 @@ pub enum Statement {
 }
 
 /// `put D F W V`: store V at word W of frame F of domain D.
+#[inline(never)]
 #[tactic(auto, unfolding(crate::specs::Statements::put_at))]
 pub fn put<'a>(so_far: &Draft, tokens: Tokens<'a>) -> Result<(Item, Tokens<'a>), Flaw>
     ensures { Gives seen result (put_at (drafted so_far.now) (cursor tokens.entry)) }
@@ -105,6 +106,7 @@ pub fn put<'a>(so_far: &Draft, tokens: Tokens<'a>) -> Result<(Item, Tokens<'a>),
 
 /// `fill D F W N V T`: store V, V + T, V + 2T and so on, modulo 2^32, at the N words from word W of frame F
 /// of domain D on, through following frames. The domain has all these words.
+#[inline(never)]
 #[tactic(auto, unfolding(crate::specs::Statements::fill_at))]
 pub fn fill<'a>(so_far: &Draft, tokens: Tokens<'a>) -> Result<(Item, Tokens<'a>), Flaw>
     ensures { Gives seen result (fill_at (drafted so_far.now) (cursor tokens.entry)) }
@@ -129,6 +131,7 @@ pub fn fill<'a>(so_far: &Draft, tokens: Tokens<'a>) -> Result<(Item, Tokens<'a>)
 }
 
 /// `putg D G H V`: store V at half H, `flags` or `frame`, of grant entry G of domain D.
+#[inline(never)]
 #[tactic(auto, unfolding(crate::specs::Statements::put_grant_at))]
 pub fn put_grant<'a>(so_far: &Draft, tokens: Tokens<'a>) -> Result<(Item, Tokens<'a>), Flaw>
     ensures { Gives seen result (put_grant_at (drafted so_far.now) (cursor tokens.entry)) }
@@ -145,6 +148,7 @@ pub fn put_grant<'a>(so_far: &Draft, tokens: Tokens<'a>) -> Result<(Item, Tokens
 }
 
 /// `swap D G OLD NEW`: exchange the flags of grant entry G of domain D, where they are OLD, for NEW.
+#[inline(never)]
 #[tactic(auto, unfolding(crate::specs::Statements::swap_at))]
 pub fn swap<'a>(so_far: &Draft, tokens: Tokens<'a>) -> Result<(Item, Tokens<'a>), Flaw>
     ensures { Gives seen result (swap_at (drafted so_far.now) (cursor tokens.entry)) }
@@ -160,6 +164,7 @@ pub fn swap<'a>(so_far: &Draft, tokens: Tokens<'a>) -> Result<(Item, Tokens<'a>)
 
 /// `open D G F M N`: open the N grants from G on of domain D, for its frames from F on, in mode M, which is
 /// `rw` or `ro`. The domain has all these grants and frames.
+#[inline(never)]
 #[tactic(auto, unfolding(crate::specs::Statements::open_at))]
 pub fn open<'a>(so_far: &Draft, tokens: Tokens<'a>) -> Result<(Item, Tokens<'a>), Flaw>
     ensures { Gives seen result (open_at (drafted so_far.now) (cursor tokens.entry)) }
@@ -183,6 +188,7 @@ pub fn open<'a>(so_far: &Draft, tokens: Tokens<'a>) -> Result<(Item, Tokens<'a>)
 }
 
 /// `end D G N`: end the N grants from G on of domain D, which has them all.
+#[inline(never)]
 #[tactic(auto, unfolding(crate::specs::Statements::end_at))]
 pub fn end<'a>(so_far: &Draft, tokens: Tokens<'a>) -> Result<(Item, Tokens<'a>), Flaw>
     ensures { Gives seen result (end_at (drafted so_far.now) (cursor tokens.entry)) }
@@ -200,6 +206,7 @@ pub fn end<'a>(so_far: &Draft, tokens: Tokens<'a>) -> Result<(Item, Tokens<'a>),
 }
 
 /// `node N P NAME VALUE`: set the node NAME of part P of device N to VALUE.
+#[inline(never)]
 #[tactic(auto, unfolding(crate::specs::Statements::node_at))]
 pub fn node<'a>(so_far: &Draft, tokens: Tokens<'a>) -> Result<(Item, Tokens<'a>), Flaw>
     ensures { Gives seen result (node_at (drafted so_far.now) (cursor tokens.entry)) }
@@ -213,6 +220,7 @@ pub fn node<'a>(so_far: &Draft, tokens: Tokens<'a>) -> Result<(Item, Tokens<'a>)
 }
 
 /// `bus N S`: set the state of the frontend of device N to S, by its number.
+#[inline(never)]
 #[tactic(auto, unfolding(crate::specs::Statements::bus_at))]
 pub fn bus<'a>(so_far: &Draft, tokens: Tokens<'a>) -> Result<(Item, Tokens<'a>), Flaw>
     ensures { Gives seen result (bus_at (drafted so_far.now) (cursor tokens.entry)) }
@@ -223,6 +231,7 @@ pub fn bus<'a>(so_far: &Draft, tokens: Tokens<'a>) -> Result<(Item, Tokens<'a>),
 }
 
 /// `wake N`: raise the pending word of device N.
+#[inline(never)]
 #[tactic(auto, unfolding(crate::specs::Statements::wake_at))]
 pub fn wake<'a>(so_far: &Draft, tokens: Tokens<'a>) -> Result<(Item, Tokens<'a>), Flaw>
     ensures { Gives seen result (wake_at (drafted so_far.now) (cursor tokens.entry)) }
@@ -232,6 +241,7 @@ pub fn wake<'a>(so_far: &Draft, tokens: Tokens<'a>) -> Result<(Item, Tokens<'a>)
 }
 
 /// `blank N C`: tell device N, a display, of a vertical blank of its connector C.
+#[inline(never)]
 #[tactic(auto, unfolding(crate::specs::Statements::blank_at))]
 pub fn blank<'a>(so_far: &Draft, tokens: Tokens<'a>) -> Result<(Item, Tokens<'a>), Flaw>
     ensures { Gives seen result (blank_at (drafted so_far.now) (cursor tokens.entry)) }
@@ -242,6 +252,7 @@ pub fn blank<'a>(so_far: &Draft, tokens: Tokens<'a>) -> Result<(Item, Tokens<'a>
 }
 
 /// `show N C`: tell device N, a display, to show the picture of its connector C.
+#[inline(never)]
 #[tactic(auto, unfolding(crate::specs::Statements::show_at))]
 pub fn show<'a>(so_far: &Draft, tokens: Tokens<'a>) -> Result<(Item, Tokens<'a>), Flaw>
     ensures { Gives seen result (show_at (drafted so_far.now) (cursor tokens.entry)) }
@@ -252,6 +263,7 @@ pub fn show<'a>(so_far: &Draft, tokens: Tokens<'a>) -> Result<(Item, Tokens<'a>)
 }
 
 /// `back N K`: let device N work until it made K accesses, at least 1, or is idle.
+#[inline(never)]
 #[tactic(auto, unfolding(crate::specs::Statements::back_at))]
 pub fn back<'a>(so_far: &Draft, tokens: Tokens<'a>) -> Result<(Item, Tokens<'a>), Flaw>
     ensures { Gives seen result (back_at (drafted so_far.now) (cursor tokens.entry)) }
@@ -263,6 +275,7 @@ pub fn back<'a>(so_far: &Draft, tokens: Tokens<'a>) -> Result<(Item, Tokens<'a>)
 }
 
 /// `serve N`: let device N work until it is idle.
+#[inline(never)]
 #[tactic(auto, unfolding(crate::specs::Statements::serve_at))]
 pub fn serve<'a>(so_far: &Draft, tokens: Tokens<'a>) -> Result<(Item, Tokens<'a>), Flaw>
     ensures { Gives seen result (serve_at (drafted so_far.now) (cursor tokens.entry)) }

@@ -13,6 +13,10 @@ pub record Cursor : Type 0 where
   pub past : ℕ
   pub tokens : List Piece
 
+-- behind so many octets of a line's code, with which a token ends
+abbrev pub cursor_at : ℕ → List ℕ → Cursor
+cursor_at read code = record { past = read + 1; tokens = tokens (read + 1) (drop read code) }
+
 -- behind this token
 abbrev pub behind : Piece → List Piece → Cursor
 behind t ts = record { past = t.column + length t.octets; tokens = ts }
@@ -35,7 +39,7 @@ abbrev pub token : Token → Piece
 token t = record { column = t.column; octets = t.octets.now }
 
 abbrev pub cursor : Tokens → Cursor
-cursor ts = record { past = ts.read + 1; tokens = tokens (ts.read + 1) (drop ts.read ts.code.now) }
+cursor ts = cursor_at ts.read ts.code.now
 
 abbrev pub seen_token : Token × Tokens → Piece × Cursor
 seen_token x = (token x.0, cursor x.1)

@@ -54,6 +54,7 @@ pub fn front_digits(base: u64, octets: &[u8]) -> Option<(u64, usize)>
 }
 
 /// The number below 2^64 that the octets before the first blank spell, if they do, and how many these octets are.
+#[inline(always)]
 pub fn front_number(octets: &[u8]) -> Option<(u64, usize)>
     ensures value { option_map (λ x. x.0) result ≡ in_64_bits (number_of (before_first is_blank octets.now)) }
     ensures len { IfSome result (λ x. x.1 ≡ position_or_len is_blank octets.now) }

@@ -69,7 +69,7 @@ impl<'a> Token<'a> {
 
 impl<'a> Tokens<'a> {
     ghost use Rattle.script_tokens.specs.Flaws.{Gives};
-    ghost use Rattle.script_tokens.specs.Cursors.{Cursor, cursor, seen, seen_token, first_of, next_of, StandsAt};
+    ghost use Rattle.script_tokens.specs.Cursors.{Cursor, cursor_at, cursor, seen, seen_token, first_of, next_of, StandsAt};
     ghost use Rattle.script_tokens.specs.Next.{number_at, between_at, below_at, keyword_at};
 
     /// The tokens of a line's code.
@@ -125,14 +125,17 @@ impl<'a> Tokens<'a> {
         })
     }
 
-    /// The next token as a number.
-    #[inline(always)]
-    pub fn number(self) -> Result<(Number, Tokens<'a>), Flaw>
-        ensures { Gives seen result (number_at (cursor self.entry)) }
+    /// The first token behind so many octets of a line's code as a number, and how many octets were read with it.
+    #[inline(never)]
+    fn read_number(code: &'a [u8], read: usize) -> Result<(Number, usize), Flaw>
+        requires within { read ≤ length code.now }
+        requires fits { length code.now < 2 ^ 32 - 1 }
+        ensures value { Gives (λ x. (x.0, cursor_at x.1 code.now)) result (number_at (cursor_at read code.now)) }
+        ensures bound { IfOk result (λ x. x.1 ≤ length code.now) }
     {
-        let Some((start, rest)) = self.start() else {
+        let Some((start, rest)) = (Tokens { code, read }).start() else {
             return Err(Flaw {
-                column: self.read as u32 + 1,
+                column: read as u32 + 1,
                 kind: FaultKind::MissingWord,
             });
         };
@@ -143,11 +146,20 @@ impl<'a> Tokens<'a> {
                 kind: FaultKind::BadNumber,
             });
         };
+        Ok((Number { column, value }, start + len))
+    }
+
+    /// The next token as a number.
+    #[inline(always)]
+    pub fn number(self) -> Result<(Number, Tokens<'a>), Flaw>
+        ensures { Gives seen result (number_at (cursor self.entry)) }
+    {
+        let (number, read) = Tokens::read_number(self.code, self.read)?;
         let tokens = Tokens {
             code: self.code,
-            read: start + len,
+            read,
         };
-        Ok((Number { column, value }, tokens))
+        Ok((number, tokens))
     }
 
     /// The next token as a number from `low` to `high`.

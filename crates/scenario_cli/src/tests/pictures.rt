@@ -110,7 +110,7 @@ fn pictures_have_the_marks_of_their_pixels(rt: HostRuntime) -> Result<(), Fail> 
         };
         let asked = shows(alloc, shape)?;
         let outcome = run_parts(alloc, &[TWO_PAGES, NODES, CONNECTS, asked.as_str()])?;
-        let pixels = sides.0 * sides.1;
+        let pixels = shape.sides.0.wrapping_mul(shape.sides.1);
         let mark = mark(shape);
         let wanted = format!(in alloc;
             "{CONNECTED}request 1 0 1 0\nreply 1 0 1 0\nrequest 1 0 2 2\nreply 1 0 2 0\nrequest 1 0 3 4\nreply 1 0 3 0\n\

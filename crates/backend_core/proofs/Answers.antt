@@ -43,7 +43,7 @@ denied_by other denied = denied
 -- rows always; and an accepted request, for which pages are mapped or not, stays in hand until its reply answers it.
 pub record Settles {Y V : Type 0} (t : Table Y V) (site : Site) : Type 1 where
   pub Fine : Y → Type 0
-  pub begun : (nodes : List NodeValue) → Fine (t.begun nodes)
+  pub begun : (y : Y) (nodes : List NodeValue) → Fine y → Fine (t.begun y nodes)
   pub taken : (y : Y) (part : ℕ) (words : List ℕ) → Fine y → Fine (t.taken y part words)
   pub dropped : (y : Y) → Fine y → Fine (t.dropped y)
   pub replied : (y : Y) (n : ℕ) (status : ℤ) → Fine y → Fine (t.replied y n status)
@@ -99,7 +99,7 @@ module _ {Y V : Type 0} (t : Table Y V) (site : Site) (law : Settles t site) whe
   says_calm old new told (said.Closed why) words x c =
       subst (λ (r : Rows Y V). IsCalm r) (sym x.1) (bare_calm _ refl refl (law.dropped old.service c.fine))
   says_calm old new told (said.State b) words x c =
-      subst (λ (r : Rows Y V). IsCalm r) (sym x.1) (bare_calm _ refl refl (law.begun old.bus.read))
+      subst (λ (r : Rows Y V). IsCalm r) (sym x.1) (bare_calm _ refl refl (law.begun old.service old.bus.read c.fine))
   says_calm old new told other words x c = own_calm old new told other x c
 
   moves_calm : (old new : Rows Y V) (touched : List Touch) (e : Event) → Moves t site old touched e new → IsCalm old → IsCalm new

@@ -23,11 +23,11 @@ use Rattle.device_core.specs.Told.{spoken}
 use Rattle.device_core.proofs.Single.{FindsBy, IsDoing, one_next}
 use Rattle.device_core.proofs.Stations.{AreHeard, AreOthers, due_heard, heard_made, made_append, others_follow, others_made, station_is, told_is_due}
 use Rattle.device_core.proofs.Telling.{told_all}
-use Rattle.device_service.specs.Claims.{first_station, first_view}
+use Rattle.device_service.specs.Claims.{first_view}
 use Rattle.device_service.specs.Reading.{reading, told_of}
 use Rattle.device_service.specs.Rows.{Event}
 use Rattle.device_service.specs.Truth.{IsSaidBy}
-use Rattle.device_service.specs.Work.{Work, End, choice, device}
+use Rattle.device_service.specs.Work.{Work, End, choice, device, first_station}
 use Rattle.device_service.proofs.Claims.{services_keep, services_run}
 use Rattle.device_service.proofs.Soundness.Work.{Lawful}
 use Rattle.device_service.proofs.Standing as standing
@@ -36,7 +36,7 @@ use Rattle.device_service.proofs.Truth.{services_tell_truly}
 use Rattle.display_backend.specs.declared.waiting.Waiting.{Waiting}
 use Rattle.display_backend.specs.Display as screen
 use Rattle.display_backend.specs.Kept.{facts}
-use Rattle.display_backend.specs.Service.{Ending, Known, Lines, display, shows, table}
+use Rattle.display_backend.specs.Service.{Ending, Known, Lines, display, nothing_known, shows, table}
 use Rattle.display_backend.specs.Waiting.{is_for}
 use Rattle.display_backend.proofs.Keeps.{keeps_laws}
 use Rattle.backend_core.specs.declared.device.Device.{Device}
@@ -44,8 +44,10 @@ use Rattle.backend_core.specs.declared.device.Device.TheVariants.{Display}
 use Rattle.backend_core.specs.Device as backend
 use Rattle.backend_core.specs.Device.{GoesOn, IsDisplay, MayMakeNext, StandsFor}
 use Rattle.backend_core.specs.History.{held_after, site_of}
-use Rattle.backend_core.specs.Kinds.{AnswersAll, Continues, IsExplained, IsMachineRun, IsSettled, IsShownBy, TellsTruly, display_station, due_after, first_snapshot, machine, made_after, owed_after, parts_of, takes_event, told_after, wants_memory}
+use Rattle.backend_core.specs.Kinds.{AnswersAll, Continues, IsExplained, IsMachineRun, IsSettled, IsShownBy, ShowsNamed, TellsTruly, display_events, display_station, due_after, first_snapshot, machine, made_after, owed_after, parts_of, takes_event, told_after, wants_memory}
 use Rattle.backend_core.proofs.Displays.{display_answers, display_shown}
+use Rattle.backend_core.proofs.Drawn.{display_takes}
+use Rattle.backend_core.proofs.Pictures.{display_names}
 
 abbrev DisplayWork : Type 0
 DisplayWork = Work Known Waiting
@@ -58,7 +60,7 @@ abbrev rules : Site → Rules DisplayWork DisplayEnd
 rules site = device display site
 
 abbrev first : Site → Station DisplayWork DisplayEnd
-first site = first_station display table shows site
+first site = first_station nothing_known
 
 pub along_front : {S E : Type 0} (step : S → E → S) (may : S → E → Type 0) (s : S) (es fs : List E) → Along step may s (es ++ fs) → Along step may s es
 along_front step may s [] fs h = tt
@@ -172,15 +174,15 @@ module _ (frames grants : ℕ → ℕ) (dom : ℕ) where
 
   -- a device's access is as what it holds allows, and leaves it holding what it makes of that
   pub step_holds : (k : DeviceKind) (es : List Own) (a : Access) (t : Option Said) → IsExplained k (site_as k) es → Continues k (site_as k) es (steps_of (Some a) t) → (note : Note) × IsProper frames grants dom (holds_as k es) (wanted a) note × (holds_as k (es ++ steps_of (Some a) t) ≡ holding frames (holds_as k es) note a)
-  step_holds (kind.Display n) es a t x h = standing.step_holds (lawful n) es a t x h
+  step_holds (kind.Display n) es a t x h = standing.step_holds (lawful n) nothing_known refl es a t x h
 
   -- where each access may be made that what a device holds allows, its next one may
   pub next_may : (may : Want → Type 0) (k : DeviceKind) (d : Device) (es : List Own) → ((want : Want) (note : Note) → IsProper frames grants dom (holds_as k es) want note → may want) → StandsFor k (site_as k) d es → IsExplained k (site_as k) es → MayMakeNext may (site_as k) d
   next_may may (kind.Display n) (Display d) es all s x =
-      subst (λ (y : Stand DisplayWork DisplayEnd). MayStep may (rules (site_as (kind.Display n))) y) (sym s.stands) (standing.next_may (lawful n) may es all x)
+      subst (λ (y : Stand DisplayWork DisplayEnd). MayStep may (rules (site_as (kind.Display n))) y) (sym s.stands) (standing.next_may (lawful n) nothing_known refl may es all x)
 
   pub runs : (k : DeviceKind) (es : List Own) → IsExplained k (site_as k) es → AreTrueTo (Words zeros) es → IsMachineRun k (site_as k) es
-  runs (kind.Display n) es x true_to = services_run display table shows facts keeps_laws frames grants dom n es x true_to
+  runs (kind.Display n) es x true_to = services_run display table shows facts keeps_laws frames grants dom n nothing_known es refl x true_to
 
   pub answers : (k : DeviceKind) (es : List Own) → IsExplained k (site_as k) es → AreTrueTo (Words zeros) es → AnswersAll k (site_as k) es
   answers (kind.Display n) es x true_to = λ before later now h q split front in_hand asks accepted.
@@ -188,12 +190,18 @@ module _ (frames grants : ℕ → ℕ) (dom : ℕ) where
       let run = runs (kind.Display n) es x true_to in
       display_answers site before later now run.0 h q (subst (λ (hs : List (Happening Event)). IsRun (HappensTo true (machine site)) first_snapshot hs run.0) split run.1) front in_hand asks accepted
 
+  pub names_shown : (k : DeviceKind) (es : List Own) → IsExplained k (site_as k) es → AreTrueTo (Words zeros) es → ShowsNamed k (site_as k) es
+  names_shown (kind.Display n) es x true_to =
+      let run = runs (kind.Display n) es x true_to in
+      let events = display_events (site_as (kind.Display n)) es in
+      (display_names (site_as (kind.Display n)) events run.0 run.1, display_takes (site_as (kind.Display n)) events run.0 run.1)
+
   pub keeps : (k : DeviceKind) (es : List Own) → IsExplained k (site_as k) es → KeepsToGrants frames grants dom (holds_of []) (made_after k (site_as k) es)
-  keeps (kind.Display n) es x = services_keep display table shows facts keeps_laws frames grants dom n es x
+  keeps (kind.Display n) es x = services_keep display table shows facts keeps_laws frames grants dom n nothing_known es refl x
 
   -- what it says is as the words show that it found
   pub truly : (k : DeviceKind) (es : List Own) → IsExplained k (site_as k) es → TellsTruly k (site_as k) es
-  truly (kind.Display n) es x = along_weaker found_next (IsSaidBy table (site_as (kind.Display n))) (IsShownBy (kind.Display n) (site_as (kind.Display n))) (display_shown n (site_as (kind.Display n))) nothing_found es (services_tell_truly display table shows facts keeps_laws frames grants dom n es x)
+  truly (kind.Display n) es x = along_weaker found_next (IsSaidBy table (site_as (kind.Display n))) (IsShownBy (kind.Display n) (site_as (kind.Display n))) (display_shown n (site_as (kind.Display n))) nothing_found es (services_tell_truly display table shows facts keeps_laws frames grants dom n nothing_known es refl x)
 
 -- a device steps within the work that it was made for
 pub may_weaker : (may also : Want → Type 0) → ((want : Want) → may want → also want) → (site : Site) (d : Device) → MayMakeNext may site d → MayMakeNext also site d

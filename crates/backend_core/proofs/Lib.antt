@@ -1,10 +1,16 @@
 pub mod Answers
+mod Changes
 pub mod Consequences
 mod Displays
+mod Drawn
 pub mod EachKind
+mod Going
 mod Hearing
 pub mod Histories
 mod Holding
 pub mod Items
 pub mod OneNext
+mod Outcomes
+mod Pending
+mod Pictures
 mod Truth

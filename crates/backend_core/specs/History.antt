@@ -136,6 +136,18 @@ TellsTrulyIn frames grants m s = kinds.TellsTruly s.kind (site_of frames grants 
 abbrev pub AnswersIn : (frames grants : ℕ → ℕ) → List Item → DeviceSetup → Type 0
 AnswersIn frames grants m s = kinds.AnswersAll s.kind (site_of frames grants s) (own s.dev.0 m)
 
+-- in each connection the flips of a connector are done in the order in which they were accepted
+abbrev pub InOrderIn : (frames grants : ℕ → ℕ) → List Item → DeviceSetup → Type 0
+InOrderIn frames grants m s = kinds.FlipsAreInOrder s.kind (site_of frames grants s) (own s.dev.0 m)
+
+-- nothing happens to a name that is gone
+abbrev pub AfterGoneIn : (frames grants : ℕ → ℕ) → List Item → DeviceSetup → Type 0
+AfterGoneIn frames grants m s = kinds.NothingAfterGone s.kind (site_of frames grants s) (own s.dev.0 m)
+
+-- each picture that it tells is of the framebuffer that was named last
+abbrev pub ShowsNamedIn : (frames grants : ℕ → ℕ) → List Item → DeviceSetup → Type 0
+ShowsNamedIn frames grants m s = kinds.ShowsNamed s.kind (site_of frames grants s) (own s.dev.0 m)
+
 -- Each access of a device to a cell lies in a page that it mapped and hasn't unmapped by then, so that none comes after the
 -- page is gone, and each that may write in one that it mapped for writing; each other access goes to a grant entry of its
 -- domain.

@@ -14,7 +14,6 @@ use Rattle.pv_words.specs.Found.{Found, nothing_found}
 use Rattle.displ_wire.specs.declared.Request.{Request}
 use Rattle.page_directory.specs.Laws as walk
 use Rattle.xenbus_states.specs.Bus.{first_bus}
-use Rattle.xenbus_states.specs.Nodes.{no_nodes}
 use Rattle.device_core.specs.Order as order
 use Rattle.device_core.specs.Learned.{found_next}
 use Rattle.device_core.specs.Order.{Own, Spoke, Station, at_rest, due_at, followed, made_by}
@@ -22,17 +21,21 @@ use Rattle.device_core.specs.Machine.{Happening, HappensTo, IsRun, Snapshot, Tab
 use Rattle.device_core.specs.Site.{Site}
 use Rattle.device_core.specs.Told.{told_by}
 use Rattle.device_service.specs.Claims as service
-use Rattle.device_service.specs.Claims.{first_station, first_view}
+use Rattle.device_service.specs.Claims.{first_view}
 use Rattle.device_service.specs.Reading.{reading, told_of}
 use Rattle.device_service.specs.declared.round.Hand.{Hand}
 use Rattle.device_service.specs.Rows.{Event, Rows}
 use Rattle.device_service.specs.Truth.{ShowsReason}
-use Rattle.device_service.specs.Work.{Work, End, device}
+use Rattle.device_service.specs.Work.{Work, End, device, first_station}
 use Rattle.display_backend.specs.declared.waiting.Waiting.{Waiting}
 use Rattle.display_backend.specs.Verdict.{is_creation, verdict}
-use Rattle.display_backend.specs.Service.{Ending, Known, Lines, display, shows, table}
+use Rattle.display_backend.specs.Service.{Ending, Known, Lines, display, no_lines, nothing_known, shows, table}
 use Rattle.display_backend.specs.Waiting.{is_for}
+use Rattle.backend_core.specs.AfterGone as names
 use Rattle.backend_core.specs.Answered.{Accepted, IsAnsweredIn}
+use Rattle.backend_core.specs.Drawn.{TakesLast}
+use Rattle.backend_core.specs.Flips.{FlipsKeepOrder}
+use Rattle.backend_core.specs.Pictures as pictures
 
 -- how many parts a device has: a display's connectors
 abbrev pub parts_of : DeviceKind → ℕ
@@ -44,7 +47,7 @@ takes_event (Display connectors) e = is_for connectors e
 
 -- where a display stands that has done and heard this since it was declared
 abbrev pub display_station : Site → List Own → Station (Work Known Waiting) (End Ending Waiting)
-display_station site es = after (followed (device display site)) (first_station display table shows site) es
+display_station site es = after (followed (device display site)) (first_station nothing_known) es
 
 -- behind what a device has done and heard, these are what its order of work gives next, one after another, with what may be
 -- heard at any moment
@@ -78,7 +81,7 @@ wants_memory (Display connectors) site es e = order.wants_at (device display sit
 
 -- its accesses, and what each is for
 abbrev pub made_after : DeviceKind → Site → List Own → List Made
-made_after (Display connectors) site es = made_by (device display site) (first_station display table shows site) es
+made_after (Display connectors) site es = made_by (device display site) (first_station nothing_known) es
 
 -- the display machine: its rows, the names that its replies make, and the refusals that it owes
 abbrev pub machine : Site → Table (Rows Lines Waiting) Event
@@ -88,7 +91,7 @@ machine site = (reading display table shows site).table
 abbrev pub first_snapshot : Snapshot (Rows Lines Waiting)
 first_snapshot =
     record {
-      rows = record { bus = first_bus; hand = None; replies = 0; waiting = []; service = table.begun no_nodes };
+      rows = record { bus = first_bus; hand = None; replies = 0; waiting = []; service = no_lines };
       names = [];
       touched = [];
       owes = None;
@@ -99,7 +102,7 @@ abbrev pub display_events : Site → List Own → List (Happening Event)
 display_events site es =
     history
     (device display site) (reading display table shows site)
-    (first_station display table shows site) (first_view display table shows site) es
+    (first_station nothing_known) (first_view display table shows site) es
 
 -- what the history of a device's machine tells of what the device said, heard and refused
 abbrev pub told_after : DeviceKind → Site → List Own → List Own
@@ -107,7 +110,7 @@ told_after (Display connectors) site es = told_by told_of (display_events site e
 
 -- what a device says and hears, with the words that are drawn, is a run of its machine
 abbrev pub IsMachineRun : DeviceKind → Site → List Own → Type 0
-IsMachineRun (Display connectors) site es = service.IsMachineRun display table shows site es
+IsMachineRun (Display connectors) site es = service.IsMachineRun display table shows site nothing_known es
 
 -- a request that a display accepted: pages are mapped for a CREATE
 abbrev pub accepted_of : Hand → Request → Accepted
@@ -120,8 +123,20 @@ AnswersAll (Display connectors) site es =
     (before later : List (Happening Event)) (now : Snapshot (Rows Lines Waiting)) (h : Hand) (q : Request)
     → display_events site es ≡ before ++ later
     → IsRun (HappensTo true (machine site)) first_snapshot before now
-    → now.rows.hand ≡ Some h → now.rows.service.request ≡ Some q → verdict now.rows.service.buffers q.asked ≡ pos 0
+    → now.rows.hand ≡ Some h → now.rows.service.request ≡ Some q → verdict now.rows.service.buffers now.rows.service.scene q.asked ≡ pos 0
     → IsAnsweredIn told_of (accepted_of h q) now.rows.service.denied later
+
+-- In each connection the flips of each connector are done in the order in which they were accepted.
+abbrev pub FlipsAreInOrder : DeviceKind → Site → List Own → Type 0
+FlipsAreInOrder (Display connectors) site es = FlipsKeepOrder (display_events site es)
+
+-- Nothing happens to a name of its machine that is gone.
+abbrev pub NothingAfterGone : DeviceKind → Site → List Own → Type 0
+NothingAfterGone (Display connectors) site es = names.NothingAfterGone (display_events site es)
+
+-- Each picture that a display tells is of the framebuffer that was named last, and each word that it takes is the one last written there.
+abbrev pub ShowsNamed : DeviceKind → Site → List Own → Type 0
+ShowsNamed (Display connectors) site es = pictures.ShowsNamed (display_events site es) × TakesLast (display_events site es)
 
 -- What it says is as these words show, where it says which index is too far, or why a map was refused: of a Connect, by which
 -- reference; of a CREATE, from which first page of the directory on.

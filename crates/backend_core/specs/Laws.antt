@@ -8,7 +8,7 @@ use Rattle.page_directory.specs.Same.{AreSame, times}
 use Rattle.device_core.specs.Order.{Own}
 use Rattle.backend_core.specs.declared.device.Device.{Device}
 use Rattle.backend_core.specs.Device.{StandsFor, MayMakeNext, held_of}
-use Rattle.backend_core.specs.History.{AnswersIn, IsHistory, IsMachineRunIn, IsPromptIn, KeepsIn, TellsIn, TellsTrulyIn}
+use Rattle.backend_core.specs.History.{AfterGoneIn, AnswersIn, InOrderIn, IsHistory, IsMachineRunIn, IsPromptIn, KeepsIn, TellsIn, TellsTrulyIn, ShowsNamedIn}
 use Rattle.backend_core.specs.History.{held_after, site_of}
 use Rattle.backend_core.specs.Kinds.{IsExplained}
 use Rattle.backend_core.specs.Marked.{Item}
@@ -19,6 +19,25 @@ HistoriesAreRuns =
     (frames grants : ℕ → ℕ) (devices : List DeviceSetup) (m : List Item) → IsHistory frames grants devices m
     → AllByRecursion (IsMachineRunIn frames grants m) devices × AllByRecursion (AnswersIn frames grants m) devices
     × AllByRecursion (KeepsIn frames grants m) devices
+
+-- The flips of a connector are done in the order in which they were accepted, by connection: no flip is left out, and at most the
+-- last is pending.
+abbrev pub FlipsAreInOrder : Type 0
+FlipsAreInOrder =
+    (frames grants : ℕ → ℕ) (devices : List DeviceSetup) (m : List Item) → IsHistory frames grants devices m
+    → AllByRecursion (InOrderIn frames grants m) devices
+
+-- No word of a name that is gone is taken, and no write to one is told.
+abbrev pub NothingComesAfterGone : Type 0
+NothingComesAfterGone =
+    (frames grants : ℕ → ℕ) (devices : List DeviceSetup) (m : List Item) → IsHistory frames grants devices m
+    → AllByRecursion (AfterGoneIn frames grants m) devices
+
+-- Each picture that a device tells is of the framebuffer that was named last, and each word of it the one that was last written there.
+abbrev pub PicturesAreNamed : Type 0
+PicturesAreNamed =
+    (frames grants : ℕ → ℕ) (devices : List DeviceSetup) (m : List Item) → IsHistory frames grants devices m
+    → AllByRecursion (ShowsNamedIn frames grants m) devices
 
 -- Each refusal of a map that a device tells is the one that the words of its last map show, and each request index that is too far
 -- is the word that its Look loaded.

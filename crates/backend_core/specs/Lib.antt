@@ -1,6 +1,10 @@
+pub mod AfterGone
 pub mod Answered
 pub mod Device
+pub mod Drawn
+pub mod Flips
 pub mod History
 pub mod Kinds
 pub mod Laws
 pub mod Marked
+pub mod Pictures

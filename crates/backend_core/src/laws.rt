@@ -1,12 +1,31 @@
 //! What is so of every journal of devices.
 
-ghost use Rattle.backend_core.specs.Laws.{FrontsAreHistories, HistoriesAreRuns, ListingSuffices};
-ghost use Rattle.backend_core.specs.Laws.{ReadingsTellAll, RefusalsAreShown, TellsWhatIsHeld};
+ghost use Rattle.backend_core.specs.Laws.{FlipsAreInOrder, FrontsAreHistories, HistoriesAreRuns, ListingSuffices};
+ghost use Rattle.backend_core.specs.Laws.{NothingComesAfterGone, PicturesAreNamed, ReadingsTellAll, RefusalsAreShown, TellsWhatIsHeld};
 
 /// Whatever was played, what a device said and heard is a run of its machine, its accepted requests are answered, and each of
 /// its accesses lies in a page that it mapped and holds.
 pub fn histories_are_runs()
     ensures { HistoriesAreRuns }
+{}
+
+/// In each connection of a display the flips of a connector are done in the order in which they were accepted, and none is left
+/// out: at each moment all accepted ones are done, or all but the last, which is pending.
+pub fn flips_are_in_order()
+    ensures { FlipsAreInOrder }
+{}
+
+/// Once a name of a buffer is gone, no word of it is taken, and no write to one is told.
+pub fn nothing_comes_after_gone()
+    ensures { NothingComesAfterGone }
+{}
+
+/// Each time that a display says what a connector shows, the pixels and their mark are those of the framebuffer that the last accepted
+/// SET_CONFIG of this connection named, or the last flip that was raised while its mark stood, whichever came later, in the rectangle of
+/// that SET_CONFIG, as the words of its buffer's name were found that were taken, each the last that anybody wrote there; none, where
+/// no framebuffer is named, or where it was detached since.
+pub fn pictures_are_named()
+    ensures { PicturesAreNamed }
 {}
 
 /// Each refusal of a map that a device tells, to a request or where its connection is closed, is the one that the words of its

@@ -1,6 +1,4 @@
-ghost use Rattle.std.specs.Prelude.{◌≡◌, true, None};
-ghost use Rattle.std.proofs.Common.{inl, refl};
-ghost use Rattle.std.proofs.lemmas.Bool.{false≢true};
+ghost use Rattle.std.specs.Prelude.{◌≡◌, ◌≤◌};
 
 use super::*;
 use device_core::Step;
@@ -8,60 +6,38 @@ use display_backend::Display;
 use pv_words::{
     DevId, DomId, Half, HostEvent, HostRefusal, NodeValue, Place, Reason, Said, State, Words,
 };
+use std::alloc::{AllocError, Global};
 use std::test::Fail;
 use xenbus_states::Nodes;
 
 // Domain 1 with eight frames, each of which its grant entry of the same number permits. All words of frames are 0.
-#[derive(Drop)]
-struct Domain {
-    frames: u32,
-}
+#[derive(Clone, Copy)]
+struct Domain;
 
 impl Words for Domain {
-    ghost use Rattle.std.specs.Prelude.{◌≡◌, true, None, false};
-    ghost use Rattle.pv_words.specs.Port.{no_listing};
-    ghost use Rattle.pv_words.specs.declared.access.Access.TheVariants.{Load, Store, Cas, Clear};
+    ghost use Rattle.std.proofs.Common.{refl};
+    ghost use Rattle.pv_words.specs.FreePort.{free_port};
+    ghost use Rattle.pv_words.proofs.FreePort.{stays_free, finds_any};
 
-    ghost frames_of = { λ w d. w.frames };
+    ghost frames_of = { λ w d. 8 };
 
-    ghost grants_of = { λ w d. w.frames };
+    ghost grants_of = { λ w d. 8 };
 
-    ghost port = { λ w. record {
-      device = None;
-      serves = λ dom. true;
-      everywhere = true;
-      keeps = λ dom. false;
-      opens = λ dom gref. None;
-      listed = λ d. no_listing;
-      told = λ at. None;
-    } };
+    ghost port = { λ w. free_port };
 
     ghost may = { λ w want. Unit {0} };
 
-    ghost makes = { λ old a new. new.frames ≡ old.frames };
+    ghost makes = { λ old a new. Unit {0} };
 
-    ghost keeps_frames = { λ old a new made d. made };
+    ghost keeps_frames = { λ old a new made d. refl };
 
-    ghost keeps_grants = { λ old a new made d. made };
+    ghost keeps_grants = { λ old a new made d. refl };
 
     ghost allows = { λ w want h. tt };
 
-    ghost leaves = { λ old a new made. record {
-      device = refl;
-      serves = λ dom. refl;
-      everywhere = refl;
-      keeps = λ dom. refl;
-      opens = λ dom gref e. absurd (false≢true e);
-      told = λ at v range e unwritten learns. absurd (false≢true e);
-      listed = inl (refl, λ dom. refl);
-    } };
+    ghost leaves = { λ old a new made. stays_free _ _ a };
 
-    ghost tells = { λ old. elim [
-      | Load at v ↦ λ new made. (tt, tt)
-      | Store at v ↦ λ new made. tt
-      | Cas at from to seen ↦ λ new made. (tt, tt)
-      | Clear at mask seen ↦ λ new made. (tt, tt)
-    ] };
+    ghost tells = { λ old a new made. finds_any a };
 
     fn load(&mut self, at: Place) -> u32 {
         match at {
@@ -82,11 +58,11 @@ impl Words for Domain {
     }
 
     fn frames(&self, _dom: DomId) -> u32 {
-        self.frames
+        8
     }
 
     fn grants(&self, _dom: DomId) -> u32 {
-        self.frames
+        8
     }
 }
 
@@ -113,6 +89,15 @@ fn answer(device: &mut Device, e: HostEvent) -> Option<Result<(), HostRefusal>> 
     Some(device.host(e))
 }
 
+// A display of so many connectors.
+fn declared(alloc: Global, connectors: u8) -> Result<Box<Device>, AllocError>
+    requires some { 1 ≤ connectors }
+    requires few { connectors ≤ 4 }
+{
+    let display = Display::new(alloc, DevId(1), DomId(1), connectors)?;
+    Ok(Box::new(alloc, Device::Display(display))?)
+}
+
 fn says(said: Said) -> Step {
     Step {
         access: None,
@@ -122,8 +107,8 @@ fn says(said: Said) -> Step {
 
 #[test]
 fn a_display_does_the_events_of_its_host(rt: HostRuntime) -> Result<(), Fail> {
-    let mut words = Domain { frames: 8 };
-    let mut device = Device::Display(Display::new(rt.alloc(), DevId(1), DomId(1), 2)?);
+    let mut words = Domain;
+    let mut device = declared(rt.alloc(), 2)?;
     let not_connected = Some(Err(HostRefusal::NotConnected));
     assert_eq!(rt; answer(&mut device, HostEvent::Blank(2)), None);
     assert_eq!(rt; answer(&mut device, HostEvent::Tick(0, 1)), None);
@@ -163,8 +148,8 @@ fn a_display_does_the_events_of_its_host(rt: HostRuntime) -> Result<(), Fail> {
 
 #[test]
 fn a_closed_connection_takes_its_events_away(rt: HostRuntime) -> Result<(), Fail> {
-    let mut words = Domain { frames: 8 };
-    let mut device = Device::Display(Display::new(rt.alloc(), DevId(1), DomId(1), 1)?);
+    let mut words = Domain;
+    let mut device = declared(rt.alloc(), 1)?;
     let mut nodes = Nodes::new();
     for key in 0..4 {
         nodes.set(0, key, NodeValue::Number(key as u32));

@@ -1,12 +1,11 @@
 -- A picture lies in the framebuffer that it is of.
-use Rattle.std.proofs.Common.{◌≡◌, ℕ, ◌+◌, true, ◌&&◌, ◌==◌, nat_lt, nat_le, List, Option, Some, None, IsSomeAnd, refl, subst}
+use Rattle.std.proofs.Common.{◌≡◌, ℕ, ◌+◌, true, ◌&&◌, ◌==◌, nat_lt, nat_le, Option, Some, None, IsSomeAnd, refl, subst}
 use Rattle.std.proofs.lemmas.Bool.{and_parts, leb-true, ltb-true}
-use Rattle.framebuffers.specs.declared.frame.Framebuffer.{Framebuffer}
-use Rattle.framebuffers.specs.Frames.{frame_of}
+use Rattle.displ_wire.specs.declared.framebuffer.Framebuffer.{Framebuffer}
 use Rattle.connectors.specs.declared.connector.Picture.{Picture}
 use Rattle.connectors.specs.declared.rectangle.Rectangle.{Rectangle}
 use Rattle.connectors.specs.Connectors.{has_area, lies_in, picture_in}
-use Rattle.connectors.specs.Laws.{CanShow, Shows}
+use Rattle.connectors.specs.Laws.{CanShow, Frames, Shows}
 
 abbrev part_of : ℕ → Rectangle → Picture
 part_of fb r = record { fb = fb; x = r.x; y = r.y; width = r.width; height = r.height }
@@ -27,9 +26,9 @@ found_shown : (fb : ℕ) (r : Rectangle) (o : Option Framebuffer) → has_area r
 found_shown fb r None area h = absurd h
 found_shown fb r (Some f) area h = part_shown fb r f area h
 
-pub picture_shown : (fs : List Framebuffer) (o : Option Rectangle) (shown : Option ℕ) (p : Picture) → ((r : Rectangle) → o ≡ Some r → has_area r ≡ true) → ((fb : ℕ) → shown ≡ Some fb → CanShow fs o fb) → picture_in o shown ≡ Some p → IsSomeAnd (frame_of p.fb fs) (Shows p)
-picture_shown fs None shown p pixels can e = absurd (cc)
-picture_shown fs (Some r) None p pixels can e = absurd (cc)
-picture_shown fs (Some r) (Some fb) p pixels can e =
+pub picture_shown : (live : Frames) (o : Option Rectangle) (shown : Option ℕ) (p : Picture) → ((r : Rectangle) → o ≡ Some r → has_area r ≡ true) → ((fb : ℕ) → shown ≡ Some fb → CanShow live o fb) → picture_in o shown ≡ Some p → IsSomeAnd (live p.fb) (Shows p)
+picture_shown live None shown p pixels can e = absurd (cc)
+picture_shown live (Some r) None p pixels can e = absurd (cc)
+picture_shown live (Some r) (Some fb) p pixels can e =
     let same : part_of fb r ≡ p = cc in
-    subst (λ (q : Picture). IsSomeAnd (frame_of q.fb fs) (Shows q)) same (found_shown fb r (frame_of fb fs) (pixels r refl) (can fb refl))
+    subst (λ (q : Picture). IsSomeAnd (live q.fb) (Shows q)) same (found_shown fb r (live fb) (pixels r refl) (can fb refl))

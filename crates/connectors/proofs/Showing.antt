@@ -1,20 +1,16 @@
 -- What a connector can show is kept by each request and each blank.
-use Rattle.std.proofs.Common.{◌≡◌, ◌≢◌, ℕ, Bool, true, false, cond, ◌&&◌, ◌==◌, List, Option, Some, None, option_map, Result, Ok, Err, IsSomeAnd, refl, sym, ap, subst}
+use Rattle.std.proofs.Common.{◌≡◌, ◌≢◌, ℕ, Bool, true, false, cond, ◌&&◌, ◌==◌, Option, Some, None, option_map, Result, Ok, Err, IsSomeAnd, refl, sym, ap, subst}
 use Rattle.std.proofs.lemmas.Bool.{and_parts, eqb-false}
 use Rattle.displ_wire.specs.Wire.{all_zero}
-use Rattle.displ_wire.specs.declared.Attach.{Attach}
 use Rattle.displ_wire.specs.declared.Config.{Config}
-use Rattle.displ_wire.specs.declared.buffer.Buffer.{Buffer}
 use Rattle.displ_wire.specs.declared.buffer.Refused.{Refused}
 use Rattle.displ_wire.specs.declared.buffer.Refused.TheVariants.{Invalid}
-use Rattle.framebuffers.specs.declared.frame.Framebuffer.{Framebuffer}
-use Rattle.framebuffers.specs.Frames.{frame_of, with_frame, without_frame}
-use Rattle.framebuffers.proofs.Found.{found_elsewhere, found_still}
+use Rattle.displ_wire.specs.declared.framebuffer.Framebuffer.{Framebuffer}
 use Rattle.connectors.specs.declared.connector.Connector.{Connector}
 use Rattle.connectors.specs.declared.connector.Flip.{Flip}
 use Rattle.connectors.specs.declared.rectangle.Rectangle.{Rectangle}
 use Rattle.connectors.specs.Connectors.{after_blank, config_check, after_config, after_detach, flip_check, after_flip, frame_check, has_area, is_shown_by, lies_in, other_than, pending_check, pending_of, rectangle_of, shown_after, without_mark, without_mark_at}
-use Rattle.connectors.specs.Laws.{CanShow, IsSound}
+use Rattle.connectors.specs.Laws.{CanShow, Frames, IsSound, StayBut, StayLive}
 
 abbrev pub marked_flip : ℕ → Flip
 marked_flip fb = record { fb = fb; marked = true }
@@ -36,17 +32,17 @@ still_shown None new r kept h = absurd h
 still_shown (Some f) new r kept h = subst (λ (o : Option Framebuffer). IsSomeAnd o (λ g. is_shown_by r g ≡ true)) (sym (kept f refl)) h
 
 -- ATTACH
-pub attached_sound : (fs : List Framebuffer) (c : Connector) (a : Attach) (buffer : Option Buffer) → IsSound fs c → IsSound (with_frame fs a buffer) c
-attached_sound fs c a buffer s = record {
+pub attached_sound : (old new : Frames) (c : Connector) → IsSound old c → StayLive old new → IsSound new c
+attached_sound old new c s stay = record {
   has_pixels = s.has_pixels;
-  shown = λ fb e. still_shown (frame_of fb fs) (frame_of fb (with_frame fs a buffer)) c.rectangle (found_still fs a buffer fb) (s.shown fb e);
-  marked = λ fb e. still_shown (frame_of fb fs) (frame_of fb (with_frame fs a buffer)) c.rectangle (found_still fs a buffer fb) (s.marked fb e);
+  shown = λ fb e. still_shown (old fb) (new fb) c.rectangle (stay fb) (s.shown fb e);
+  marked = λ fb e. still_shown (old fb) (new fb) c.rectangle (stay fb) (s.marked fb e);
 }
 
 -- DETACH
-elsewhere_shown : (fs : List Framebuffer) (r : Option Rectangle) (fb other : ℕ) → other ≢ fb → CanShow fs r other → CanShow (without_frame fb fs) r other
-elsewhere_shown fs r fb other apart h =
-    subst (λ (o : Option Framebuffer). IsSomeAnd o (λ f. is_shown_by r f ≡ true)) (sym (found_elsewhere fs fb other apart)) h
+elsewhere_shown : (old new : Frames) (r : Option Rectangle) (fb other : ℕ) → StayBut fb old new → other ≢ fb → CanShow old r other → CanShow new r other
+elsewhere_shown old new r fb other stay apart h =
+    subst (λ (o : Option Framebuffer). IsSomeAnd o (λ f. is_shown_by r f ≡ true)) (sym (stay other apart)) h
 
 apart_if : (fb other : ℕ) → (other == fb) ≡ false → other ≢ fb
 apart_if fb other e = eqb-false other fb e
@@ -69,15 +65,15 @@ other_marked fb other (Some p) e = by_test (p.fb == fb) refl (cc)
     by_test true test h = no_mark p other h
     by_test false test h = (ap (λ q. Some q) h, subst (λ n. n ≢ fb) (ap (λ (q : Flip). q.fb) h) (apart_if fb p.fb test))
 
-pub detached_sound : (fs : List Framebuffer) (c : Connector) (fb : ℕ) → IsSound fs c → IsSound (without_frame fb fs) (after_detach fb c)
-detached_sound fs c fb s = record {
+pub detached_sound : (old new : Frames) (c : Connector) (fb : ℕ) → IsSound old c → StayBut fb old new → IsSound new (after_detach fb c)
+detached_sound old new c fb s stay = record {
   has_pixels = s.has_pixels;
   shown = λ other e.
       let kept = other_shown fb other c.shown e in
-      elsewhere_shown fs c.rectangle fb other kept.1 (s.shown other kept.0);
+      elsewhere_shown old new c.rectangle fb other stay kept.1 (s.shown other kept.0);
   marked = λ other e.
       let kept = other_marked fb other c.flip e in
-      elsewhere_shown fs c.rectangle fb other kept.1 (s.marked other kept.0);
+      elsewhere_shown old new c.rectangle fb other stay kept.1 (s.marked other kept.0);
 }
 
 -- SET_CONFIG
@@ -95,23 +91,23 @@ checked_frame asked (Some f) h =
     (is_valid (has_area (rectangle_of asked) && lies_in (rectangle_of asked) f) h)
 
 -- what is shown, and nothing marked
-bare : (fs : List Framebuffer) (o : Option Rectangle) (shown : Option ℕ) (flip : Option Flip) → ((r : Rectangle) → o ≡ Some r → has_area r ≡ true) → ((fb : ℕ) → shown ≡ Some fb → CanShow fs o fb) → IsSound fs (record { rectangle = o; shown = shown; flip = option_map without_mark flip })
-bare fs o shown flip pixels can = record { has_pixels = pixels; shown = can; marked = λ fb e. none_marked flip fb e }
+bare : (live : Frames) (o : Option Rectangle) (shown : Option ℕ) (flip : Option Flip) → ((r : Rectangle) → o ≡ Some r → has_area r ≡ true) → ((fb : ℕ) → shown ≡ Some fb → CanShow live o fb) → IsSound live (record { rectangle = o; shown = shown; flip = option_map without_mark flip })
+bare live o shown flip pixels can = record { has_pixels = pixels; shown = can; marked = λ fb e. none_marked flip fb e }
 
-pub configured_sound : (fs : List Framebuffer) (c : Connector) (asked : Config) → config_check asked (frame_of asked.fb_cookie fs) ≡ Ok tt → IsSound fs (after_config c asked)
-configured_sound fs c asked h = by_test (all_zero asked) h
+pub configured_sound : (live : Frames) (c : Connector) (asked : Config) → config_check asked (live asked.fb_cookie) ≡ Ok tt → IsSound live (after_config c asked)
+configured_sound live c asked h = by_test (all_zero asked) h
   where
-    by_test : (t : Bool) → cond t accepted (frame_check asked (frame_of asked.fb_cookie fs)) ≡ accepted → IsSound fs (cond t (record { rectangle = None; shown = None; flip = option_map without_mark c.flip }) (record { rectangle = Some (rectangle_of asked); shown = Some asked.fb_cookie; flip = option_map without_mark c.flip }))
-    by_test true g = bare fs None None c.flip (λ r e. absurd (cc)) (λ fb e. absurd (cc))
+    by_test : (t : Bool) → cond t accepted (frame_check asked (live asked.fb_cookie)) ≡ accepted → IsSound live (cond t (record { rectangle = None; shown = None; flip = option_map without_mark c.flip }) (record { rectangle = Some (rectangle_of asked); shown = Some asked.fb_cookie; flip = option_map without_mark c.flip }))
+    by_test true g = bare live None None c.flip (λ r e. absurd (cc)) (λ fb e. absurd (cc))
     by_test false g =
-        let checked = checked_frame asked (frame_of asked.fb_cookie fs) g in
-        bare fs (Some (rectangle_of asked)) (Some asked.fb_cookie) c.flip
+        let checked = checked_frame asked (live asked.fb_cookie) g in
+        bare live (Some (rectangle_of asked)) (Some asked.fb_cookie) c.flip
         (λ r e.
         let same : rectangle_of asked ≡ r = cc in
         subst (λ (q : Rectangle). has_area q ≡ true) same checked.0)
         (λ fb e.
         let same : asked.fb_cookie ≡ fb = cc in
-        subst (λ n. CanShow fs (Some (rectangle_of asked)) n) same checked.1)
+        subst (λ n. CanShow live (Some (rectangle_of asked)) n) same checked.1)
 
 -- FLIP
 shown_by_flip : (c : Connector) (o : Option Framebuffer) → flip_check c o ≡ Ok tt → IsSomeAnd o (λ f. is_shown_by c.rectangle f ≡ true)
@@ -122,13 +118,13 @@ shown_by_flip c (Some f) h = inside (is_shown_by c.rectangle f) (pending_check c
     inside true r h = refl
     inside false r h = absurd (cc)
 
-pub flipped_sound : (fs : List Framebuffer) (c : Connector) (fb : ℕ) → IsSound fs c → flip_check c (frame_of fb fs) ≡ Ok tt → IsSound fs (after_flip c fb)
-flipped_sound fs c fb s h = record {
+pub flipped_sound : (live : Frames) (c : Connector) (fb : ℕ) → IsSound live c → flip_check c (live fb) ≡ Ok tt → IsSound live (after_flip c fb)
+flipped_sound live c fb s h = record {
   has_pixels = s.has_pixels;
   shown = s.shown;
   marked = λ other e.
       let as_flips : marked_flip fb ≡ marked_flip other = cc in
-      subst (λ n. CanShow fs c.rectangle n) (ap (λ (q : Flip). q.fb) as_flips) (shown_by_flip c (frame_of fb fs) h);
+      subst (λ n. CanShow live c.rectangle n) (ap (λ (q : Flip). q.fb) as_flips) (shown_by_flip c (live fb) h);
 }
 
 -- a blank
@@ -143,10 +139,10 @@ shown_then A (Some p) shown is_shown is_marked fb e = by_test p.marked refl e
         subst A same (is_marked p.fb (ap (λ q. Some q) whole))
     by_test false mark h = is_shown fb h
 
-pub blanked_sound : (fs : List Framebuffer) (c : Connector) → IsSound fs c → IsSound fs (after_blank c)
-blanked_sound fs c s = record {
+pub blanked_sound : (live : Frames) (c : Connector) → IsSound live c → IsSound live (after_blank c)
+blanked_sound live c s = record {
   has_pixels = s.has_pixels;
-  shown = shown_then (CanShow fs c.rectangle) c.flip c.shown s.shown s.marked;
+  shown = shown_then (CanShow live c.rectangle) c.flip c.shown s.shown s.marked;
   marked = λ fb e. absurd (cc);
 }
 

@@ -6,7 +6,7 @@ use Rattle.displ_wire.specs.Wire.{all_zero}
 use Rattle.displ_wire.specs.declared.Config.{Config}
 use Rattle.displ_wire.specs.declared.buffer.Refused.{Refused}
 use Rattle.displ_wire.specs.declared.buffer.Refused.TheVariants.{Invalid, Pending, Unknown}
-use Rattle.framebuffers.specs.declared.frame.Framebuffer.{Framebuffer}
+use Rattle.displ_wire.specs.declared.framebuffer.Framebuffer.{Framebuffer}
 use Rattle.connectors.specs.declared.connector.Connector.{Connector}
 use Rattle.connectors.specs.declared.connector.Flip.{Flip}
 use Rattle.connectors.specs.declared.connector.Picture.{Picture}

@@ -5,8 +5,7 @@ ghost use Rattle.connectors.specs.Connectors.{after_blank, config_check, after_c
 ghost use Rattle.connectors.specs.Connectors.{flip_check, after_flip, is_shown_by, pending_of, picture_of, without_mark};
 
 use crate::rectangle::Rectangle;
-use displ_wire::{Config, Refused, is_zero};
-use framebuffers::Framebuffer;
+use displ_wire::{Config, Framebuffer, Refused, is_zero};
 
 /// A flip that is to come, at the next blank with room for its event.
 #[derive(Clone, Copy, Debug, PartialEq, Eq)]

@@ -3,8 +3,8 @@
 ghost use Rattle.connectors.specs.Laws.{FlipsWait, PicturesInside, StaysSound};
 
 /// The cookie that a connector shows, and that of a flip whose mark stands, is a live framebuffer in which the rectangle lies,
-/// with as many bits a pixel: it is so at first, and an accepted ATTACH, a DETACH, an accepted SET_CONFIG or FLIP, and a blank
-/// keep it so.
+/// with as many bits a pixel: it is so at first, and what an ATTACH does (no framebuffer goes or changes), a DETACH (none changes
+/// but that of its cookie), an accepted SET_CONFIG or FLIP, and a blank keep it so.
 pub fn stays_sound()
     ensures { StaysSound }
 {}

@@ -1,7 +1,6 @@
 //! Rectangles of framebuffers.
 
-use displ_wire::Config;
-use framebuffers::Framebuffer;
+use displ_wire::{Config, Framebuffer};
 
 /// The part of a framebuffer that a connector shows.
 #[derive(Clone, Copy, Debug, PartialEq, Eq)]

@@ -1,6 +1,5 @@
 use super::*;
-use displ_wire::{Config, Refused};
-use framebuffers::Framebuffer;
+use displ_wire::{Config, Framebuffer, Refused};
 
 const NONE: Config = Config {
     fb_cookie: 0,

@@ -69,11 +69,11 @@ connecting_joins p e = joined_none p (connects_apart (doing_of p) e)
 pub connecting_in : (a : Activity) (opened : Bool) (d : Doing) (at : ℕ) (hand : Option Hand) → a ≡ activity.Connecting → StandsAs a opened d at hand → connects d ≡ true
 connecting_in a opened d at hand e s = subst (λ (x : Activity). StandsAs x opened d at hand) e s
 
-pub goes_on : (done : Outcomes) (d : Doing) → done ≡ None → Ends done d → connects d ≡ true
-goes_on done d e c = subst (λ (o : Outcomes). Ends o d) e c
+pub goes_on : (end : Outcomes) (d : Doing) → end ≡ None → Ends end d → connects d ≡ true
+goes_on end d e c = subst (λ (o : Outcomes). Ends o d) e c
 
-pub refused_bare : (done : Outcomes) (why : GrantRefusal) (d : Doing) → done ≡ Some (Err why) → Ends done d → d ≡ doing.Bare
-refused_bare done why d e c = subst (λ (o : Outcomes). Ends o d) e c
+pub refused_bare : (end : Outcomes) (why : GrantRefusal) (d : Doing) → end ≡ Some (Err why) → Ends end d → d ≡ doing.Bare
+refused_bare end why d e c = subst (λ (o : Outcomes). Ends o d) e c
 
 pub known_connecting : {X : Type 0} (stripped : X → X) (a : Activity) (x : X) → a ≡ activity.Connecting → known_in stripped (is_leaving a) x ≡ x
 known_connecting stripped a x e = ap (λ (b : Activity). known_in stripped (is_leaving b) x) e
@@ -105,7 +105,7 @@ module _ {X A V : Type 0} (s : Service X A V) (site : Site) where
   went_still w (Make want note more) u = (refl, refl)
 
   -- all parts are connected
-  pub met_as : (w : Work X V) (js : List Joined) (k : Connection) (es : List V) (y : X) → k ≡ moved_to w.connection state.Connected → es ≡ [] → y ≡ s.begun w.read → record w { connection = k; connecting = false; closing = false; parts = js; kept = None; hand = None; left = 0; round = Looks 0 false; waiting = es; service = y } ≡ settled s site w (Met js)
+  pub met_as : (w : Work X V) (js : List Joined) (k : Connection) (es : List V) (y : X) → k ≡ moved_to w.connection state.Connected → es ≡ [] → y ≡ s.begun w.service w.read → record w { connection = k; connecting = false; closing = false; parts = js; kept = None; hand = None; left = 0; round = Looks 0 false; waiting = es; service = y } ≡ settled s site w (Met js)
   unfolding settled
   met_as w js k es y e f h =
       ap (λ (x : Connection). record w { connection = x; connecting = false; closing = false; parts = js; kept = None; hand = None; left = 0; round = Looks 0 false; waiting = es; service = y }) e

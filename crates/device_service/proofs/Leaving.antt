@@ -77,7 +77,7 @@ module _ {X A V : Type 0} (s : Service X A V) where
       ∙ ap (λ (x : X). record w { connecting = false; closing = true; parts = []; kept = None; hand = None; service = x }) f
 
   -- a state is taken
-  pub entered_as : (w : Work X V) (b : State) (k : Connection) (es : List V) (y : X) → k ≡ moved_to w.connection b → es ≡ [] → y ≡ s.begun w.read → record w { connection = k; connecting = false; closing = false; hand = None; waiting = es; service = y } ≡ entered s w b
+  pub entered_as : (w : Work X V) (b : State) (k : Connection) (es : List V) (y : X) → k ≡ moved_to w.connection b → es ≡ [] → y ≡ s.begun w.service w.read → record w { connection = k; connecting = false; closing = false; hand = None; waiting = es; service = y } ≡ entered s w b
   entered_as w b k es y e f h =
       ap (λ (x : Connection). record w { connection = x; connecting = false; closing = false; hand = None; waiting = es; service = y }) e
       ∙ (ap (λ xs. record w { connection = moved_to w.connection b; connecting = false; closing = false; hand = None; waiting = xs; service = y }) f
@@ -128,14 +128,13 @@ pub none_held : (hs ks : List Hold) → hs ≡ [] → ks ≡ [] → hs ++ ks ≡
 none_held hs ks e f = ap (λ (xs : List Hold). xs ++ ks) e ∙ f
 
 -- a backend when it is declared
-pub new_work : {X A V : Type 0} (s : Service X A V) (k : Connection) (seen read : List NodeValue) (js : List Joined) (es : List V) (x : X) → k ≡ first_connection → seen ≡ no_nodes → read ≡ no_nodes → js ≡ [] → es ≡ [] → x ≡ s.begun no_nodes → record (first_work s) { connection = k; seen = seen; read = read; parts = js; waiting = es; service = x } ≡ first_work s
-new_work s k seen read js es x a b c d e f =
-    ap (λ y. record (first_work s) { connection = y; seen = seen; read = read; parts = js; waiting = es; service = x }) a
-    ∙ (ap (λ y. record (first_work s) { seen = y; read = read; parts = js; waiting = es; service = x }) b
-    ∙ (ap (λ y. record (first_work s) { read = y; parts = js; waiting = es; service = x }) c
-    ∙ (ap (λ y. record (first_work s) { parts = y; waiting = es; service = x }) d
-    ∙ (ap (λ y. record (first_work s) { waiting = y; service = x }) e
-    ∙ ap (λ y. record (first_work s) { service = y }) f))))
+pub new_work : {X V : Type 0} (k : Connection) (seen read : List NodeValue) (js : List Joined) (es : List V) (x : X) → k ≡ first_connection → seen ≡ no_nodes → read ≡ no_nodes → js ≡ [] → es ≡ [] → record (first_work x) { connection = k; seen = seen; read = read; parts = js; waiting = es } ≡ first_work x
+new_work k seen read js es x a b c d e =
+    ap (λ y. record (first_work x) { connection = y; seen = seen; read = read; parts = js; waiting = es }) a
+    ∙ (ap (λ y. record (first_work x) { seen = y; read = read; parts = js; waiting = es }) b
+    ∙ (ap (λ y. record (first_work x) { read = y; parts = js; waiting = es }) c
+    ∙ (ap (λ y. record (first_work x) { parts = y; waiting = es }) d
+    ∙ ap (λ y. record (first_work x) { waiting = y }) e)))
 
 -- a service between two activities holds the pages of what it knows
 module _ {S X : Type 0} (pages : X → List Hold) (knows : S → X) (holds : S → List Hold) (going : S → Bool) (same : (s : S) → going s ≡ false → holds s ≡ pages (knows s)) (s : S) (idle : going s ≡ false) (n : ℕ) (count : n ≡ length (holds s)) where

@@ -11,6 +11,7 @@ use Rattle.page_directory.specs.Same.{AreSame, times}
 use Rattle.xenbus_states.specs.declared.back.Action.{Action}
 use Rattle.xenbus_states.specs.declared.back.Action.TheVariants as action
 use Rattle.xenbus_states.specs.Connection.{action_of}
+use Rattle.xenbus_states.specs.Nodes.{no_nodes}
 use Rattle.link_core.specs.Activities.{Joined}
 use Rattle.device_core.specs.Learned.{Learned, learned_of, learning}
 use Rattle.device_core.specs.Machine as machine
@@ -23,7 +24,7 @@ use Rattle.xenbus_states.specs.Needs.{first_fault}
 use Rattle.device_service.specs.Nodes.{Kind, needs_of, refs_from}
 use Rattle.link_core.specs.Raise.{limit}
 use Rattle.device_service.specs.Reading.{Naming, begins_by, begins_of, begins_owed, begins_pays, begins_state, begins_with, first_naming}
-use Rattle.device_service.specs.Service.{Owed}
+use Rattle.device_service.specs.Service.{IsFresh, Owed}
 use Rattle.device_service.specs.Work.{Work, End, Left, Renewed, all_pages, beginning, choice, connect_all, device, entered, first_work, pays, settled, told, with_action, with_closing, with_kept, with_owed, with_state}
 use Rattle.xenbus_states.proofs.Actions.{connects_apart, closes_asked, renews_again, closed_apart}
 use Rattle.device_service.proofs.Soundness.Begins.{BeginsSo, begins_leaving, chosen, opened_at, plain_fits, same_work, shown_of}
@@ -60,7 +61,7 @@ module _ {X A V Y M : Type 0} (D : Lawful X A V Y M) where
     -- the same where nothing is held for the service
     told_bare : IsBare D w → (b : State) → (h : Holds) → TellsHeld s w h → TellsHeld s (entered s w b) h
     told_bare bare b h e =
-        let all : held_pages s (entered s w b) ≡ [] = ap (λ hs. hs ++ all_pages w.parts) (l.begun_sane w.read).2 ∙ ap all_pages bare.0 in
+        let all : held_pages s (entered s w b) ≡ [] = ap (λ hs. hs ++ all_pages w.parts) (l.begun_sane w.service w.read).2 ∙ ap all_pages bare.0 in
         let is = bare_pages bare h e in
         (e.0, subst (λ hs. AreSame h.held hs) (sym all) (λ g. ap (λ (y : Holds). times g y.held) is))
 
@@ -167,13 +168,14 @@ module _ {X A V Y M : Type 0} (D : Lawful X A V Y M) where
   first_carried = record { own = learned_of []; touched = [] }
 
   -- its work is sane, and it has no names
-  pub first_good : sound.Sane (first_work s) × sound.Tells (first_work s) first_carried × sound.Named (first_work s) (first_naming s t r)
+  pub first_good : (x : X) → IsFresh s x → sound.Sane (first_work x) × sound.Tells (first_work x) first_carried × sound.Named (first_work x) (first_naming s t r)
   unfolding sound
-  first_good =
-      let b = l.begun_sane _ in (
-        record { own = tt; whole = inl refl; sane = b.0; opened = inl (refl, b.2); kept = λ why e. let wrong : ⊥ = cc in absurd wrong },
-        ((refl, (λ k. ap (λ hs. times k (hs ++ [])) (sym b.2))), λ why e. let wrong : ⊥ = cc in absurd wrong),
-        (l.begun_shows _).0,
+  first_good x fresh =
+      let b = l.begun_sane x no_nodes in
+      let bare : s.pages x ≡ [] = ap s.pages (sym fresh) ∙ b.2 in (
+        record { own = tt; whole = inl refl; sane = subst known.Sane fresh b.0; opened = inl (refl, bare); kept = λ why e. let wrong : ⊥ = cc in absurd wrong },
+        ((refl, (λ k. ap (λ hs. times k (hs ++ [])) (sym bare))), λ why e. let wrong : ⊥ = cc in absurd wrong),
+        subst (λ (y : X). known.Named y r.unnamed) fresh (l.begun_named x no_nodes),
       )
 
   -- what is known of where the device stands, and of what its accesses made

@@ -25,13 +25,13 @@ use Rattle.device_service.specs.declared.round.Hand.{Hand}
 use Rattle.device_service.specs.declared.serve.Serve.{Ghosts}
 use Rattle.device_service.specs.Activity.{StandsAs, hand_part, is_leaving, is_open, is_working, may_hold, resting}
 use Rattle.device_service.specs.Claims.{KeepsLaws, site_of}
-use Rattle.device_service.specs.Held.{HoldsAsMany, HoldsPage, TellsWhatIsHeld, declared, holds_by}
+use Rattle.device_service.specs.Held.{HoldsAsMany, HoldsPage, TellsWhatIsHeld, holds_by}
 use Rattle.device_service.specs.Laws.{AreHeld}
 use Rattle.device_service.specs.Parts as of_parts
 use Rattle.device_service.specs.Parts.{answer_from, connect_left, connects, count_of, doing_of, is_asleep, joined_of, kept_by, raise_from, sleeping, slept_to, take_from}
 use Rattle.device_service.specs.Stand.{dom_of, given_up, held_of, known_in, leaving_plan, parts_of, site_at, stand_at, stand_in, stand_of, stuck, why_of, work_of}
 use Rattle.device_service.specs.Throughout.{HoldsThroughout}
-use Rattle.device_service.specs.Work.{Work, End, Took, Own, Done, Answered, Slept, Raised, Shut, after_answer, all_pages, connected, device, part_of, settled}
+use Rattle.device_service.specs.Work.{Work, End, Took, Own, Done, Answered, Slept, Raised, Shut, after_answer, all_pages, connected, device, first_station, part_of, settled}
 use Rattle.device_service.proofs.InPages.{fits_before, in_answer, in_raise, in_sleeping, in_take, stays}
 use Rattle.device_service.proofs.PartsLaws.{held_bare, held_open, held_told, joined_count, joined_none}
 use Rattle.device_service.proofs.Holding.Lengths.{same_length, times_at}
@@ -156,7 +156,7 @@ module _ {X A V Y M : Type 0} (D : Lawful X A V Y M) (w : Work X V) (k : Carried
   -- what is held once a Connect is over
   connected_holds : known.Sane w.service → s.pages w.service ≡ [] → (h : Holds) (o : Result (List Joined) GrantRefusal) → EndsSo D w h (connected o) → AreSame h.held (kept_by o)
   unfolding settled
-  connected_holds sane bare h (Ok js) e x = e.0.1 x ∙ ap (λ ps. times x (ps ++ all_pages js)) (l.begun_sane w.read).2
+  connected_holds sane bare h (Ok js) e x = e.0.1 x ∙ ap (λ ps. times x (ps ++ all_pages js)) (l.begun_sane w.service w.read).2
   connected_holds sane bare h (Err why) e x = e.0.1 x ∙ shut_pages D w x sane bare
 
   connecting_holds : (nodes : List NodeValue) (p : Parts) → connects (doing_of p) ≡ true → s.pages w.service ≡ [] → of_parts.dom_of p ≡ dom → Good D (stand_at w (mapped connected (connect_left (site_of frames grants dom (count_of p)) nodes p))) k → HoldsJust (of_parts.held_of p)
@@ -274,23 +274,24 @@ module _ {S E : Type 0} {g : Ghosts S E} (laws : KeepsLaws g.service g.table g.s
 module _ {S E : Type 0} {g : Ghosts S E} (laws : KeepsLaws g.service g.table g.shows g.known) (throughout : HoldsThroughout g.service g.known g.knows g.going g.left g.is_of g.holds) (d : Backend S E g) where
   pub tells_held : TellsWhatIsHeld d
   unfolding dom_of parts_of
-  tells_held frames grants es x =
+  tells_held frames grants x es by =
       let of = device g.service (site (lawful laws frames grants d)) in
       let reads = learned (lawful laws frames grants d) in
       let lies = Lies (lawful laws frames grants d) in
       let proved = sound (lawful laws frames grants d) in
       let first = first_carried (lawful laws frames grants d) in
-      let begins = first_good (lawful laws frames grants d) in
-      let k = carried_after of reads lies proved (declared g.service) first es in
-      let good = good_after of reads lies proved (declared g.service) es first (begins.0, begins.1) x.0 in
-      let here = subst (λ (s : Stand (Work g.Known E) (End g.End E)). Good (lawful laws frames grants d) s k) (sym x.1) good in
-      let is : k.own.holds ≡ holds_by g.service frames (site (lawful laws frames grants d)) es = ap (λ (l : Learned). l.holds) (own_after of reads lies proved (declared g.service) es first) ∙ holds_learned frames (learned_of []) (made_by of (declared g.service) es) in
+      let begins = first_good (lawful laws frames grants d) x by.0 in
+      let at = first_station x in
+      let k = carried_after of reads lies proved at first es in
+      let good = good_after of reads lies proved at es first (begins.0, begins.1) by.1 in
+      let here = subst (λ (s : Stand (Work g.Known E) (End g.End E)). Good (lawful laws frames grants d) s k) (sym by.2) good in
+      let is : k.own.holds ≡ holds_by g.service frames (site (lawful laws frames grants d)) x es = ap (λ (l : Learned). l.holds) (own_after of reads lies proved at es first) ∙ holds_learned frames (learned_of []) (made_by of at es) in
       subst (λ (h : Holds). AreSame h.held (held_of d)) is (backend_holds laws throughout frames grants d k here)
 
   -- so it tells as many pages as they hold, and each is one of these
   pub counts_held : (n : ℕ) → n ≡ length (held_of d) → HoldsAsMany d n
-  counts_held n e frames grants es x =
-      e ∙ sym (same_length (holds_by g.service frames (site_at frames grants d) es).held (held_of d) (tells_held frames grants es x))
+  counts_held n e frames grants x es by =
+      e ∙ sym (same_length (holds_by g.service frames (site_at frames grants d) x es).held (held_of d) (tells_held frames grants x es by))
 
   pub one_held : (i : ℕ) (h : Hold) → slice_get (held_of d) i ≡ Some h → HoldsPage d h
-  one_held i h e frames grants es x = omega (arith, times_at (held_of d) i h e, tells_held frames grants es x h)
+  one_held i h e frames grants x es by = omega (arith, times_at (held_of d) i h e, tells_held frames grants x es by h)

@@ -10,13 +10,13 @@ use Rattle.device_core.specs.Order.{Own, Did, Spoke, Rested, Heard, Refused, Oth
 use Rattle.device_core.specs.Site.{Site}
 use Rattle.device_core.specs.Touched.{Carried}
 use Rattle.device_core.proofs.Saying.{IsUnspoken, says_so}
-use Rattle.device_service.specs.Claims.{IsWork, KeepsLaws, first_station}
+use Rattle.device_service.specs.Claims.{IsWork, KeepsLaws}
 use Rattle.device_service.specs.Laws.{Facts}
 use Rattle.device_service.specs.Reading.{Naming, Shows, first_naming, named_after, rows_of, taken_at}
 use Rattle.device_service.specs.Rows.{Rows, Table, Closes}
-use Rattle.device_service.specs.Service.{Service}
+use Rattle.device_service.specs.Service.{IsFresh, Service}
 use Rattle.device_service.specs.Truth.{AreSaid, IsSaidBy, ShowsReason, TellsTruly}
-use Rattle.device_service.specs.Work.{End, Work, device, said_at, settled}
+use Rattle.device_service.specs.Work.{End, Work, device, first_station, said_at, settled}
 use Rattle.device_service.proofs.Sound.{Lies, first_carried, first_good, sound}
 use Rattle.device_service.proofs.Soundness.Work.{Lawful, learned, site}
 
@@ -40,14 +40,14 @@ module _ {X A V Y M : Type 0} (D : Lawful X A V Y M) where
   unspoken f (Refused why) u = tt
   unspoken f (Others a) u = tt
 
-  truly : (es : List Own) → IsWork s t r (site D) es → AreSaid t (site D) es
-  truly es x =
-      let g = first_good D in
-      says_so (device s (site D)) (learned D) (Lies D) is_sound (λ (k : Learned). k.found) (λ k note a. refl) (IsSaidBy t (site D)) says unspoken (first_station s t r (site D)) es (first_carried D) (first_naming s t r) (g.0, g.1) g.2 x
+  truly : (x : X) (es : List Own) → IsFresh s x → IsWork s t r (site D) x es → AreSaid t (site D) es
+  truly x es fresh work =
+      let g = first_good D x fresh in
+      says_so (device s (site D)) (learned D) (Lies D) is_sound (λ (k : Learned). k.found) (λ k note a. refl) (IsSaidBy t (site D)) says unspoken (first_station x) es (first_carried D) (first_naming s t r) (g.0, g.1) g.2 work
 
 pub services_tell_truly : {X A V Y M : Type 0} (s : Service X A V) (t : Table Y V) (r : Shows X Y M) (known : (frames grants : ℕ → ℕ) → (dom parts : ℕ) → Facts X A V M) → KeepsLaws s t r known → TellsTruly s t r
-services_tell_truly s t r known laws frames grants dom parts es x =
-    truly (record { s = s; t = t; r = r; frames = frames; grants = grants; dom = dom; parts = parts; known = known frames grants dom parts; l = laws frames grants dom parts }) es x
+services_tell_truly s t r known laws frames grants dom parts x es fresh work =
+    truly (record { s = s; t = t; r = r; frames = frames; grants = grants; dom = dom; parts = parts; known = known frames grants dom parts; l = laws frames grants dom parts }) x es fresh work
 
 -- a connection is closed for a reason that the words show
 pub closes_shown : {Y V : Type 0} (t : Table Y V) (here : Site) (old new : Rows Y V) (f : Found) (why : Reason) → Closes t here old f why new → ShowsReason here f why

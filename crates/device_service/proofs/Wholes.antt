@@ -1,5 +1,5 @@
 -- What is always true of the parts stays true where one link changes.
-use Rattle.std.proofs.Common.{◌≡◌, ◌≢◌, ◌⊎◌, inl, inr, ℕ, ◌+◌, ◌<◌, ◌≤◌, ◌++◌, Bool, true, false, List, [], Option, Some, None, OnSome, is_some, length, slice_get, slice_set, refl, sym, ap, subst, ◌∙◌, arith}
+use Rattle.std.proofs.Common.{◌≡◌, ◌≢◌, ◌⊎◌, inl, inr, ℕ, ◌+◌, ◌<◌, ◌≤◌, ◌++◌, Bool, true, false, List, [], Option, Some, None, OnSome, length, slice_get, slice_set, refl, sym, ap, subst, ◌∙◌, arith}
 use Rattle.std.proofs.lemmas.Bool.{false≢true}
 use Rattle.std.proofs.lemmas.List.{length-set}
 use Rattle.pv_words.specs.declared.grant.GrantRefusal.{GrantRefusal}
@@ -240,14 +240,6 @@ sleeping_in doing.Dropping n (inr e) some come_to = some
 
 -- it goes on, or is over
 module _ {A : Type 0} where
-  pub open_then : (o : Option A) (t x : Doing) → is_some o ≡ true → x ≡ doing.Open → x ≡ open_or o t
-  open_then None t x s e = absurd (false≢true s)
-  open_then (Some y) t x s e = e
-
-  pub open_else : (o : Option A) (t x : Doing) → is_some o ≡ false → x ≡ t → x ≡ open_or o t
-  open_else None t x s e = e
-  open_else (Some y) t x s e = absurd (false≢true (sym s))
-
   pub open_after : (o : Option A) (t : Doing) → is_open t ≡ true → is_open (open_or o t) ≡ true
   open_after None t e = e
   open_after (Some y) t e = refl

@@ -93,3 +93,8 @@ pub record Whole (dom : ℕ) (ringed : Bool) (doing : Doing) (links : List Link)
   pub come_to : part_in doing < length links
   pub fits : (i : ℕ) (l : Link) → slice_get links i ≡ Some l → Fits dom ringed (met_in doing (length links)) (bare_in doing (length links)) (busy_in doing (length links)) (is_mapping doing) i l
   pub rung : uses_ring doing ≡ true → ringed ≡ true
+
+-- joined parts rest after a step of this activity, if it is over
+abbrev pub rest_if : Bool → Doing → Doing
+rest_if true d = doing.Open
+rest_if false d = d

@@ -114,13 +114,14 @@ pub record Laws {X A V Y M : Type 0} (s : Service X A V) (t : Table Y V) (r : Sh
   -- 2. the pages are the domain's, and a reply has at most sixteen words
   pub pages_are : (x : X) → known.Sane x → AreOf (grants site.dom) site.dom (s.pages x)
   pub short : (x : X) → length (s.reply x) ≤ 16
-  -- 3. with nothing
+  -- 3. a state is taken, whatever was known before: there is no page, no request and no name
   pub begun_sane :
-      (nodes : List NodeValue) → known.Sane (s.begun nodes) × known.Has false (s.begun nodes) × (s.pages (s.begun nodes) ≡ [])
+      (x : X) (nodes : List NodeValue)
+      → known.Sane (s.begun x nodes) × known.Has false (s.begun x nodes) × (s.pages (s.begun x nodes) ≡ [])
+  pub begun_named : (x : X) (nodes : List NodeValue) → known.Named (s.begun x nodes) r.unnamed
   pub begun_shows :
-      (nodes : List NodeValue)
-      → known.Named (s.begun nodes) r.unnamed × (r.rows (s.begun nodes) r.unnamed ≡ t.begun nodes)
-      × (r.names (s.begun nodes) r.unnamed ≡ [])
+      (x : X) (m : M) (nodes : List NodeValue) → known.Named x m
+      → r.rows (s.begun x nodes) r.unnamed ≡ t.begun (r.rows x m) nodes
   -- 4. a Close: no page is left, no name, and all rows; then the request in hand is dropped
   pub strips : (x : X) → known.Sane x → known.Sane (s.stripped x) × (s.pages (s.stripped x) ≡ [])
   pub strips_shows :

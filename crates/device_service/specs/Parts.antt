@@ -1,5 +1,5 @@
 -- What the parts of a device hold, and what is left of their activities.
-use Rattle.std.specs.Prelude.{◌≡◌, ◌⊎◌, ℕ, ◌+◌, ◌-◌, ◌<◌, Bool, true, false, List, [], ◌∷◌, Option, Some, None, Result, Ok, Err, drop, length, map, slice_get, take}
+use Rattle.std.specs.Prelude.{◌≡◌, ◌⊎◌, ℕ, ◌+◌, ◌-◌, ◌<◌, Bool, true, false, List, [], ◌∷◌, Option, Some, None, Result, Ok, Err, drop, is_some, length, map, slice_get, take}
 use Rattle.pv_words.specs.declared.access.Access.{Access}
 use Rattle.pv_words.specs.declared.device.NodeValue.{NodeValue}
 use Rattle.pv_words.specs.declared.grant.GrantRefusal.{GrantRefusal}
@@ -23,7 +23,7 @@ use Rattle.device_service.specs.Nodes.{Kind, refs_at, refs_from}
 pub use Rattle.device_service.specs.Dropping.{Drops, MayDrop}
 use Rattle.device_service.specs.Claims.{site_of}
 use Rattle.device_service.specs.Work.{after_part, all_pages, connect_parts, counted, ring_page, sleep_all, sleeps_on, with_event}
-pub use Rattle.device_service.specs.Doing.{all_held, is_open}
+pub use Rattle.device_service.specs.Doing.{all_held, is_open, rest_if}
 pub use Rattle.device_service.specs.Moves.{connects, is_asleep}
 
 -- the domain of their pages
@@ -151,8 +151,7 @@ MayServe old new = (old ≡ doing.Open) ⊎ (old ≡ new)
 
 -- what is under way after a step of an activity: it is over, or it goes on
 abbrev pub open_or : {A : Type 0} → Option A → Doing → Doing
-open_or None d = d
-open_or (Some x) d = doing.Open
+open_or o d = rest_if (is_some o) d
 
 -- a Sleep may begin, or it is under way
 abbrev pub MaySleep : Doing → Type 0

@@ -22,7 +22,7 @@ abbrev pub refusing : Service (Option ℕ) (Unit {0}) ⊥
 refusing =
     record {
       kind = Ringed;
-      begun = λ nodes. None;
+      begun = λ x nodes. None;
       pages = λ x. [];
       stripped = λ x. x;
       dropped = λ x. None;
@@ -49,7 +49,7 @@ abbrev pub refused : Table (Unit {0}) ⊥
 refused =
     record {
       kind = Ringed;
-      begun = λ nodes. tt;
+      begun = λ y nodes. tt;
       taken = λ y part words. tt;
       dropped = λ y. tt;
       Tells = λ site old told what new. ⊥;

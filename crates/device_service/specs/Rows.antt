@@ -36,7 +36,8 @@ pub record Evidence : Type 0 where
 -- The rows of a service, and how they move. A name's number is that of the reply that makes it.
 pub record Table (Y V : Type 0) : Type 1 where
   pub kind : Kind
-  pub begun : List NodeValue → Y
+  -- the rows once a state is taken, while the last Connect read these nodes
+  pub begun : Y → List NodeValue → Y
   -- by this part a request of these words comes in hand; it is dropped
   pub taken : Y → (part : ℕ) → List ℕ → Y
   pub dropped : Y → Y
@@ -95,9 +96,9 @@ module _ {Y V : Type 0} (t : Table Y V) where
       MayClose (needs_of t.kind site) (IsOwnCause t.kind site old.bus f) old.bus why
       × (new ≡ record old { bus = bus_closed old.bus; hand = None; service = t.dropped old.service })
 
-  -- a state in which the service has nothing yet, or no longer, and no event waits
+  -- a state in which the service has no request or page yet, or no longer, and no event waits
   abbrev pub with_state : Rows Y V → State → Rows Y V
-  with_state old b = record old { bus = bus_entered old.bus b; hand = None; waiting = []; service = t.begun old.bus.read }
+  with_state old b = record old { bus = bus_entered old.bus b; hand = None; waiting = []; service = t.begun old.service old.bus.read }
 
   -- a backend takes a state
   abbrev pub Enters : Site → Rows Y V → State → Rows Y V → Type 0

@@ -1,6 +1,6 @@
 -- What a device's service is to its order of work: X is what the service knows, A how an activity of its own ends, and V an event
 -- of its host that waits.
-use Rattle.std.specs.Prelude.{ℕ, ℤ, Bool, List, Option}
+use Rattle.std.specs.Prelude.{◌≡◌, ℕ, ℤ, Bool, List, Option}
 use Rattle.pv_words.specs.declared.device.HostEvent.{HostEvent}
 use Rattle.pv_words.specs.declared.device.HostRefusal.{HostRefusal}
 use Rattle.pv_words.specs.declared.device.NodeValue.{NodeValue}
@@ -8,6 +8,7 @@ use Rattle.pv_words.specs.declared.device.Said.{Said}
 use Rattle.pv_words.specs.declared.device.State.{State}
 use Rattle.pv_words.specs.declared.grant.Hold.{Hold}
 use Rattle.pv_words.specs.Plan.{Plan}
+use Rattle.xenbus_states.specs.Nodes.{no_nodes}
 use Rattle.device_core.specs.Site.{Site}
 use Rattle.device_service.specs.Nodes.{Kind}
 
@@ -30,8 +31,9 @@ pub data Deed (A : Type 0) : Type 0 where
 
 pub record Service (X A V : Type 0) : Type 0 where
   pub kind : Kind
-  -- where a Connect read these nodes: no page is held, and no request is in hand
-  pub begun : List NodeValue → X
+  -- What it knows once a state is taken, by what it knew and the nodes that the last Connect read: no page is held, and no request is
+  -- in hand.
+  pub begun : X → List NodeValue → X
   -- the pages that are held for it, in the order in which a Close gives them up; what it knows once they are to go, and once the
   -- request in hand is dropped
   pub pages : X → List Hold
@@ -59,3 +61,7 @@ pub record Service (X A V : Type 0) : Type 0 where
   -- which events of the host wait, and why one is refused
   pub waits : HostEvent → Option V
   pub refusal : State → List V → HostEvent → Option HostRefusal
+
+-- What a service knows whose device was just declared: to take a state leaves it so, as long as no node was read.
+abbrev pub IsFresh : {X A V : Type 0} → Service X A V → X → Type 0
+IsFresh s x = s.begun x no_nodes ≡ x

@@ -14,7 +14,7 @@ use Rattle.device_core.specs.Touched.{Touch}
 use Rattle.device_service.specs.Claims.{IsWork, site_of}
 use Rattle.device_service.specs.Reading.{Shows}
 use Rattle.device_service.specs.Rows.{Rows, Table, Tells as SaysBy}
-use Rattle.device_service.specs.Service.{Service}
+use Rattle.device_service.specs.Service.{IsFresh, Service}
 
 -- why a connection is closed: the map of a page was refused so, as these words show; or the index that is too far is the last of them
 abbrev pub ShowsReason : Site → Found → Reason → Type 0
@@ -42,6 +42,6 @@ module _ {Y V : Type 0} (t : Table Y V) (site : Site) where
 
 -- Whatever a device does and hears by the order of work, it tells the truth of what it found.
 abbrev pub TellsTruly : {X A V Y M : Type 0} → Service X A V → Table Y V → Shows X Y M → Type 0
-TellsTruly s t r =
-    (frames grants : ℕ → ℕ) (dom parts : ℕ) (es : List Own)
-    → IsWork s t r (site_of frames grants dom parts) es → AreSaid t (site_of frames grants dom parts) es
+TellsTruly {X} s t r =
+    (frames grants : ℕ → ℕ) (dom parts : ℕ) (x : X) (es : List Own)
+    → IsFresh s x → IsWork s t r (site_of frames grants dom parts) x es → AreSaid t (site_of frames grants dom parts) es

@@ -22,7 +22,7 @@ use Rattle.xenbus_states.specs.Nodes.{no_nodes}
 use Rattle.host_events.specs.Queue.{behind, unless}
 use Rattle.link_core.specs.Activities.{Page, Joined, Connected, Joins, Refuses, page_at, look_plan, take_plan, answer_plan, sleep_plan, connect_plan, unmaps}
 use Rattle.link_core.specs.Activities as link
-use Rattle.device_core.specs.Order.{News, Sets, Hosts, Order, Act, Either, Rest, Rules}
+use Rattle.device_core.specs.Order.{News, Sets, Hosts, Order, Act, Between, Either, Rest, Rules, Station, at_stand}
 use Rattle.device_core.specs.Site.{Site}
 use Rattle.xenbus_states.specs.Bus.{Bus}
 use Rattle.xenbus_states.specs.Needs.{Problem, first_fault}
@@ -292,10 +292,10 @@ module _ {X A V : Type 0} (s : Service X A V) where
   abbrev pub shut : Work X V → Work X V
   shut w = record w { connecting = false; closing = true; parts = []; kept = None; hand = None; service = s.dropped w.service }
 
-  -- the backend's state is this, in which its service has nothing yet, or no longer, and no event waits
+  -- the backend's state is this, in which its service has no request or page yet, or no longer, and no event waits
   abbrev pub entered : Work X V → State → Work X V
   entered w b =
-      record w { connection = moved_to w.connection b; connecting = false; closing = false; hand = None; waiting = []; service = s.begun w.read }
+      record w { connection = moved_to w.connection b; connecting = false; closing = false; hand = None; waiting = []; service = s.begun w.service w.read }
 
   abbrev pub after_raise : Work X V → ℕ → Option V → Put → Work X V
   after_raise w part e put.Done = record w { parts = with_event w.parts part (slice_get w.parts part); waiting = waits_after e w.waiting; service = s.after_put w.service e }
@@ -356,7 +356,10 @@ module _ {X A V : Type 0} (s : Service X A V) where
   abbrev pub device : Site → Rules (Work X V) (End A V)
   device site = record { choice = choice site; said_at = said_at; settled = settled site; refuses = refused_at; heard = told }
 
-  -- the device when it is declared: it waits for its frontend
-  abbrev pub first_work : Work X V
-  first_work =
-      record { connection = first_connection; seen = no_nodes; read = no_nodes; connecting = false; closing = false; parts = []; kept = None; hand = None; at = 0; left = 0; round = Looks 0 false; waiting = []; service = s.begun no_nodes }
+-- a device that is declared, whose service knows this: it waits for its frontend
+abbrev pub first_work : {X V : Type 0} → X → Work X V
+first_work x =
+    record { connection = first_connection; seen = no_nodes; read = no_nodes; connecting = false; closing = false; parts = []; kept = None; hand = None; at = 0; left = 0; round = Looks 0 false; waiting = []; service = x }
+
+abbrev pub first_station : {X A V : Type 0} → X → Station (Work X V) (End A V)
+first_station x = at_stand (Between (first_work x))

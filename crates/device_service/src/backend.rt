@@ -99,10 +99,10 @@ impl<S: Serve + Drop> Backend<S> {
     ghost use Rattle.device_service.specs.declared.backend.Activity.TheVariants as activity;
     ghost use Rattle.device_service.specs.Held.{HoldsAsMany, HoldsPage};
     ghost use Rattle.device_service.specs.Waits.{IsFor};
+    ghost use Rattle.device_service.specs.Service.{IsFresh};
     ghost use Rattle.device_service.specs.Stand.{MayStepAt, Same, StepsAt, dev_of, dom_of, held_of, parts_of, stand_of, work_of};
     ghost use Rattle.device_service.specs.Steps.{Chooses, HearsAt, chosen, site_over};
     ghost use Rattle.device_service.specs.Work.{choice, device, first_work, refused_at};
-    ghost use Rattle.xenbus_states.specs.Nodes.{no_nodes};
 
     /// The backend of the device of this number, of so many parts and of this domain, which waits for its frontend.
     pub fn new(
@@ -115,8 +115,8 @@ impl<S: Serve + Drop> Backend<S> {
         requires some { 1 ≤ parts }
         requires few { parts ≤ 4 }
         requires idle { S.going service ≡ false }
-        requires fresh { S.knows service ≡ S.service.begun no_nodes }
-        ensures between { IfOk result (λ d. (site : Site) → stand_of site d ≡ Between (first_work S.service)) }
+        requires fresh { IsFresh S.service (S.knows service) }
+        ensures between { IfOk result (λ d. (site : Site) → stand_of site d ≡ Between (first_work (S.knows service))) }
         ensures dev { IfOk result (λ d. dev_of d ≡ dev.0) }
         ensures dom { IfOk result (λ d. dom_of d ≡ dom.0) }
         ensures parts { IfOk result (λ d. parts_of d ≡ parts) }

@@ -1,7 +1,7 @@
 //! The parts of a device.
 
 ghost use Rattle.std.specs.Prelude.{◌≡◌, ◌<◌, ◌≤◌, ◌==◌, [], IfOk, IsSome, Some, false, length, slice_get, true};
-ghost use Rattle.device_service.specs.Doing.{Whole};
+ghost use Rattle.device_service.specs.Doing.{Whole, rest_if};
 
 use crate::reading::{event_ref, ring_ref};
 use link_core::{Link, Put};
@@ -31,6 +31,13 @@ pub enum Doing {
     Sleeping(u8),
     /// The pages are given up, one after another.
     Dropping,
+}
+
+// What joined parts do after a step of this activity: they rest once it is over.
+fn rest_if(over: bool, doing: Doing) -> Doing
+    ensures { result ≡ rest_if over doing }
+{
+    if over { Doing::Open } else { doing }
 }
 
 /// The pages of each part of a device, the indices of its rings, and how far the activity on them has come. Each step makes the next
@@ -131,15 +138,6 @@ impl Parts {
         self.held() == 0
     }
 
-    /// The event page of this part.
-    pub fn event_page(&self, part: u8) -> Hold
-        requires { IsOpen part self.now }
-        ensures { (j : Joined) → slice_get (joined_of self.now) part ≡ Some j → result ≡ j.event }
-    {
-        let link = &self.links[part as usize];
-        link.hold_at(link.held() - 1)
-    }
-
     /// The index up to which events were written when this part was connected.
     pub fn in_prod(&self, part: u8) -> u32
         requires { IsOpen part self.now }
@@ -202,10 +200,8 @@ impl Parts {
         let part = self.first_held();
         if part == self.links.len() {
             self.doing = Doing::Bare;
-            return Turn {
-                access: None,
-                done: Some(Err(why)),
-            };
+            let done = Some(Err(why));
+            return Turn { access: None, done };
         }
         let turn = self.links[part].drop_step(words);
         let access = turn.access;
@@ -246,10 +242,8 @@ impl Parts {
             if access.is_none() {
                 return self.undo(words, why);
             }
-            return Turn {
-                access,
-                done: self.undone(why),
-            };
+            let done = self.undone(why);
+            return Turn { access, done };
         }
         let following = part + 1;
         if (following as usize) < self.links.len() {
@@ -257,10 +251,8 @@ impl Parts {
             return Turn { access, done: None };
         }
         self.doing = Doing::Open;
-        Turn {
-            access,
-            done: Some(Ok(())),
-        }
+        let done = Some(Ok(()));
+        Turn { access, done }
     }
 
     /// The one access of a Look at this part's ring.
@@ -292,11 +284,7 @@ impl Parts {
         ensures keeps { Keeps self.old self.new }
     {
         let turn = self.links[part as usize].take_step(words);
-        self.doing = if turn.done.is_some() {
-            Doing::Open
-        } else {
-            Doing::Taking(part)
-        };
+        self.doing = rest_if(turn.done.is_some(), Doing::Taking(part));
         turn
     }
 
@@ -320,11 +308,7 @@ impl Parts {
         ensures same { Same self.old self.new }
     {
         let turn = self.links[part as usize].answer_step(words, reply);
-        self.doing = if turn.done.is_some() {
-            Doing::Open
-        } else {
-            Doing::Answering(part)
-        };
+        self.doing = rest_if(turn.done.is_some(), Doing::Answering(part));
         turn
     }
 
@@ -342,11 +326,7 @@ impl Parts {
         ensures same { Same self.old self.new }
     {
         let turn = self.links[part as usize].raise_step(words, w);
-        self.doing = if turn.done.is_some() {
-            Doing::Open
-        } else {
-            Doing::Raising(part)
-        };
+        self.doing = rest_if(turn.done.is_some(), Doing::Raising(part));
         turn
     }
 
@@ -384,10 +364,8 @@ impl Parts {
             return Turn { access, done: None };
         }
         self.doing = Doing::Open;
-        Turn {
-            access,
-            done: Some(quiet),
-        }
+        let done = Some(quiet);
+        Turn { access, done }
     }
 
     /// The parts that rest are to be given up: none is joined any longer.

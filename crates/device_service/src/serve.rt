@@ -70,8 +70,8 @@ pub trait Serve {
     /// Between two activities they are those of what it knows.
     ghost holds_pages: { (s : Self) → going s ≡ false → holds s ≡ service.pages (knows s) };
 
-    /// A service that begins holds no page.
-    ghost begins_bare: { (nodes : List NodeValue) → service.pages (service.begun nodes) ≡ [] };
+    /// A service whose backend takes a state holds no page.
+    ghost begins_bare: { (x : Known) (nodes : List NodeValue) → service.pages (service.begun x nodes) ≡ [] };
 
     /// A service that holds no page has none to give up.
     ghost stays_bare: { (x : Known) → service.pages x ≡ [] → service.stripped x ≡ x };
@@ -105,11 +105,11 @@ pub trait Serve {
     fn part_of(event: Self::Event) -> u8
         ensures { result ≡ service.at event };
 
-    /// A Connect read these nodes.
+    /// The backend takes a state, while the last Connect read these nodes.
     fn start(&mut self, nodes: &Nodes)
         requires idle { going self.old ≡ false }
         requires bare { service.pages (knows self.old) ≡ [] }
-        ensures knows { knows self.new ≡ service.begun nodes.now }
+        ensures knows { knows self.new ≡ service.begun (knows self.old) nodes.now }
         ensures idle { going self.new ≡ false };
 
     /// By this part a request of these words comes in hand.

@@ -9,8 +9,10 @@ ghost use Rattle.displ_wire.specs.Wire.{config_of, config_words, cookie_words, r
 ghost use Rattle.displ_wire.specs.Wire.{all_zero, IsZero, EventsReadBack, RepliesReadBack, RequestsReadBack};
 
 mod buffer;
+mod framebuffer;
 
 pub use crate::buffer::{Buffer, Refused};
+pub use crate::framebuffer::Framebuffer;
 use wire_fields::{head_fields, head_word, i32_of, u64_of, word_of_i32, words_of_u64};
 
 /// The operation that makes a display buffer (`XENDISPL_OP_DBUF_CREATE`).

@@ -1,5 +1,5 @@
 -- What an answer makes of the buffers, their pages and their names.
-use Rattle.std.proofs.Common.{◌≡◌, inl, inr, ℕ, ◌<◌, ◌&&◌, Bool, true, false, cond, List, [], ◌∷◌, Ok, Some, None, refl, sym, ◌∙◌, ap, subst, length}
+use Rattle.std.proofs.Common.{◌≡◌, inl, inr, ℕ, ◌<◌, ◌&&◌, ℤ, pos, Bool, true, false, cond, List, [], ◌∷◌, Ok, Some, None, refl, sym, ◌∙◌, ap, subst, length}
 use Rattle.std.proofs.lemmas.List.{map-append}
 use Rattle.displ_wire.specs.declared.Asked.{Asked}
 use Rattle.displ_wire.specs.declared.Asked.TheVariants as asked
@@ -7,8 +7,8 @@ use Rattle.displ_wire.specs.declared.Create.{Create}
 use Rattle.displ_wire.specs.declared.Request.{Request}
 use Rattle.display_buffers.specs.Buffers.{AreDistinct, AreSound, check_of, cookies, made_of}
 use Rattle.display_buffers.proofs.Names.{sound_with, sound_without}
-use Rattle.display_backend.specs.Stock.{Stock, Held, pages_of, pages_under}
-use Rattle.display_backend.proofs.Order.{creating_keeps, destroying_keeps}
+use Rattle.display_buffers.specs.Stock.{Stock, Held, pages_of, pages_under}
+use Rattle.display_buffers.proofs.Order.{creating_keeps, destroying_keeps}
 use Rattle.page_directory.specs.Same.{AreSame}
 use Rattle.device_core.specs.Names.{Name, Sight, all_drawn, cells_of, drawn, with_name, words_in}
 use Rattle.display_backend.specs.declared.course.Progress.{Progress}
@@ -16,9 +16,10 @@ use Rattle.display_backend.specs.declared.course.Progress.TheVariants as progres
 use Rattle.display_backend.specs.Kept.{HasComeTo, IsCreating, IsDestroying}
 use Rattle.display_backend.specs.Names.{ids_after, live_names, numbered}
 use Rattle.display_backend.specs.Reply.{replied_to, stock_after}
+use Rattle.display_backend.specs.Scene.{Scene}
 use Rattle.display_backend.specs.Verdict.{IsStatus, is_accepted, is_creation, is_denied, status_in, verdict}
 use Rattle.display_backend.proofs.Names.{names_with, names_without}
-use Rattle.display_backend.proofs.Numbered.{AreAll, all_with, all_without, numbered_with, numbered_without, passes_by}
+use Rattle.display_backend.proofs.Numbered.{AreAll, accepted_is, all_with, all_without, numbered_with, numbered_without, passes_by}
 
 -- What there is once a request is answered by a status that accepts it, or by another: a CREATE that passed its checks with its
 -- pages, or a DESTROY of a buffer without any.
@@ -28,10 +29,27 @@ IsDone stock (asked.Destroy cookie) true = (pages_under cookie stock.buffers ≡
 IsDone stock asks accepted = stock.mapped ≡ []
 
 -- the request in hand is answered by a status that it may get, where it has come so far
-abbrev pub IsAnswerAt : Stock → Request → Progress → Type 0
-IsAnswerAt stock q p =
-    IsDone stock q.asked (is_accepted (status_in p (verdict stock.buffers q.asked)))
-    × IsStatus (is_denied p) stock.buffers q.asked (status_in p (verdict stock.buffers q.asked))
+abbrev pub IsAnswerAt : Stock → Scene → Request → Progress → Type 0
+IsAnswerAt stock sc q p =
+    IsDone stock q.asked (is_accepted (status_in p (verdict stock.buffers sc q.asked)))
+    × IsStatus (is_denied p) stock.buffers sc q.asked (status_in p (verdict stock.buffers sc q.asked))
+
+-- a status that accepts is the verdict
+pub accepted_at : (p : Progress) (v : ℤ) → is_accepted (status_in p v) ≡ true → v ≡ pos 0
+accepted_at progress.Decided v h = accepted_is v h
+accepted_at progress.NoMemory v h = let wrong : ⊥ = cc in absurd wrong
+accepted_at progress.Denied v h = let wrong : ⊥ = cc in absurd wrong
+accepted_at progress.Mapped v h = accepted_is v h
+accepted_at progress.Released v h = accepted_is v h
+
+-- the buffers alone
+pub answer_buffers : (stock : Stock) (asks : Asked) (accepted : Bool) → (stock_after stock asks accepted).buffers ≡ replied_to stock.buffers stock.mapped asks accepted
+answer_buffers stock (asked.Create c) true = refl
+answer_buffers stock (asked.Create c) false = refl
+answer_buffers stock (asked.Destroy cookie) true = refl
+answer_buffers stock (asked.Destroy cookie) false = refl
+answer_buffers stock (asked.Config c) accepted = refl
+answer_buffers stock asks accepted = refl
 
 module _ (stock : Stock) where
   -- the pages stay, the buffers are sound still, and no page is mapped for a CREATE any more
@@ -101,18 +119,18 @@ module _ (stock : Stock) where
   refused_done (asked.Config c) none = none
   refused_done asks none = none
 
-  module _ (q : Request) where
-    created_done : (c : Create) → IsCreating stock q c → 0 < length stock.mapped → IsDone stock q.asked (is_accepted (verdict stock.buffers q.asked))
+  module _ (sc : Scene) (q : Request) where
+    created_done : (c : Create) → IsCreating stock sc q c → 0 < length stock.mapped → IsDone stock q.asked (is_accepted (verdict stock.buffers sc q.asked))
     created_done c creating some =
-        let passed = passes_by (check_of stock.buffers c) (ap (verdict stock.buffers) (sym creating.0) ∙ creating.1) in
-        done_as q.asked (asked.Create c) (is_accepted (verdict stock.buffers q.asked)) true creating.0 (ap is_accepted creating.1) (passed, some)
+        let passed = passes_by (check_of stock.buffers c) (ap (verdict stock.buffers sc) (sym creating.0) ∙ creating.1) in
+        done_as q.asked (asked.Create c) (is_accepted (verdict stock.buffers sc q.asked)) true creating.0 (ap is_accepted creating.1) (passed, some)
 
-    destroyed_done : (cookie : ℕ) → IsDestroying stock q cookie → pages_under cookie stock.buffers ≡ [] → stock.mapped ≡ [] → IsDone stock q.asked (is_accepted (verdict stock.buffers q.asked))
+    destroyed_done : (cookie : ℕ) → IsDestroying stock sc q cookie → pages_under cookie stock.buffers ≡ [] → stock.mapped ≡ [] → IsDone stock q.asked (is_accepted (verdict stock.buffers sc q.asked))
     destroyed_done cookie destroying bare none =
-        done_as q.asked (asked.Destroy cookie) (is_accepted (verdict stock.buffers q.asked)) true destroying.0 (ap is_accepted destroying.1) (bare, none)
+        done_as q.asked (asked.Destroy cookie) (is_accepted (verdict stock.buffers sc q.asked)) true destroying.0 (ap is_accepted destroying.1) (bare, none)
 
     -- the answers of a request of which more is known than its verdict
-    pub answers_at : (p : Progress) → (p ≡ progress.Decided → ⊥) → HasComeTo stock q p → IsAnswerAt stock q p
+    pub answers_at : (p : Progress) → (p ≡ progress.Decided → ⊥) → HasComeTo stock sc q p → IsAnswerAt stock sc q p
     answers_at progress.Decided apart come = absurd (apart refl)
     answers_at progress.NoMemory apart come =
         (refused_done q.asked come.1, inr (ap is_creation come.0.1.0, come.0.1.1, refl))

@@ -6,7 +6,7 @@ use Rattle.pv_words.specs.Release.{Drops}
 use Rattle.display_buffers.specs.Buffers.{has_cookie}
 use Rattle.link_core.specs.Stays.{AccessIn}
 use Rattle.device_service.proofs.Holding.Held.{in_unmap}
-use Rattle.display_backend.specs.Stock.{Held, pages_under, with_pages, bared}
+use Rattle.display_buffers.specs.Stock.{Held, pages_under, with_pages, bared}
 
 -- the first page of a list is given up by an access to no page
 pub unmap_lies : (hs left : List Hold) (a : Access) → Drops hs a left → (pages : List Hold) → AccessIn pages (Some a)

@@ -1,13 +1,19 @@
 pub mod Answering
+pub mod Events
 pub mod Freeing
-pub mod Gets
 pub mod HasWork
 pub mod HeldThroughout
 pub mod Hosts
 pub mod Keeps
-pub mod Lefts
+pub mod Mapped
 pub mod Names
 pub mod Numbered
-pub mod Order
-pub mod Places
+pub mod Pending
+pub mod Ports
+pub mod Scenes
 pub mod Serviced
+mod Pictures
+mod ShowsLive
+mod Loads
+mod Taking
+mod Wholes

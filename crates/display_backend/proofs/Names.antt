@@ -4,7 +4,7 @@ use Rattle.std.proofs.lemmas.Bool.{eqb-true}
 use Rattle.pv_words.specs.declared.grant.Hold.{Hold}
 use Rattle.display_buffers.specs.Buffers.{AreDistinct, IsFresh, cookies, has_cookie, without_buffer}
 use Rattle.display_buffers.proofs.Rows.{without_fresh}
-use Rattle.display_backend.specs.Stock.{Held, buffer_pages, pages_under, with_pages, bared, all_bared}
+use Rattle.display_buffers.specs.Stock.{Held, buffer_pages, pages_under, with_pages, bared, all_bared}
 use Rattle.device_core.specs.Names.{Name, cells_of}
 use Rattle.display_backend.specs.Names.{ids_without, live_names, named_if, names_under}
 use Rattle.display_backend.proofs.Numbered.{AreAll, ids_fresh}

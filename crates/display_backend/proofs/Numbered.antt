@@ -1,23 +1,30 @@
 -- The buffers as the machine has them: each with its number in place of its pages.
-use Rattle.std.proofs.Common.{◌≡◌, inl, inr, ℕ, zero, suc, ◌≤◌, ◌==◌, ℤ, pos, negsuc, Bool, true, false, not, cond, nat_le, List, [], ◌∷◌, ◌++◌, Some, is_some, Result, Ok, Err, refl, sym, ◌∙◌, ap, subst, arith, length, length-append}
+use Rattle.std.proofs.Common.{◌≡◌, inl, inr, ℕ, zero, suc, ◌≤◌, ◌==◌, ℤ, pos, negsuc, Bool, true, false, not, cond, nat_le, List, [], ◌∷◌, ◌++◌, Option, Some, option_map, is_some, Result, Ok, Err, refl, sym, ◌∙◌, ap, subst, arith, length, length-append}
 use Rattle.std.proofs.lemmas.Bool.{eqb-true}
 use Rattle.std.specs.List.{AllByRecursion}
 use Rattle.pv_words.specs.declared.grant.Hold.{Hold}
 use Rattle.displ_wire.specs.declared.Asked.{Asked}
 use Rattle.displ_wire.specs.declared.Asked.TheVariants as asked
 use Rattle.displ_wire.specs.declared.Create.{Create}
+use Rattle.displ_wire.specs.declared.buffer.Buffer.{Buffer}
 use Rattle.displ_wire.specs.declared.buffer.Refused.{Refused}
 use Rattle.displ_wire.specs.declared.buffer.Refused.TheVariants.{NotSupported, Exists, Full, Invalid, Unknown, InUse, Pending}
 use Rattle.displ_wire.specs.Refused.{status_of}
 use Rattle.display_buffers.specs.declared.live.Live.{Live}
 use Rattle.display_buffers.specs.Buffers.{AreDistinct, AreSound, IsFresh, buffer_of, check_of, cookies, has_cookie, is_in_range, made_of, without_buffer}
-use Rattle.display_backend.specs.Stock.{Held, with_pages, bared, all_bared}
+use Rattle.display_buffers.specs.Stock.{Held, with_pages, bared, all_bared}
 use Rattle.display_backend.specs.Names.{ids_without, numbered}
-use Rattle.display_backend.specs.Verdict.{IsStatus, checked, is_accepted, verdict}
+use Rattle.framebuffers.specs.Frames.{attach_check, is_used, with_frame}
+use Rattle.display_backend.specs.Scene.{Scene, scene_after}
+use Rattle.display_buffers.specs.Buffers.{buffer_at}
+use Rattle.display_backend.specs.Verdict.{IsStatus, checked, destroy_verdict, is_accepted, verdict}
 
 -- a number for each buffer
 abbrev pub AreAll : List Held → List ℕ → Type 0
 AreAll bs ns = length ns ≡ length bs
+
+abbrev of_live : {P : Type 0} → Option (Live P) → Option Buffer
+of_live o = option_map (λ b. b.buffer) o
 
 pub same_live : (cookie : ℕ) (bs : List Held) (ns : List ℕ) → is_some (buffer_of cookie (numbered bs ns)) ≡ is_some (buffer_of cookie bs)
 same_live cookie [] ns = refl
@@ -43,16 +50,45 @@ same_check bs ns c =
     ap (λ t. cond (not (c.flags == 0)) (Err NotSupported) (cond t (Err Exists) (cond (nat_le 64 (length (numbered bs ns))) (Err Full) (cond (is_in_range (made_of c)) (Ok tt) (Err Invalid))))) (same_live c.dbuf_cookie bs ns)
     ∙ ap (λ n. cond (not (c.flags == 0)) (Err NotSupported) (cond (is_some (buffer_of c.dbuf_cookie bs)) (Err Exists) (cond (nat_le 64 n) (Err Full) (cond (is_in_range (made_of c)) (Ok tt) (Err Invalid))))) (same_length bs ns)
 
-pub same_verdict : (bs : List Held) (ns : List ℕ) (a : Asked) → verdict (numbered bs ns) a ≡ verdict bs a
-same_verdict bs ns (asked.Create c) = ap checked (same_check bs ns c)
-same_verdict bs ns (asked.Destroy cookie) = ap (λ t. cond t (pos 0) (status_of Unknown)) (same_live cookie bs ns)
-same_verdict bs ns (asked.Config c) = refl
-same_verdict bs ns asks = refl
+pub same_buffer : (cookie : ℕ) (bs : List Held) (ns : List ℕ) → buffer_at cookie (numbered bs ns) ≡ buffer_at cookie bs
+same_buffer cookie [] ns = refl
+same_buffer cookie (b ∷ bs) [] = by_test (has_cookie cookie b) (same_buffer cookie bs [])
+  where
+    by_test : (t : Bool) → buffer_at cookie (numbered bs []) ≡ buffer_at cookie bs → of_live (cond t (Some (record { buffer = b.buffer; pages = 0 })) (buffer_of cookie (numbered bs []))) ≡ of_live (cond t (Some b) (buffer_of cookie bs))
+    by_test true later = refl
+    by_test false later = later
+same_buffer cookie (b ∷ bs) (n ∷ ns) = by_test (has_cookie cookie b) (same_buffer cookie bs ns)
+  where
+    by_test : (t : Bool) → buffer_at cookie (numbered bs ns) ≡ buffer_at cookie bs → of_live (cond t (Some (record { buffer = b.buffer; pages = n })) (buffer_of cookie (numbered bs ns))) ≡ of_live (cond t (Some b) (buffer_of cookie bs))
+    by_test true later = refl
+    by_test false later = later
 
-pub same_status : (denied : Bool) (bs : List Held) (ns : List ℕ) (a : Asked) (status : ℤ) → IsStatus denied bs a status → IsStatus denied (numbered bs ns) a status
-same_status true bs ns a status h = h
-same_status false bs ns a status (inl h) = inl (h ∙ sym (same_verdict bs ns a))
-same_status false bs ns a status (inr h) = inr (h.0, same_verdict bs ns a ∙ h.1, h.2)
+pub same_verdict : (bs : List Held) (ns : List ℕ) (sc : Scene) (a : Asked) → verdict (numbered bs ns) sc a ≡ verdict bs sc a
+same_verdict bs ns sc (asked.Create c) = ap checked (same_check bs ns c)
+same_verdict bs ns sc (asked.Destroy cookie) = ap (λ t. destroy_verdict t (is_used cookie sc.frames)) (same_live cookie bs ns)
+same_verdict bs ns sc (asked.Attach a) = ap (λ o. checked (attach_check sc.frames a o)) (same_buffer a.dbuf_cookie bs ns)
+same_verdict bs ns sc (asked.Detach fb) = refl
+same_verdict bs ns sc (asked.Config c) = refl
+same_verdict bs ns sc (asked.Flip fb) = refl
+same_verdict bs ns sc asked.Other = refl
+
+pub same_scene : (bs : List Held) (ns : List ℕ) (sc : Scene) (a : Asked) (accepted : Bool) → scene_after bs sc a accepted ≡ scene_after (numbered bs ns) sc a accepted
+same_scene bs ns sc (asked.Attach a) true = ap (λ o. record sc { frames = with_frame sc.frames a o }) (sym (same_buffer a.dbuf_cookie bs ns))
+same_scene bs ns sc (asked.Attach a) false = refl
+same_scene bs ns sc (asked.Create c) accepted = refl
+same_scene bs ns sc (asked.Destroy cookie) accepted = refl
+same_scene bs ns sc (asked.Detach fb) true = refl
+same_scene bs ns sc (asked.Detach fb) false = refl
+same_scene bs ns sc (asked.Config c) true = refl
+same_scene bs ns sc (asked.Config c) false = refl
+same_scene bs ns sc (asked.Flip fb) true = refl
+same_scene bs ns sc (asked.Flip fb) false = refl
+same_scene bs ns sc asked.Other accepted = refl
+
+pub same_status : (denied : Bool) (bs : List Held) (ns : List ℕ) (sc : Scene) (a : Asked) (status : ℤ) → IsStatus denied bs sc a status → IsStatus denied (numbered bs ns) sc a status
+same_status true bs ns sc a status h = h
+same_status false bs ns sc a status (inl h) = inl (h ∙ sym (same_verdict bs ns sc a))
+same_status false bs ns sc a status (inr h) = inr (h.0, same_verdict bs ns sc a ∙ h.1, h.2)
 
 -- buffers without pages have their numbers still
 pub numbered_bared : (cookie : ℕ) (bs : List Held) (ns : List ℕ) → numbered (bared cookie bs) ns ≡ numbered bs ns
@@ -80,8 +116,11 @@ AreLike bs cs = numbered bs [] ≡ numbered cs []
 pub like_length : (bs cs : List Held) → AreLike bs cs → length bs ≡ length cs
 like_length bs cs e = sym (same_length bs []) ∙ (ap (λ (x : List (Live ℕ)). length x) e ∙ same_length cs [])
 
-pub like_verdict : (bs cs : List Held) (a : Asked) → AreLike bs cs → verdict bs a ≡ verdict cs a
-like_verdict bs cs a e = sym (same_verdict bs [] a) ∙ (ap (λ (x : List (Live ℕ)). verdict x a) e ∙ same_verdict cs [] a)
+pub like_verdict : (bs cs : List Held) (sc : Scene) (a : Asked) → AreLike bs cs → verdict bs sc a ≡ verdict cs sc a
+like_verdict bs cs sc a e = sym (same_verdict bs [] sc a) ∙ (ap (λ (x : List (Live ℕ)). verdict x sc a) e ∙ same_verdict cs [] sc a)
+
+pub like_buffer : (bs cs : List Held) (cookie : ℕ) → AreLike bs cs → buffer_at cookie bs ≡ buffer_at cookie cs
+like_buffer bs cs cookie e = sym (same_buffer cookie bs []) ∙ (ap (λ (x : List (Live ℕ)). buffer_at cookie x) e ∙ same_buffer cookie cs [])
 
 same_cookies : (bs : List Held) → cookies (numbered bs []) ≡ cookies bs
 same_cookies [] = refl
@@ -145,7 +184,7 @@ ids_fresh cookie (b ∷ bs) (n ∷ ns) all fresh = by_test (has_cookie cookie b)
     by_test false e later = ap (λ x. n ∷ x) later
 
 -- a CREATE is accepted where it passed its checks
-not_refused : (why : Refused) → status_of why ≡ pos 0 → ⊥
+pub not_refused : (why : Refused) → status_of why ≡ pos 0 → ⊥
 not_refused NotSupported h = cc
 not_refused Exists h = cc
 not_refused Full h = cc

@@ -1,5 +1,5 @@
 -- What a step of a display's service comes to.
-use Rattle.std.proofs.Common.{◌≡◌, ℕ, ℤ, ◌<◌, ◌++◌, true, false, nat_lt, List, [], ◌∷◌, length, Option, Some, None, refl, sym, ap, subst, ◌∙◌, arith}
+use Rattle.std.proofs.Common.{◌≡◌, ℕ, ℤ, ◌<◌, ◌++◌, ◌&&◌, Bool, true, false, nat_lt, List, [], ◌∷◌, length, Option, Some, None, refl, sym, ap, subst, ◌∙◌, arith}
 use Rattle.std.proofs.lemmas.Bool.{true≢false}
 use Rattle.pv_words.specs.declared.access.Access.{Access}
 use Rattle.pv_words.specs.declared.device.Said.{Said}
@@ -25,19 +25,20 @@ use Rattle.device_service.specs.declared.deed.Now.{Now}
 use Rattle.device_service.specs.declared.deed.Now.TheVariants.{GoesOn, Over}
 use Rattle.device_service.specs.Operating.{Comes, Continues, Leaves}
 use Rattle.display_backend.specs.declared.course.Course.{Course}
-use Rattle.display_backend.specs.declared.course.Course.TheVariants.{Rests, Walks, Frees}
+use Rattle.display_backend.specs.declared.course.Course.TheVariants.{Rests, Walks, Frees, Reads}
 use Rattle.display_backend.specs.declared.course.Progress.{Progress}
 use Rattle.display_backend.specs.declared.course.Progress.TheVariants as progress
 use Rattle.display_backend.specs.Course.{Goes, is_under_way, is_walk_of, pages_walked, stock_at, left_at, Creates, Destroys, ComesTo, InHand, HasDestroy, Releases, Stands}
 use Rattle.display_backend.specs.Service.{Known, Ending, Listed, Freed, after_walk, display, has_work, ready_at, ready_for, reply_for, says_at}
-use Rattle.display_backend.specs.Stock.{Stock, Held, pages_of, pages_under, less_one, bared, stripped, without_first}
+use Rattle.display_buffers.specs.Stock.{Stock, Held, pages_of, pages_under, less_one, bared, stripped, without_first}
 use Rattle.display_backend.specs.Names.{numbered}
 use Rattle.display_backend.specs.Reply.{reply_to}
-use Rattle.display_backend.specs.Verdict.{status_in, verdict}
+use Rattle.display_backend.specs.Scene.{Scene}
+use Rattle.display_backend.specs.Verdict.{is_accepted, status_in, verdict}
 use Rattle.page_directory.proofs.Releases.{drops_goes}
 use Rattle.display_backend.proofs.Freeing.{bare_freed}
 use Rattle.display_backend.proofs.Numbered.{AreLike, like_verdict, numbered_all_bared, numbered_bared, same_check}
-use Rattle.display_backend.proofs.Order.{buffers_stay, none_under, others_stay, under_less}
+use Rattle.display_buffers.proofs.Order.{buffers_stay, none_under, others_stay, under_less}
 use Rattle.device_service.proofs.Serving.{in_service}
 use Rattle.device_core.specs.Site.{Site}
 use Rattle.device_service.specs.Claims.{site_of}
@@ -46,16 +47,17 @@ use Rattle.std.proofs.lemmas.Bool.{eqb-true}
 abbrev stock : List Hold → List Held → Stock
 stock mapped buffers = record { mapped = mapped; buffers = buffers }
 
-abbrev pub knowing : Stock → Option Request → Progress → Known
-knowing s hand p = record { stock = s; request = hand; progress = p }
+abbrev pub knowing : Stock → Scene → Option Request → Progress → Known
+knowing s sc hand p = record { stock = s; scene = sc; request = hand; progress = p }
 
 -- between two activities nothing is given up
 pub at_rest : (course : Course) (s : Stock) → is_under_way course ≡ false → stock_at course s ≡ s
 at_rest Rests s e = refl
 at_rest (Walks w) s e = refl
+at_rest (Reads r) s e = refl
 at_rest (Frees cookie) s e = absurd (true≢false e)
 
-goes_mapped : {A B : Type 0} (f : A → B) (p : Plan A) (a : Access) (q : Plan A) → plan.Goes p a q → plan.Goes (mapped f p) a (mapped f q)
+pub goes_mapped : {A B : Type 0} (f : A → B) (p : Plan A) (a : Access) (q : Plan A) → plan.Goes p a q → plan.Goes (mapped f p) a (mapped f q)
 goes_mapped f (Finished x) a q g = absurd g
 goes_mapped f (Make want note more) a q g = (g.0, ap (mapped f) g.1)
 
@@ -162,17 +164,23 @@ ready_rest progress.Denied = refl
 ready_rest progress.Mapped = refl
 ready_rest progress.Released = refl
 
-ready_destroy : (cookie : ℕ) (hand : Option Request) (p : Progress) (s : Stock) → HasDestroy hand cookie → ready_for (knowing (stock s.mapped (bared cookie s.buffers)) hand p) hand ≡ true
-ready_destroy cookie None p s h = refl
-ready_destroy cookie (Some q) p s h =
-    ap (λ (a : Asked). ready_at p (has_work (bared cookie s.buffers) a)) h
-    ∙ (ap (λ (hs : List Hold). ready_at p (nat_lt 0 (length hs))) (none_under cookie s.buffers)
-    ∙ ready_rest p)
+no_work : (b : Bool) → (b && false) ≡ false
+no_work true = refl
+no_work false = refl
 
-pub ready_freeing : (course : Course) (cookie : ℕ) (hand : Option Request) (p : Progress) (s : Stock) (count : ℕ) → course ≡ Frees cookie → Stands course hand p s.buffers count → ready_for (knowing (stock_at course s) hand p) hand ≡ true
-ready_freeing course cookie hand p s count is st =
-    ap (λ k. ready_for (knowing (stock_at k s) hand p) hand) is
-    ∙ ready_destroy cookie hand p s (releases course cookie hand p s.buffers count is st).destroys
+ready_destroy : (cookie : ℕ) (hand : Option Request) (p : Progress) (s : Stock) (sc : Scene) → HasDestroy hand cookie → ready_for (knowing (stock s.mapped (bared cookie s.buffers)) sc hand p) hand ≡ true
+ready_destroy cookie None p s sc h = refl
+ready_destroy cookie (Some q) p s sc h =
+    let accepted = is_accepted (verdict (bared cookie s.buffers) sc (asked.Destroy cookie)) in
+    ap (λ (a : Asked). ready_at p (has_work (bared cookie s.buffers) sc a)) h
+    ∙ (ap (λ (hs : List Hold). ready_at p (accepted && nat_lt 0 (length hs))) (none_under cookie s.buffers)
+    ∙ (ap (ready_at p) (no_work accepted)
+    ∙ ready_rest p))
+
+pub ready_freeing : (course : Course) (cookie : ℕ) (hand : Option Request) (p : Progress) (s : Stock) (sc : Scene) (count : ℕ) → course ≡ Frees cookie → Stands course hand p s.buffers count → ready_for (knowing (stock_at course s) sc hand p) hand ≡ true
+ready_freeing course cookie hand p s sc count is st =
+    ap (λ k. ready_for (knowing (stock_at k s) sc hand p) hand) is
+    ∙ ready_destroy cookie hand p s sc (releases course cookie hand p s.buffers count is st).destroys
 
 -- the first of all pages is given up: what is known of the request in hand stays
 like_less : (s : Stock) → AreLike (without_first s).buffers s.buffers
@@ -212,6 +220,7 @@ in_hand_less s (Some q) p count h = comes_less s p q.asked count h
 
 pub stands_less : (course : Course) (hand : Option Request) (p : Progress) (s t : Stock) (count more : ℕ) → is_under_way course ≡ false → t ≡ without_first s → more ≡ count → Stands course hand p s.buffers count → Stands course hand p t.buffers more
 stands_less (Walks w) hand p s t count more idle e f st = absurd (true≢false idle)
+stands_less (Reads r) hand p s t count more idle e f st = absurd (true≢false idle)
 stands_less (Frees cookie) hand p s t count more idle e f st = absurd (true≢false idle)
 stands_less Rests hand p s t count more idle e f st =
     subst (λ (x : Stock). InHand hand p x.buffers more) (sym e)
@@ -225,15 +234,15 @@ strips_less course s t idle e =
     ∙ ap (λ x. stripped x) (sym (at_rest course s idle))))
 
 -- the walk under way goes on
-pub walk_continues : (frames grants : ℕ → ℕ) (dom parts : ℕ) (course mid : Course) (w : Walk) (hand : Option Request) (p : Progress) (s : Stock) (count : ℕ) (access : Option Access) (now : Now) (told : Option Said) (y : Known) (left : Site → Plan Ending) → course ≡ Walks w → mid ≡ Rests → is_walk_of dom course ≡ true → Stands course hand p s.buffers count → ((n : ℕ) → Comes display (knowing (stock_at mid s) hand p) (mapped Listed (walk_left (frames (dom_of w)) (grants (dom_of w)) w)) access now told y (left (site_of frames grants (dom_of w) n))) → Continues display (knowing (stock_at course s) hand p) (left_at (site_of frames grants dom parts) course s) access now told y (left (site_of frames grants dom parts))
-walk_continues frames grants dom parts course mid w hand p s count access now told y left is rests of st comes =
+pub walk_continues : (frames grants : ℕ → ℕ) (dom parts : ℕ) (course mid : Course) (w : Walk) (hand : Option Request) (p : Progress) (s : Stock) (sc : Scene) (count : ℕ) (access : Option Access) (now : Now) (told : Option Said) (y : Known) (left : Site → Plan Ending) → course ≡ Walks w → mid ≡ Rests → is_walk_of dom course ≡ true → Stands course hand p s.buffers count → ((n : ℕ) → Comes display (knowing (stock_at mid s) sc hand p) (mapped Listed (walk_left (frames (dom_of w)) (grants (dom_of w)) w)) access now told y (left (site_of frames grants (dom_of w) n))) → Continues display (knowing (stock_at course s) sc hand p) (left_at (site_of frames grants dom parts) course s) access now told y (left (site_of frames grants dom parts))
+walk_continues frames grants dom parts course mid w hand p s sc count access now told y left is rests of st comes =
     let dom_is : dom_of w ≡ dom = eqb-true _ _ (subst (λ (k : Course). is_walk_of dom k ≡ true) is of) in
     let goes : Goes w = (subst (λ (k : Course). Stands k hand p s.buffers count) is st).2 in
     let plan = walk_left (frames (dom_of w)) (grants (dom_of w)) w in
-    let from = subst (λ (k : Course). Comes display (knowing (stock_at k s) hand p) (mapped Listed plan) access now told y (left (site_of frames grants (dom_of w) parts))) rests (comes parts) in
-    let further = comes_further (knowing s hand p) plan access now told y (left (site_of frames grants (dom_of w) parts)) (goes.further (frames (dom_of w)) (grants (dom_of w))) from in
-    let at = subst (λ n. Continues display (knowing s hand p) (mapped Listed (walk_left (frames n) (grants n) w)) access now told y (left (site_of frames grants n parts))) dom_is further in
-    subst (λ (k : Course). Continues display (knowing (stock_at k s) hand p) (left_at (site_of frames grants dom parts) k s) access now told y (left (site_of frames grants dom parts))) (sym is) at
+    let from = subst (λ (k : Course). Comes display (knowing (stock_at k s) sc hand p) (mapped Listed plan) access now told y (left (site_of frames grants (dom_of w) parts))) rests (comes parts) in
+    let further = comes_further (knowing s sc hand p) plan access now told y (left (site_of frames grants (dom_of w) parts)) (goes.further (frames (dom_of w)) (grants (dom_of w))) from in
+    let at = subst (λ n. Continues display (knowing s sc hand p) (mapped Listed (walk_left (frames n) (grants n) w)) access now told y (left (site_of frames grants n parts))) dom_is further in
+    subst (λ (k : Course). Continues display (knowing (stock_at k s) sc hand p) (left_at (site_of frames grants dom parts) k s) access now told y (left (site_of frames grants dom parts))) (sym is) at
 
 -- in a page that it holds
 pub in_walked : (access : Option Access) (course : Course) (w : Walk) (s : Stock) → course ≡ Walks w → AccessIn (held_by w) access → AccessIn (pages_walked course ++ pages_of s) access
@@ -241,12 +250,13 @@ in_walked access course w s is h =
     subst (λ (k : Course). AccessIn (pages_walked k ++ pages_of s) access) (sym is) (in_service (held_by w) (pages_of s) access h)
 
 -- the verdict stays while pages are given up
-verdict_at : (course : Course) (s : Stock) (asks : Asked) → verdict (stock_at course s).buffers asks ≡ verdict s.buffers asks
-verdict_at Rests s asks = refl
-verdict_at (Walks w) s asks = refl
-verdict_at (Frees cookie) s asks = like_verdict (bared cookie s.buffers) s.buffers asks (numbered_bared cookie s.buffers [])
+verdict_at : (course : Course) (s : Stock) (sc : Scene) (asks : Asked) → verdict (stock_at course s).buffers sc asks ≡ verdict s.buffers sc asks
+verdict_at Rests s sc asks = refl
+verdict_at (Walks w) s sc asks = refl
+verdict_at (Reads r) s sc asks = refl
+verdict_at (Frees cookie) s sc asks = like_verdict (bared cookie s.buffers) s.buffers sc asks (numbered_bared cookie s.buffers [])
 
-pub reply_is : (course : Course) (q : Request) (hand : Option Request) (p : Progress) (s : Stock) (status : ℤ) → hand ≡ Some q → status ≡ status_in p (verdict s.buffers q.asked) → reply_to q status ≡ reply_for (knowing (stock_at course s) hand p) hand
-reply_is course q hand p s status is e =
-    ap (reply_to q) (e ∙ ap (status_in p) (sym (verdict_at course s q.asked)))
-    ∙ ap (λ (h : Option Request). reply_for (knowing (stock_at course s) h p) h) (sym is)
+pub reply_is : (course : Course) (q : Request) (hand : Option Request) (p : Progress) (s : Stock) (sc : Scene) (status : ℤ) → hand ≡ Some q → status ≡ status_in p (verdict s.buffers sc q.asked) → reply_to q status ≡ reply_for (knowing (stock_at course s) sc hand p) hand
+reply_is course q hand p s sc status is e =
+    ap (reply_to q) (e ∙ ap (status_in p) (sym (verdict_at course s sc q.asked)))
+    ∙ ap (λ (h : Option Request). reply_for (knowing (stock_at course s) sc h p) h) (sym is)

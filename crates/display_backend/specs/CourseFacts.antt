@@ -7,11 +7,12 @@ use Rattle.displ_wire.specs.declared.Asked.TheVariants as asked
 use Rattle.displ_wire.specs.declared.Request.{Request}
 use Rattle.page_directory.specs.declared.walk.Walk.{Walk}
 use Rattle.display_backend.specs.declared.course.Course.{Course}
-use Rattle.display_backend.specs.declared.course.Course.TheVariants.{Rests, Walks, Frees}
+use Rattle.display_backend.specs.declared.course.Course.TheVariants.{Rests, Walks, Frees, Reads}
 use Rattle.display_backend.specs.declared.course.Progress.{Progress}
 use Rattle.display_backend.specs.declared.course.Progress.TheVariants as progress
-use Rattle.display_backend.specs.Course.{Creates, Destroys, ComesTo, InHand, HasCreate, HasDestroy, Goes, Releases, Stands}
-use Rattle.display_backend.specs.Stock.{Held}
+use Rattle.display_backend.specs.Course.{Creates, Destroys, ComesTo, InHand, HasCreate, HasDestroy, Goes, IsReading, Releases, Stands}
+use Rattle.display_backend.specs.declared.picture.Reading.{Reading}
+use Rattle.display_buffers.specs.Stock.{Held}
 
 further_prop : {A : Type 0} (p : Plan A) → IsProp (IsUnfinished p)
 further_prop (Finished x) = hlevel props
@@ -48,7 +49,11 @@ goes_prop w = hlevel (props, further_prop)
 releases_prop : (cookie : ℕ) (hand : Option Request) (bs : List Held) → IsProp (Releases cookie hand bs)
 releases_prop cookie hand bs = hlevel (props, destroy_prop)
 
+reading_prop : (r : Reading) (bs : List Held) → IsProp (IsReading r bs)
+reading_prop r bs = hlevel props
+
 pub stands_prop : (course : Course) (hand : Option Request) (p : Progress) (bs : List Held) (count : ℕ) → IsProp (Stands course hand p bs count)
 stands_prop Rests hand p bs count = hand_prop hand p bs count
 stands_prop (Walks w) hand p bs count = hlevel (props, create_prop, goes_prop)
 stands_prop (Frees cookie) hand p bs count = hlevel (props, releases_prop)
+stands_prop (Reads r) hand p bs count = hlevel (props, hand_prop, reading_prop)

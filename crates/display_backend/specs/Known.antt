@@ -6,11 +6,12 @@ use Rattle.device_core.specs.Site.{Site}
 use Rattle.display_backend.specs.declared.service.Service.{Service}
 use Rattle.display_backend.specs.Course.{is_under_way, is_walk_of, pages_walked, stock_at, left_at}
 use Rattle.display_backend.specs.Service.{Known, Ending}
-use Rattle.display_backend.specs.Stock.{pages_of}
-use Rattle.display_backend.specs.Store.{stock_of}
+use Rattle.display_backend.specs.Showing.{scene_of}
+use Rattle.display_buffers.specs.Stock.{pages_of}
+use Rattle.display_buffers.specs.Store.{stock_of}
 
 abbrev pub known_of : Service → Known
-known_of s = record { stock = stock_at s.course (stock_of s.store); request = s.hand; progress = s.progress }
+known_of s = record { stock = stock_at s.course (stock_of s.store); scene = scene_of s.scene; request = s.hand; progress = s.progress }
 
 abbrev pub going_of : Service → Bool
 going_of s = is_under_way s.course

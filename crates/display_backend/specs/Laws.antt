@@ -1,34 +1,21 @@
--- What the pages of buffers come to, and what a display tells that it holds.
-use Rattle.std.specs.Prelude.{◌≡◌, ℕ, List, [], ◌++◌, drop}
+-- What a display tells that it holds, and what it shows.
+use Rattle.std.specs.Prelude.{◌≡◌, ℕ, ◌+◌, ◌<◌, ◌≤◌, ◌⊎◌, true, List, Option, Some}
+use Rattle.pv_words.specs.Along.{after}
 use Rattle.pv_words.specs.declared.grant.Hold.{Hold}
-use Rattle.displ_wire.specs.declared.Create.{Create}
-use Rattle.display_buffers.specs.Buffers.{AreDistinct, cookies}
-use Rattle.page_directory.specs.Same.{AreSame}
+use Rattle.displ_wire.specs.declared.buffer.Buffer.{Buffer}
+use Rattle.displ_wire.specs.declared.framebuffer.Framebuffer.{Framebuffer}
+use Rattle.display_buffers.specs.Buffers.{buffer_at}
+use Rattle.framebuffers.specs.Frames.{LiesIn, frame_of}
+use Rattle.connectors.specs.declared.connector.Connector.{Connector}
+use Rattle.connectors.specs.declared.rectangle.Rectangle.{Rectangle}
+use Rattle.device_core.specs.Order.{Own, followed, work_at}
+use Rattle.device_core.specs.Site.{Site}
+use Rattle.device_service.specs.Claims.{IsWork, site_of}
 use Rattle.device_service.specs.Held as held
+use Rattle.device_service.specs.Work.{device, first_station}
 use Rattle.display_backend.specs.declared.display.Display.{Display}
-use Rattle.display_backend.specs.Stock.{Stock, Held, pages_of, buffer_pages, pages_under, less_one, bared, stripped, without_first, created, destroyed}
-
--- The first page that is given up is the first of all; what is left is the others, in order. With all of them given up the
--- buffers are the same as with one less.
-abbrev pub GivesUpInOrder : Type 0
-GivesUpInOrder =
-    (s : Stock) → (pages_of (without_first s) ≡ drop 1 (pages_of s)) × (stripped (without_first s) ≡ stripped s) × (pages_of (stripped s) ≡ [])
-
--- Giving up one page of one buffer leaves its others in order, and all pages of other buffers.
-abbrev pub FreesInOrder : Type 0
-FreesInOrder =
-    (cookie : ℕ) (bs : List Held)
-    → (pages_under cookie (less_one cookie bs) ≡ drop 1 (pages_under cookie bs))
-    × (bared cookie (less_one cookie bs) ≡ bared cookie bs)
-    × (pages_under cookie (bared cookie bs) ≡ [])
-    × AreSame (buffer_pages bs) (pages_under cookie bs ++ buffer_pages (bared cookie bs))
-
--- A CREATE keeps all pages, and so does a DESTROY of a buffer that has none, where the buffers have different cookies.
-abbrev pub KeepsPages : Type 0
-KeepsPages =
-    (s : Stock)
-    → ((c : Create) → AreSame (pages_of s) (pages_of (created s c)))
-    × ((cookie : ℕ) → AreDistinct (cookies s.buffers) → pages_under cookie s.buffers ≡ [] → AreSame (pages_of s) (pages_of (destroyed s cookie)))
+use Rattle.display_backend.specs.Scene.{connector_at}
+use Rattle.display_backend.specs.Service.{Known, display, nothing_known, shows, table}
 
 -- Whatever it has done and heard, where it stands by that its accesses hold so many pages; and they hold this page.
 abbrev pub HoldsAsMany : Display → ℕ → Type 0
@@ -41,3 +28,35 @@ HoldsPage d h = held.HoldsPage d.backend h
 -- often.
 abbrev pub TellsWhatIsHeld : Type 0
 TellsWhatIsHeld = (d : Display) → held.TellsWhatIsHeld d.backend
+
+-- what a display's service knows that has done and heard this since it was declared
+abbrev pub known_by : Site → List Own → Known
+known_by site es = (work_at (after (followed (device display site)) (first_station nothing_known) es).stand).service
+
+-- a connector shows the framebuffer of this cookie, or is to show it by a pending flip whose mark stands
+abbrev pub IsToShow : Connector → ℕ → Type 0
+IsToShow c fb = (c.shown ≡ Some fb) ⊎ (c.flip ≡ Some (record { fb = fb; marked = true }))
+
+-- This cookie names a live framebuffer in which the configured rectangle lies, with pixels and as many bits for each; and the
+-- framebuffer lies in a live display buffer.
+pub record ShowsLive (x : Known) (configured : Option Rectangle) (fb : ℕ) : Type 0 where
+  pub rectangle : Rectangle
+  pub is_configured : configured ≡ Some rectangle
+  pub frame : Framebuffer
+  pub is_live : frame_of fb x.scene.frames ≡ Some frame
+  pub wide : 0 < rectangle.width
+  pub high : 0 < rectangle.height
+  pub across : rectangle.x + rectangle.width ≤ frame.width
+  pub down : rectangle.y + rectangle.height ≤ frame.height
+  pub depth : rectangle.bpp ≡ frame.bpp
+  pub buffer : Buffer
+  pub has_buffer : buffer_at frame.dbuf x.stock.buffers ≡ Some buffer
+  pub lies : LiesIn frame buffer
+
+-- Wherever a display stands by what it has done and heard, each connector shows, and is to show, what is live.
+abbrev pub ShowsStaySound : Type 0
+ShowsStaySound =
+    (frames grants : ℕ → ℕ) (dom parts : ℕ) (es : List Own)
+    → IsWork display table shows (site_of frames grants dom parts) nothing_known es
+    → (part fb : ℕ) → IsToShow (connector_at (known_by (site_of frames grants dom parts) es).scene part) fb
+    → ShowsLive (known_by (site_of frames grants dom parts) es) (connector_at (known_by (site_of frames grants dom parts) es).scene part).rectangle fb

@@ -4,12 +4,13 @@ pub mod Display
 pub mod Kept
 pub mod Known
 pub mod Laws
-pub mod Left
 pub mod Names
 pub mod Over
+pub mod Picture
 pub mod Reply
+pub mod Scans
+pub mod Scene
 pub mod Service
-pub mod Stock
-pub mod Store
+pub mod Showing
 pub mod Verdict
 pub mod Waiting

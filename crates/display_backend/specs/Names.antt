@@ -6,7 +6,7 @@ use Rattle.displ_wire.specs.declared.Asked.TheVariants as asked
 use Rattle.display_buffers.specs.declared.live.Live.{Live}
 use Rattle.display_buffers.specs.Buffers.{has_cookie}
 use Rattle.device_core.specs.Names.{Name, cells_of}
-use Rattle.display_backend.specs.Stock.{Held}
+use Rattle.display_buffers.specs.Stock.{Held}
 
 -- the buffers, each with its number in place of its pages
 abbrev pub numbered : List Held → List ℕ → List (Live ℕ)

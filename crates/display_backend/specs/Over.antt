@@ -1,9 +1,9 @@
 -- What a display's service does over words, whose members a clause names all together by `W.Words`.
-use Rattle.std.specs.Prelude.{◌≡◌, ℕ, List, length, Option}
+use Rattle.std.specs.Prelude.{◌≡◌, ℕ, List, length, Option, Some, None}
 use Rattle.pv_words.specs.declared.grant.Hold.{Hold}
 use Rattle.pv_words.specs.declared.grant.Mode.TheVariants.{Read}
 use Rattle.pv_words.specs.declared.words.Words.{Ghosts as Words}
-use Rattle.pv_words.specs.Plan.{Plan, mapped}
+use Rattle.pv_words.specs.Plan.{Plan, Finished, mapped}
 use Rattle.displ_wire.specs.declared.Asked.TheVariants as asked
 use Rattle.displ_wire.specs.declared.Create.{Create}
 use Rattle.displ_wire.specs.declared.Request.{Request}
@@ -15,13 +15,17 @@ use Rattle.page_directory.specs.Walking.{walk_plan}
 use Rattle.page_directory.specs.WalkLeft.{dom_of, walk_left}
 use Rattle.device_core.specs.Site.{Site}
 use Rattle.device_service.specs.Claims.{site_of}
-use Rattle.device_service.specs.Operating.{Begins, Comes, Continues}
+use Rattle.device_service.specs.Operating.{Begins, Comes, Continues, Serves}
+use Rattle.device_service.specs.Service.{Runs}
 use Rattle.device_service.specs.declared.deed.Deed.{Deed}
 use Rattle.display_backend.specs.declared.service.Service.{Service}
-use Rattle.display_backend.specs.Course.{HasCreate}
+use Rattle.display_backend.specs.declared.picture.Reading.{Reading}
+use Rattle.display_backend.specs.declared.waiting.Waiting.TheVariants as waiting
+use Rattle.display_buffers.specs.Store.{stock_of}
+use Rattle.display_backend.specs.Course.{HasCreate, IsReading, reading_left}
 use Rattle.display_backend.specs.Known.{known_of, left_of}
-use Rattle.display_backend.specs.Service.{Listed, display, job_of}
-use Rattle.display_backend.specs.Stock.{Held}
+use Rattle.display_backend.specs.Service.{Listed, Served, display, event_for, job_of}
+use Rattle.display_buffers.specs.Stock.{Held}
 
 -- the request in hand is a CREATE of so many octets; of as many pages as a walk came to
 abbrev pub HasCreateOf : Option Request → List Held → (octets : ℕ) → Type 0
@@ -30,7 +34,22 @@ HasCreateOf hand bs octets = (count : ℕ) → count ≡ walking.pages_of octets
 abbrev pub HasCreateFor : Option Request → List Held → Walked → Type 0
 HasCreateFor hand bs end = (pages : List Hold) → end ≡ walked.Pages pages → HasCreate hand bs (length pages)
 
+-- The reading of what a connector shows, before its first load; none where a Show of it only is told.
+abbrev pub ReadsFor : Service → (part : ℕ) → Option Reading → Type 0
+ReadsFor d part None = event_for (known_of d) (waiting.Show part) ≡ Runs (Finished (Served (waiting.Show part)))
+ReadsFor d part (Some r) =
+    (event_for (known_of d) (waiting.Show part) ≡ Runs (reading_left (stock_of d.store).buffers r)) × IsReading r (stock_of d.store).buffers
+
 module _ (site : Site) (old : Service) where
+  -- the next step of the reading of a picture; the first of a Show
+  abbrev pub ReadsOn : Reading → Deed → Service → Type 0
+  ReadsOn r deed new =
+      Continues display (known_of old) (reading_left (stock_of old.store).buffers r) deed.access deed.now deed.said (known_of new) (left_of site new)
+
+  abbrev pub ShowsFor : (part : ℕ) → Deed → Service → Type 0
+  ShowsFor part deed new =
+      Serves display (known_of old) (event_for (known_of old) (waiting.Show part)) deed.access deed.now deed.said (known_of new) (left_of site new)
+
   -- the first step of what a CREATE leads to
   abbrev pub BeginsCreate : Create → Deed → Service → Type 0
   BeginsCreate c deed new =

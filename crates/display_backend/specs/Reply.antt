@@ -6,7 +6,7 @@ use Rattle.displ_wire.specs.declared.Request.{Request}
 use Rattle.displ_wire.specs.Wire.{reply_words}
 use Rattle.display_buffers.specs.declared.live.Live.{Live}
 use Rattle.display_buffers.specs.Buffers.{with_buffer, without_buffer}
-use Rattle.display_backend.specs.Stock.{Stock, created, destroyed}
+use Rattle.display_buffers.specs.Stock.{Stock, created, destroyed}
 
 -- the reply to a request
 abbrev pub reply_to : Request → ℤ → List ℕ
@@ -18,8 +18,8 @@ stock_after s (asked.Create c) true = created s c
 stock_after s (asked.Destroy cookie) true = destroyed s cookie
 stock_after s asks accepted = s
 
--- so it is in the rows, where the name of a buffer is the number of the reply that made it
-abbrev pub replied_to : List (Live ℕ) → ℕ → Asked → Bool → List (Live ℕ)
-replied_to bs number (asked.Create c) true = with_buffer bs c number
-replied_to bs number (asked.Destroy cookie) true = without_buffer cookie bs
-replied_to bs number asked accepted = bs
+-- so it is with the buffers alone, where this goes with a buffer that is made: its pages, or, in the rows, its name's number
+abbrev pub replied_to : {P : Type 0} → List (Live P) → P → Asked → Bool → List (Live P)
+replied_to bs made (asked.Create c) true = with_buffer bs c made
+replied_to bs made (asked.Destroy cookie) true = without_buffer cookie bs
+replied_to bs made asks accepted = bs

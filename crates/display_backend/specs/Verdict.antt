@@ -1,29 +1,43 @@
 -- The verdict on a request, and the status that answers it.
-use Rattle.std.specs.Prelude.{◌≡◌, ◌⊎◌, zero, ℤ, pos, negsuc, Bool, true, false, List, is_some, Result, Ok, Err, if◌then◌else◌}
+use Rattle.std.specs.Prelude.{◌≡◌, ◌⊎◌, zero, ℤ, pos, negsuc, Bool, true, false, List, is_some, Result, Ok, Err}
 use Rattle.displ_wire.specs.declared.Asked.{Asked}
 use Rattle.displ_wire.specs.declared.Asked.TheVariants as asked
 use Rattle.displ_wire.specs.declared.buffer.Refused.{Refused}
 use Rattle.displ_wire.specs.declared.buffer.Refused.TheVariants.{NotSupported, Unknown}
 use Rattle.displ_wire.specs.Refused.{status_of}
-use Rattle.displ_wire.specs.Wire.{all_zero}
 use Rattle.display_buffers.specs.declared.live.Live.{Live}
 use Rattle.display_buffers.specs.Buffers.{buffer_of, check_of}
+use Rattle.framebuffers.specs.Frames.{attach_check, detach_check, frame_of, is_used}
+use Rattle.connectors.specs.Connectors.{config_check, flip_check}
+use Rattle.display_backend.specs.Scene.{Scene, asking}
+use Rattle.display_buffers.specs.Buffers.{buffer_at}
 use Rattle.display_backend.specs.declared.course.Progress.{Progress}
 use Rattle.display_backend.specs.declared.course.Progress.TheVariants as progress
 
--- the status of a CREATE, as its checks come out
+-- the status of a request, as its checks come out
 abbrev pub checked : Result (Unit {0}) Refused → ℤ
 checked (Ok fine) = pos 0
 checked (Err why) = status_of why
 
--- The verdict on a request: CREATE by its checks; DESTROY of a live buffer (0), of another (ENOENT); SET_CONFIG of zeros takes
--- the configuration away (0), with another field it names a framebuffer, of which none is live (ENOENT); no other operation
--- is met (EOPNOTSUPP).
-abbrev pub verdict : {P : Type 0} → List (Live P) → Asked → ℤ
-verdict bs (asked.Create c) = checked (check_of bs c)
-verdict bs (asked.Destroy cookie) = if is_some (buffer_of cookie bs) then pos 0 else status_of Unknown
-verdict bs (asked.Config c) = if all_zero c then pos 0 else status_of Unknown
-verdict bs asks = status_of NotSupported
+-- a display buffer that a framebuffer is attached to (EBUSY)
+abbrev pub busy : ℤ
+busy = negsuc 15
+
+-- the verdict on a DESTROY, where its buffer is live or not, and a framebuffer of it or none
+abbrev pub destroy_verdict : (is_live is_used : Bool) → ℤ
+destroy_verdict false is_used = status_of Unknown
+destroy_verdict true true = busy
+destroy_verdict true false = pos 0
+
+-- The verdict on a request, by the first check that fails, without those on memory and pages; no other operation is met.
+abbrev pub verdict : {P : Type 0} → List (Live P) → Scene → Asked → ℤ
+verdict bs sc (asked.Create c) = checked (check_of bs c)
+verdict bs sc (asked.Destroy cookie) = destroy_verdict (is_some (buffer_of cookie bs)) (is_used cookie sc.frames)
+verdict bs sc (asked.Attach a) = checked (attach_check sc.frames a (buffer_at a.dbuf_cookie bs))
+verdict bs sc (asked.Detach fb) = checked (detach_check fb sc.frames)
+verdict bs sc (asked.Config c) = checked (config_check c (frame_of c.fb_cookie sc.frames))
+verdict bs sc (asked.Flip fb) = checked (flip_check (asking sc) (frame_of fb sc.frames))
+verdict bs sc asked.Other = status_of NotSupported
 
 -- want of memory (ENOMEM), and a page that is denied (EACCES)
 abbrev pub no_memory : ℤ
@@ -58,7 +72,7 @@ is_denied progress.Released = false
 
 -- The status that answers a request: where a page was denied to it, just that; else its verdict, or, of an accepted CREATE,
 -- want of memory.
-abbrev pub IsStatus : {P : Type 0} → (denied : Bool) → List (Live P) → Asked → ℤ → Type 0
-IsStatus true bs asked status = status ≡ no_access
-IsStatus false bs asked status =
-    (status ≡ verdict bs asked) ⊎ ((is_creation asked ≡ true) × (verdict bs asked ≡ pos 0) × (status ≡ no_memory))
+abbrev pub IsStatus : {P : Type 0} → (denied : Bool) → List (Live P) → Scene → Asked → ℤ → Type 0
+IsStatus true bs sc asks status = status ≡ no_access
+IsStatus false bs sc asks status =
+    (status ≡ verdict bs sc asks) ⊎ ((is_creation asks ≡ true) × (verdict bs sc asks ≡ pos 0) × (status ≡ no_memory))

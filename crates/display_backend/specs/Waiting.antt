@@ -27,8 +27,7 @@ waiting_of (host.Key code pressed) = None
 waiting_of (host.Motion x y z) = None
 waiting_of (host.Position x y z) = None
 
--- A blank of a connector on which no flip is pending is only told; a connector without a picture shows no pixel, whose mark is 0. No
--- flip is ever pending yet, and no connector has a picture.
+-- A blank of a connector on which no flip is pending is only told; a connector without a picture shows no pixel, whose mark is 0.
 abbrev pub said_of : Waiting → Said
 said_of (waiting.Blank part) = said.Blank part
 said_of (waiting.Show part) = said.Shown part 0 0

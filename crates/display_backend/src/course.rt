@@ -1,5 +1,6 @@
 //! What a display's service is at, and how far the request in hand has come.
 
+use crate::picture::Reading;
 use page_directory::Walk;
 
 /// How far the request in hand has come.
@@ -26,4 +27,6 @@ pub enum Course {
     Walks(Walk),
     /// The pages of the buffer of this cookie are unmapped.
     Frees(u64),
+    /// A picture is read.
+    Reads(Reading),
 }

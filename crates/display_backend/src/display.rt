@@ -25,14 +25,14 @@ impl Display {
     ghost use Rattle.display_backend.specs.Display.{Hears, IsDue, MayStepAt, StepsAt};
     ghost use Rattle.display_backend.specs.Display.{dev_of, dom_of, parts_of, held_of, site_over, stand_of};
     ghost use Rattle.display_backend.specs.Laws.{HoldsAsMany, HoldsPage};
-    ghost use Rattle.display_backend.specs.Service.{display};
+    ghost use Rattle.display_backend.specs.Service.{display, nothing_known};
     ghost use Rattle.display_backend.specs.Waiting.{is_for};
 
     /// The display of this number, of so many parts and of this domain, which waits for its frontend.
     pub fn new(alloc: Global, dev: DevId, dom: DomId, connectors: u8) -> Result<Display, AllocError>
         requires some { 1 ≤ connectors }
         requires few { connectors ≤ 4 }
-        ensures between { IfOk result (λ d. (site : Site) → stand_of site d ≡ Between (first_work display)) }
+        ensures between { IfOk result (λ d. (site : Site) → stand_of site d ≡ Between (first_work nothing_known)) }
         ensures dev { IfOk result (λ d. dev_of d ≡ dev.0) }
         ensures dom { IfOk result (λ d. dom_of d ≡ dom.0) }
         ensures parts { IfOk result (λ d. parts_of d ≡ connectors) }

@@ -1,26 +1,11 @@
-//! What giving up pages comes to, what a display tells that it holds, and that it keeps the laws of a service.
+//! What a display tells that it holds, what it shows, and that it keeps the laws of a service.
 
 ghost use Rattle.device_service.specs.Claims.{Keeps, RestsAsleep, Runs, Tells};
-ghost use Rattle.display_backend.specs.Laws.{GivesUpInOrder, FreesInOrder, KeepsPages, TellsWhatIsHeld};
+ghost use Rattle.display_backend.specs.Laws.{ShowsStaySound, TellsWhatIsHeld};
 ghost use Rattle.display_backend.specs.Service.{display, shows, table};
 
 use crate::service::Service;
 use device_service::services_run;
-
-/// All pages are given up in order, the first of all first; the buffers stay.
-pub fn gives_up_in_order()
-    ensures { GivesUpInOrder }
-{}
-
-/// The pages of one buffer are given up in order, those of the others stay.
-pub fn frees_in_order()
-    ensures { FreesInOrder }
-{}
-
-/// A CREATE keeps all pages, and so does a DESTROY of a buffer that has none.
-pub fn keeps_pages()
-    ensures { KeepsPages }
-{}
 
 /// All that a device with the display's service does and hears by the order of work is a run of its machine; each of its accesses is
 /// in range and lies in a page that it holds then, or in a grant entry of its domain; and what happens to the machine as said and
@@ -42,3 +27,9 @@ pub fn tells_what_is_held()
 {
     device_service::tells_what_is_held::<Service>();
 }
+
+/// Whatever a display has done and heard by its order of work: the cookie that a connector shows, and that of a pending flip whose
+/// mark stands, names a live framebuffer in which the configured rectangle lies, and which lies in a live display buffer.
+pub fn shows_stay_sound()
+    ensures { ShowsStaySound }
+{}

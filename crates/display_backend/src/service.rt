@@ -1,19 +1,24 @@
 //! The service of a display.
 
-ghost use Rattle.std.specs.Prelude.{◌≡◌, ◌+◌, ◌<◌, ◌++◌, IfOk, false, length, slice_get, Some};
+ghost use Rattle.std.specs.Prelude.{◌≡◌, ◌+◌, ◌<◌, ◌++◌, IfOk, false, length, slice_get, Some, None};
+ghost use Rattle.device_service.specs.declared.deed.Now.TheVariants as now;
+ghost use Rattle.display_backend.specs.Waiting.{said_of};
 ghost use Rattle.std.proofs.Props.{props};
 ghost use Rattle.display_backend.specs.Course.{Stands, pages_walked};
 ghost use Rattle.display_backend.specs.CourseFacts.{stands_prop};
-ghost use Rattle.display_backend.specs.Stock.{pages_of};
-ghost use Rattle.display_backend.specs.Store.{stock_of, count_of};
+ghost use Rattle.display_buffers.specs.Stock.{pages_of};
+ghost use Rattle.display_buffers.specs.Store.{stock_of, count_of};
 
 use crate::course::{Course, Progress};
-use crate::store::Store;
-use crate::verdict::{answered, status_at};
+use crate::picture::{Reading, scan_at};
+use crate::scene::Scene;
+use crate::verdict::{answered, status_at, verdict_on};
 use crate::waiting::{Waiting, said_of, waiting_of};
 use device_service::{Deed, Now, Serve};
 use displ_wire::{Asked, Create, Request, decode, encode_reply};
+use display_buffers::Store;
 use page_directory::{Walk, Walked};
+use picture_scan::Scan;
 use pv_words::{Access, DomId, GrantRef, Hold, HostEvent, Mode, Said, Words};
 use std::alloc::{AllocError, Global};
 use std::mem;
@@ -25,6 +30,8 @@ pub struct Service {
     alloc: Global,
     // The live buffers, and the pages that are held for buffers.
     store: Store,
+    // The framebuffers and the connectors.
+    scene: Scene,
     // The request in hand, and how far it has come.
     hand: Option<Request>,
     progress: Progress,
@@ -41,26 +48,30 @@ impl Service {
     ghost use Rattle.link_core.specs.Activities.{unmaps};
     ghost use Rattle.link_core.specs.Stays.{AccessIn};
     ghost use Rattle.device_core.specs.Site.{Site};
-    ghost use Rattle.device_service.specs.Operating.{is_going};
+    ghost use Rattle.device_service.specs.Operating.{MayDeed, is_going};
+    ghost use Rattle.display_backend.specs.declared.waiting.Waiting.TheVariants as waiting;
+    ghost use Rattle.display_backend.specs.Course.{IsReading, scan_left};
+    ghost use Rattle.display_backend.specs.Over.{ReadsFor, ReadsOn, ShowsFor};
+    ghost use Rattle.display_backend.specs.Service.{event_for};
     ghost use Rattle.display_backend.specs.declared.course.Progress.TheVariants as progress;
     ghost use Rattle.display_backend.specs.declared.course.Course.TheVariants as course;
     ghost use Rattle.display_backend.specs.Course.{HasCreate};
     ghost use Rattle.display_backend.specs.Known.{known_of, going_of, left_of, is_of, held_of};
     ghost use Rattle.display_backend.specs.Over.{BeginsCreate, GoesOn, HasCreateFor, HasCreateOf};
     ghost use Rattle.display_backend.specs.Over.{WalksOn, create_walk, site_over, walk_over};
-    ghost use Rattle.display_backend.specs.Service.{Freed, Listed, after_walk, display, says_at};
-    ghost use Rattle.display_backend.specs.Stock.{pages_under};
-    ghost use Rattle.xenbus_states.specs.Nodes.{no_nodes};
+    ghost use Rattle.display_backend.specs.Service.{Freed, Listed, after_walk, nothing_known, says_at};
+    ghost use Rattle.display_buffers.specs.Stock.{pages_under};
 
     /// The service of a display that isn't connected.
     pub fn new(alloc: Global) -> Result<Service, AllocError>
-        ensures knows { IfOk result (λ s. known_of s ≡ display.begun no_nodes) }
+        ensures knows { IfOk result (λ s. known_of s ≡ nothing_known) }
         ensures idle { IfOk result (λ s. going_of s ≡ false) }
         ensures bare { IfOk result (λ s. held_of s ≡ []) }
     {
         Ok(Service {
             alloc,
             store: Store::new(alloc)?,
+            scene: Scene::new(alloc)?,
             hand: None,
             progress: Progress::Decided,
             course: Course::Rests,
@@ -74,7 +85,7 @@ impl Service {
     {
         match &self.course {
             Course::Walks(walk) => walk.held(),
-            Course::Rests | Course::Frees(_) => 0,
+            Course::Rests | Course::Frees(_) | Course::Reads(_) => 0,
         }
     }
 
@@ -158,6 +169,68 @@ impl Service {
         }
     }
 
+    // The reading of what a connector shows, before its first load, where it shows something.
+    fn reading(&self, part: u8) -> Option<Reading>
+        requires idle { self.now.course ≡ course.Rests }
+        ensures { ReadsFor self.now part result }
+    {
+        let source = self.scene.source(&self.store, part)?;
+        let place = self.store.place_of(source.dbuf)?;
+        if !source.shape.is_within(4096 * self.store.held_at(place)) {
+            return None;
+        }
+        Some(Reading {
+            part,
+            place,
+            scan: Scan::new(source.shape, source.dbuf),
+        })
+    }
+
+    // The next access of this reading.
+    fn read<W: Words>(&mut self, words: &mut W, reading: Reading) -> Deed
+        requires idle { self.old.course ≡ course.Rests }
+        requires reads { IsReading reading (stock_of self.old.store).buffers }
+        requires may { MayGo (W.may words.old) (scan_left (stock_of self.old.store).buffers reading) }
+        ensures goes { (site : Site) → ReadsOn site self.old reading result self.new }
+        ensures made { Makes W.makes words.old result.access words.new }
+        ensures stays { AccessIn (pages_of (stock_of self.old.store)) result.access }
+        ensures going { going_of self.new ≡ is_going result.now }
+        ensures domain { (dom : ℕ) → is_of dom self.new ≡ true }
+    {
+        let mut reading = reading;
+        let turn = scan_at(&self.store, reading.place, &mut reading.scan, words);
+        let access = turn.access;
+        let Some(shown) = turn.done else {
+            self.course = Course::Reads(reading);
+            return Deed {
+                access,
+                said: None,
+                now: Now::GoesOn,
+            };
+        };
+        Deed {
+            access,
+            said: Some(Said::Shown(reading.part, shown.pixels, shown.mark)),
+            now: Now::Over,
+        }
+    }
+
+    // The first step of a Show.
+    fn show<W: Words>(&mut self, words: &mut W, part: u8) -> Deed
+        requires idle { self.old.course ≡ course.Rests }
+        requires may { MayDeed (W.may words.old) (event_for (known_of self.old) (waiting.Show part)) }
+        ensures serves { (site : Site) → ShowsFor site self.old part result self.new }
+        ensures made { Makes W.makes words.old result.access words.new }
+        ensures stays { AccessIn (held_of self.old) result.access }
+        ensures going { going_of self.new ≡ is_going result.now }
+        ensures domain { (dom : ℕ) → is_of dom self.new ≡ true }
+    {
+        match self.reading(part) {
+            Some(reading) => self.read(words, reading),
+            None => told(Waiting::Show(part)),
+        }
+    }
+
     // The next access of the Release of a DESTROY.
     fn free<W: Words>(&mut self, words: &mut W, cookie: u64) -> Deed
         requires freeing { self.old.course ≡ course.Frees cookie }
@@ -186,12 +259,25 @@ impl Service {
     }
 }
 
+// An event that only is told.
+fn told(event: Waiting) -> Deed
+    ensures access { result.access ≡ None }
+    ensures said { result.said ≡ Some (said_of event) }
+    ensures now { result.now ≡ now.Over }
+{
+    Deed {
+        access: None,
+        said: Some(said_of(event)),
+        now: Now::Over,
+    }
+}
+
 impl Serve for Service {
     type Event = Waiting;
 
     ghost use Rattle.std.specs.Prelude.{ℕ, List, refl};
     ghost use Rattle.display_backend.specs.Known.{known_of, going_of, left_of, is_of, held_of};
-    ghost use Rattle.display_backend.specs.Service.{Known, Ending, Lines, display, shows, table};
+    ghost use Rattle.display_backend.specs.Service.{Known, Ending, Lines, display, flipped_for, put_for, shows, table};
     ghost use Rattle.display_backend.specs.Kept.{facts, holds_pages, stays_bare, whole_replies};
 
     ghost Known = { Known };
@@ -222,7 +308,7 @@ impl Serve for Service {
 
     ghost holds_pages = { λ s e. holds_pages s.course (stock_of s.store) e };
 
-    ghost begins_bare = { λ nodes. refl };
+    ghost begins_bare = { λ x nodes. refl };
 
     ghost stays_bare = { stays_bare };
 
@@ -252,11 +338,13 @@ impl Serve for Service {
 
     fn start(&mut self, nodes: &Nodes) {
         self.store.clear();
+        self.scene.clear();
         self.hand = None;
         self.progress = Progress::Decided;
     }
 
-    fn take(&mut self, _part: u8, words: &[u32; 16]) {
+    fn take(&mut self, part: u8, words: &[u32; 16]) {
+        self.scene.asked_by(part);
         self.hand = Some(decode(words));
         self.progress = Progress::Decided;
     }
@@ -271,7 +359,10 @@ impl Serve for Service {
         match self.progress {
             Progress::Decided => match request.asked {
                 Asked::Create(create) => self.store.check(&create).is_err(),
-                Asked::Destroy(cookie) => self.store.held_of(cookie) == 0,
+                Asked::Destroy(cookie) => {
+                    verdict_on(&self.store, &self.scene, &request.asked) != 0
+                        || self.store.held_of(cookie) == 0
+                }
                 _ => true,
             },
             _ => true,
@@ -293,39 +384,46 @@ impl Serve for Service {
     }
 
     fn serve<W: Words>(&mut self, dom: DomId, parts: u8, words: &mut W, event: Waiting) -> Deed {
-        Deed {
-            access: None,
-            said: Some(said_of(event)),
-            now: Now::Over,
+        match event {
+            Waiting::Blank(_) => told(event),
+            Waiting::Show(part) => self.show(words, part),
         }
     }
 
-    fn event_words(&self, _event: Waiting, _prod: u32) -> Option<[u32; 16]> {
-        None
+    fn event_words(&self, event: Waiting, prod: u32) -> Option<[u32; 16]> {
+        match event {
+            Waiting::Blank(part) => self.scene.flip_words(part, prod),
+            Waiting::Show(_) => None,
+        }
     }
 
     fn owed_part(&self) -> Option<u8> {
         None
     }
 
-    fn owed_words(&self, _prod: u32) -> [u32; 16] {
+    fn owed_words(&self, prod: u32) -> [u32; 16] {
         [0; 16]
     }
 
     fn put(&mut self, event: Option<Waiting>) -> Said
         requires idle { going_of self.old ≡ false }
-        ensures said { result ≡ display.put (known_of self.old) event }
-        ensures knows { known_of self.new ≡ display.after_put (known_of self.old) event }
+        ensures said { result ≡ put_for (known_of self.old) event }
+        ensures knows { known_of self.new ≡ flipped_for (known_of self.old) event }
         ensures idle { going_of self.new ≡ false }
     {
-        Said::Full(0)
+        match event {
+            Some(Waiting::Blank(part)) => self.scene.raised(part),
+            Some(Waiting::Show(_)) | None => Said::Full(0),
+        }
     }
 
     fn found_full(&mut self, event: Option<Waiting>)
         requires idle { going_of self.old ≡ false }
-        ensures knows { known_of self.new ≡ display.after_full (known_of self.old) event }
+        ensures knows { known_of self.new ≡ known_of self.old }
         ensures idle { going_of self.new ≡ false }
-    {}
+    {
+        // No room for the event: its flip stays pending, and the next blank tries it again.
+    }
 
     fn go_on<W: Words>(&mut self, dom: DomId, parts: u8, words: &mut W) -> Deed {
         if let Course::Frees(cookie) = self.course {
@@ -333,6 +431,7 @@ impl Serve for Service {
         }
         match mem::replace(&mut self.course, Course::Rests) {
             Course::Walks(walk) => self.walk(words, walk),
+            Course::Reads(reading) => self.read(words, reading),
             Course::Rests | Course::Frees(_) => unreachable!(),
         }
     }
@@ -341,7 +440,7 @@ impl Serve for Service {
         let Some(request) = self.hand else {
             return [0; 16];
         };
-        let status = status_at(&self.store, self.progress, &request.asked);
+        let status = status_at(&self.store, &self.scene, self.progress, &request.asked);
         encode_reply(request.id, request.op, status)
     }
 
@@ -349,8 +448,8 @@ impl Serve for Service {
         let Some(request) = self.hand else {
             return 0;
         };
-        let status = status_at(&self.store, self.progress, &request.asked);
-        answered(&mut self.store, &request.asked, status);
+        let status = status_at(&self.store, &self.scene, self.progress, &request.asked);
+        answered(&mut self.store, &mut self.scene, &request.asked, status);
         self.hand = None;
         self.progress = Progress::Decided;
         status

@@ -25,7 +25,7 @@ pub fn waiting_of(e: &HostEvent) -> Option<Waiting>
     }
 }
 
-/// What is said of an event when it is done: no flip is pending, and no connector has a picture.
+/// What is said of an event that only is told: no flip is pending on the connector, or it shows nothing.
 pub fn said_of(event: Waiting) -> Said
     ensures { result ≡ said_of event }
 {

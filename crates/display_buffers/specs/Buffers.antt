@@ -1,6 +1,6 @@
 -- Display buffers: the rows of CREATE and DESTROY (the operations of displif.h; the limits, the depths and which error
 -- answers which fault are this project's own). They know no page: what goes with a buffer is of any type.
-use Rattle.std.specs.Prelude.{◌≡◌, ℕ, ◌≤◌, ◌*◌, ◌/◌, Bool, true, not, ◌&&◌, ◌||◌, ◌==◌, nat_lt, nat_le, if◌then◌else◌, List, [], ◌∷◌, ◌++◌, length, Option, is_some, Result, Ok, Err}
+use Rattle.std.specs.Prelude.{◌≡◌, ℕ, ◌≤◌, ◌*◌, ◌/◌, Bool, true, not, ◌&&◌, ◌||◌, ◌==◌, nat_lt, nat_le, if◌then◌else◌, List, [], ◌∷◌, ◌++◌, length, Option, is_some, option_map, Result, Ok, Err}
 use Rattle.std.specs.List.{AllByRecursion}
 use Rattle.cookie_table.specs.Cookies as table
 pub use Rattle.cookie_table.specs.Cookies.{AreDistinct, IsFresh}
@@ -21,6 +21,10 @@ has_cookie cookie b = b.buffer.cookie == cookie
 -- the live buffer of a cookie
 abbrev pub buffer_of : {P : Type 0} → ℕ → List (Live P) → Option (Live P)
 buffer_of cookie bs = table.value_of cookie_of cookie bs
+
+-- its cookie, sides, depth and size alone
+abbrev pub buffer_at : {P : Type 0} → ℕ → List (Live P) → Option Buffer
+buffer_at cookie bs = option_map (λ b. b.buffer) (buffer_of cookie bs)
 
 -- the cookies of the live buffers
 abbrev pub cookies : {P : Type 0} → List (Live P) → List ℕ

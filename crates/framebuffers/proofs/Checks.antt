@@ -5,7 +5,7 @@ use Rattle.displ_wire.specs.declared.Attach.{Attach}
 use Rattle.displ_wire.specs.declared.buffer.Buffer.{Buffer}
 use Rattle.displ_wire.specs.declared.buffer.Refused.{Refused}
 use Rattle.displ_wire.specs.declared.buffer.Refused.TheVariants.{Exists, Full, Invalid}
-use Rattle.framebuffers.specs.declared.frame.Framebuffer.{Framebuffer}
+use Rattle.displ_wire.specs.declared.framebuffer.Framebuffer.{Framebuffer}
 use Rattle.framebuffers.specs.Frames.{LiesIn, attach_check, buffer_check, fits_in, frame_of, has_bits, has_pixels, made_of}
 
 none_of : {X : Type 0} (o : Option X) → is_some o ≡ false → o ≡ None

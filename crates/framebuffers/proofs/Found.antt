@@ -6,7 +6,7 @@ use Rattle.cookie_table.specs.Cookies.{has_cookie}
 use Rattle.cookie_table.proofs.Names.{taken_elsewhere}
 use Rattle.displ_wire.specs.declared.Attach.{Attach}
 use Rattle.displ_wire.specs.declared.buffer.Buffer.{Buffer}
-use Rattle.framebuffers.specs.declared.frame.Framebuffer.{Framebuffer}
+use Rattle.displ_wire.specs.declared.framebuffer.Framebuffer.{Framebuffer}
 use Rattle.framebuffers.specs.Frames.{cookie_of, frame_of, made_of, with_frame, without_frame}
 
 pub found_still : (fs : List Framebuffer) (a : Attach) (buffer : Option Buffer) (fb : ℕ) (f : Framebuffer) → frame_of fb fs ≡ Some f → frame_of fb (with_frame fs a buffer) ≡ Some f

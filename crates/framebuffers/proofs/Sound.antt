@@ -4,7 +4,7 @@ use Rattle.cookie_table.proofs.Keys.{all_push}
 use Rattle.cookie_table.proofs.Names.{all_without, few_with, few_without}
 use Rattle.displ_wire.specs.declared.Attach.{Attach}
 use Rattle.displ_wire.specs.declared.buffer.Buffer.{Buffer}
-use Rattle.framebuffers.specs.declared.frame.Framebuffer.{Framebuffer}
+use Rattle.displ_wire.specs.declared.framebuffer.Framebuffer.{Framebuffer}
 use Rattle.framebuffers.specs.Frames.{AreSound, attach_check, cookie_of, has_pixels, made_of, with_frame, without_frame}
 use Rattle.framebuffers.proofs.Checks.{has_its_pixels, passes}
 

@@ -8,7 +8,7 @@ use Rattle.displ_wire.specs.declared.Attach.{Attach}
 use Rattle.displ_wire.specs.declared.buffer.Buffer.{Buffer}
 use Rattle.displ_wire.specs.declared.buffer.Refused.{Refused}
 use Rattle.displ_wire.specs.declared.buffer.Refused.TheVariants.{Exists, Full, Invalid, Unknown}
-use Rattle.framebuffers.specs.declared.frame.Framebuffer.{Framebuffer}
+use Rattle.displ_wire.specs.declared.framebuffer.Framebuffer.{Framebuffer}
 
 abbrev pub cookie_of : Framebuffer → ℕ
 cookie_of f = f.cookie

@@ -2,7 +2,7 @@
 use Rattle.std.specs.Prelude.{◌≡◌, ◌≢◌, ℕ, false, List, Option, Some, None, Ok}
 use Rattle.displ_wire.specs.declared.Attach.{Attach}
 use Rattle.displ_wire.specs.declared.buffer.Buffer.{Buffer}
-use Rattle.framebuffers.specs.declared.frame.Framebuffer.{Framebuffer}
+use Rattle.displ_wire.specs.declared.framebuffer.Framebuffer.{Framebuffer}
 use Rattle.framebuffers.specs.Frames.{AreSound, LiesIn, attach_check, frame_of, is_used, made_of, with_frame, without_frame}
 
 -- an accepted ATTACH was of a live buffer, in which its framebuffer lies and is found under its cookie; no other cookie

@@ -4,9 +4,8 @@ ghost use Rattle.std.specs.Prelude.{◌≡◌, [], IfOk, OnOk, OnErr};
 ghost use Rattle.framebuffers.specs.Frames.{attach_check, detach_check, frame_of, is_used, with_frame, without_frame};
 
 use crate::format::is_valid;
-use crate::frame::Framebuffer;
 use cookie_table::{TABLE_LIMIT, Table};
-use displ_wire::{Attach, Buffer, Refused};
+use displ_wire::{Attach, Buffer, Framebuffer, Refused};
 use std::alloc::{AllocError, Global};
 use std::marker::Model;
 
@@ -19,7 +18,7 @@ pub struct Frames {
 
 impl Model for Frames {
     ghost use Rattle.std.specs.Prelude.{List};
-    ghost use Rattle.framebuffers.specs.declared.frame.Framebuffer.{Framebuffer};
+    ghost use Rattle.displ_wire.specs.declared.framebuffer.Framebuffer.{Framebuffer};
 
     ghost Value = { List Framebuffer };
 

@@ -3,11 +3,10 @@
 #![tactic(auto)]
 
 mod format;
-mod frame;
 mod frames;
 mod laws;
 
-pub use frame::Framebuffer;
+pub use displ_wire::Framebuffer;
 pub use frames::Frames;
 pub use laws::{attaches_one, detaches_one, stays_sound, unused_has_none};
 

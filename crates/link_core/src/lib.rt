@@ -4,7 +4,7 @@
 pub mod laws;
 pub mod link;
 
-pub use link::{Link, Put};
+pub use link::{EVENT_LIMIT, Link, Put};
 
 #[cfg(test)]
 mod tests;

@@ -18,6 +18,9 @@ const IN_CONS: u16 = 0;
 /// The word of an event page with the index up to which the backend wrote events.
 const IN_PROD: u16 = 1;
 
+/// in_prod is spent from this index on: no event is put any more (the event page of displif.h, sndif.h and kbdif.h).
+pub const EVENT_LIMIT: u32 = 4_294_967_232;
+
 // The activity under way; a Look has one access alone, and a Drop goes by what is held.
 #[derive(Clone, Copy, Debug, PartialEq, Eq)]
 enum Stage {

@@ -90,6 +90,13 @@ impl Stream {
         }
     }
 
+    /// Which way its octets go: the same from the first on.
+    pub fn kind(&self) -> StreamKind
+        ensures { result ≡ self.now.kind }
+    {
+        self.kind
+    }
+
     /// The state of the stream.
     pub fn state(&self) -> StreamState
         ensures { result ≡ self.now.state }

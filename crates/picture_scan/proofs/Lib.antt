@@ -2,4 +2,4 @@ mod Cells
 mod Marks
 mod Rows
 mod Scans
-mod Showing
+pub mod Showing

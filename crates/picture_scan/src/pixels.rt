@@ -59,11 +59,14 @@ impl Pixels {
         Pixels::new(self.size, next_mark(self.mark, pixel))
     }
 
-    // After so many octets of a word, from this one of it on.
+    // After so many octets of a word, from this one of it on. A whole word of a buffer of 32 bits a pixel is a pixel.
     pub(crate) fn absorb(self, word: u32, skip: u32, count: u32) -> Pixels
         requires { skip + count ≤ 4 }
         ensures { result ≡ fold fed self (take count (drop skip (octets_of word))) }
     {
+        if self.size == 4 && self.wanted == 4 && count == 4 {
+            return Pixels::new(4, next_mark(self.mark, word));
+        }
         let octets = word.to_le_bytes();
         octets[skip as usize..(skip + count) as usize]
             .iter()

@@ -1,6 +1,8 @@
 // What no clause says: whole scenarios, printed text, and calls that succeed.
 mod displays;
+mod flips;
 mod hosts;
+mod pictures;
 mod running;
 
 use super::*;

@@ -5,7 +5,7 @@ use Rattle.pv_words.specs.declared.entry.Entry.{Entry}
 use Rattle.pv_words.specs.Sizes.{frames_by, grants_by}
 use Rattle.scenario_text.specs.Scenario.{Scenario}
 use Rattle.backend_core.specs.Marked.{Item, entries}
-use Rattle.backend_core.specs.History.{AnswersIn, IsHistory, IsMachineRunIn, IsPromptIn, KeepsIn}
+use Rattle.backend_core.specs.History.{AfterGoneIn, AnswersIn, InOrderIn, IsHistory, IsMachineRunIn, IsPromptIn, KeepsIn, ShowsNamedIn}
 use Rattle.scenario_run.specs.Follows.{AreSettled, Follows, FollowsTo}
 
 -- Whatever was played: the journal is lawful and explained; what each device says and hears is a run of the display
@@ -17,6 +17,12 @@ pub record IsTrueJournal (s : Scenario) (m : List Item) (es : List Entry) : Type
   pub prompt : AllByRecursion (IsPromptIn (frames_by s.sizes) (grants_by s.sizes) m) s.devices
   pub machine_run : AllByRecursion (IsMachineRunIn (frames_by s.sizes) (grants_by s.sizes) m) s.devices
   pub answered : AllByRecursion (AnswersIn (frames_by s.sizes) (grants_by s.sizes) m) s.devices
+  -- in each connection the flips of a connector are done in the order in which they were accepted
+  pub in_order : AllByRecursion (InOrderIn (frames_by s.sizes) (grants_by s.sizes) m) s.devices
+  -- no word of a buffer is taken, and no write to one is told, once the buffer is gone
+  pub after_gone : AllByRecursion (AfterGoneIn (frames_by s.sizes) (grants_by s.sizes) m) s.devices
+  -- each picture that is told is of the framebuffer that was named last, by words that were last written there
+  pub named : AllByRecursion (ShowsNamedIn (frames_by s.sizes) (grants_by s.sizes) m) s.devices
   -- no access comes after its page is gone
   pub kept : AllByRecursion (KeepsIn (frames_by s.sizes) (grants_by s.sizes) m) s.devices
 

@@ -1,9 +1,8 @@
 -- What is true of each value that a reader of a line gives.
-use Rattle.std.proofs.Common.{◌≡◌, ℕ, ◌<◌, ◌≤◌, ◌^◌, true, false, ◌&&◌, List, [], ◌∷◌, Option, Some, None, Ok, refl, sym, subst, ◌∙◌, arith, inl, inr}
-use Rattle.std.specs.Prelude.{◌==◌, nat_le, nat_lt, find, is_some}
+use Rattle.std.proofs.Common.{◌≡◌, ℕ, ◌<◌, ◌≤◌, ◌^◌, true, false, List, [], ◌∷◌, Option, Some, None, Ok, refl, sym, subst, ◌∙◌, arith, inl, inr}
+use Rattle.std.specs.Prelude.{◌==◌, nat_lt, find, is_some}
 use Rattle.std.specs.List.{AllByRecursion}
-use Rattle.std.specs.Str.{bytes_eq}
-use Rattle.std.proofs.lemmas.Bool.{cases_Bool, and_parts, leb-true, ltb-true, eqb-true}
+use Rattle.std.proofs.lemmas.Bool.{cases_Bool, ltb-true, eqb-true}
 use Rattle.std.proofs.lemmas.Bool.Decides.{nat_tests}
 use Rattle.pv_words.specs.declared.device.HostEvent.{HostEvent}
 use Rattle.pv_words.specs.declared.device.HostEvent.TheVariants.{Blank, Show}
@@ -15,33 +14,18 @@ use Rattle.pv_words.specs.declared.setup.DeviceKind.TheVariants.{Display}
 use Rattle.pv_words.specs.declared.setup.DomainSize.{DomainSize}
 use Rattle.pv_words.specs.declared.setup.DeviceSetup.{DeviceSetup}
 use Rattle.pv_words.specs.Sizes.{frames_by, grants_by}
-use Rattle.scenario_text.specs.declared.argument.Number.{Number}
-use Rattle.scenario_text.specs.declared.fault.FaultKind.TheVariants.{Undeclared, BadWord, WrongDevice}
-use Rattle.scenario_text.specs.Flaws.{or_flaw}
-use Rattle.scenario_text.specs.Cursors.{Cursor, next_of}
-use Rattle.scenario_text.specs.Numbers.{digits_of}
+use Rattle.script_tokens.specs.declared.fault.FaultKind.TheVariants.{Undeclared, BadWord, WrongDevice}
+use Rattle.script_tokens.specs.Flaws.{or_flaw}
+use Rattle.script_tokens.specs.Cursors.{Cursor, next_of}
+use Rattle.script_tokens.specs.Numbers.{digits_of}
 use Rattle.scenario_text.specs.Nodes.{keys, of_number, node_value}
-use Rattle.scenario_text.specs.Arguments.{number_at, between_at, below_at, named, key_at, node_value_at}
+use Rattle.script_tokens.specs.Next.{between_at, below_at, named}
+use Rattle.scenario_text.specs.Arguments.{key_at, node_value_at}
 use Rattle.scenario_text.specs.Lookups.{size_of, device_of, has_device, parts_of, connectors_of}
 use Rattle.scenario_text.specs.Lookups.{new_domain_at, size_at, new_device_at, device_at, connector_at}
 use Rattle.scenario_text.specs.Playable.{parts_by, fits, takes_by, IsNodeValue}
-use Rattle.scenario_text.proofs.OkLemmas.{bind_ok, test_ok, test_failed, or_flaw_ok, ok_one}
-
-pub between_gives : (low high : ℕ) (c : Cursor) (n : Number × Cursor) → between_at low high c ≡ Ok n → (low ≤ n.0.value) × (n.0.value ≤ high)
-unfolding between_at
-between_gives low high c n same =
-    let number = bind_ok (number_at c) _ n same in
-    let v : ℕ = number.0.0.value in
-    let passed = test_ok (nat_le low v && nat_le v high) _ number.0 n number.2 in
-    let parts = and_parts (nat_le low v) (nat_le v high) passed.0 in
-    rw (← passed.1) (leb-true low v parts.0, leb-true v high parts.1)
-
-pub below_gives : (limit : ℕ) (c : Cursor) (n : Number × Cursor) → below_at limit c ≡ Ok n → n.0.value < limit
-unfolding below_at
-below_gives limit c n same =
-    let number = bind_ok (number_at c) _ n same in
-    let passed = test_ok (nat_lt number.0.0.value limit) _ number.0 n number.2 in
-    rw (← passed.1) (ltb-true number.0.0.value limit passed.0)
+use Rattle.script_tokens.proofs.OkLemmas.{bind_ok, test_failed, or_flaw_ok, ok_one}
+use Rattle.script_tokens.proofs.NextLemmas.{between_gives, below_gives, named_is}
 
 pub new_domain_gives : (sizes : List DomainSize) (c : Cursor) (x : DomId × Cursor) → new_domain_at sizes c ≡ Ok x → (1 ≤ x.0.0) × (x.0.0 ≤ 4)
 unfolding new_domain_at
@@ -163,20 +147,6 @@ connector_gives devices c x same =
     let blank = taken devices device.0 dev.0.0.value (Blank n) found fit.0 in
     let show = taken devices device.0 dev.0.0.value (Show n) found fit.1 in
     rw (← one, found.number) (found.there, blank, show)
-
--- what a word names is one of the list's values
-named_is : {A : Type 0} (P : A → Type 0) (octets : List ℕ) (list : List (List ℕ × A)) (x : A) → AllByRecursion (λ n. P n.1) list → named octets list ≡ Some x → P x
-named_is P octets [] x all same = cc
-named_is P octets (n ∷ ns) x all same =
-    elim (cases_Bool (bytes_eq octets n.0)) [
-      | inl passes ↦
-          let found : Some n.1 ≡ Some x = rw passes at same in
-          let one : n.1 ≡ x = cc in
-          subst P one all.0
-      | inr fails ↦
-          let found : named octets ns ≡ Some x = rw fails at same in
-          named_is P octets ns x all.1 found
-    ]
 
 pub key_gives : (c : Cursor) (x : ℕ × Cursor) → key_at c ≡ Ok x → x.0 < 4
 unfolding key_at

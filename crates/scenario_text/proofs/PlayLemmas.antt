@@ -21,12 +21,13 @@ use Rattle.scenario_text.specs.declared.draft.Item.{Item}
 use Rattle.scenario_text.specs.declared.draft.Item.TheVariants as items
 use Rattle.scenario_text.specs.declared.item.Command.{Command}
 use Rattle.scenario_text.specs.declared.item.Command.TheVariants as commands
-use Rattle.scenario_text.specs.declared.fault.Flaw.{Flaw}
-use Rattle.scenario_text.specs.declared.fault.FaultKind.TheVariants.{UnknownStatement}
-use Rattle.scenario_text.specs.Flaws.{or_flaw}
-use Rattle.scenario_text.specs.Tokens.{Token, tokens}
-use Rattle.scenario_text.specs.Cursors.{Cursor, first_of}
-use Rattle.scenario_text.specs.Arguments.{between_at, below_at, keyword_at, half_at, mode_at, key_at, node_value_at, state_at}
+use Rattle.script_tokens.specs.declared.fault.Flaw.{Flaw}
+use Rattle.script_tokens.specs.declared.fault.FaultKind.TheVariants.{UnknownStatement}
+use Rattle.script_tokens.specs.Flaws.{or_flaw}
+use Rattle.script_tokens.specs.Tokens.{Piece, tokens}
+use Rattle.script_tokens.specs.Cursors.{Cursor, first_of}
+use Rattle.script_tokens.specs.Next.{between_at, below_at, keyword_at}
+use Rattle.scenario_text.specs.Arguments.{half_at, mode_at, key_at, node_value_at, state_at}
 use Rattle.scenario_text.specs.Lookups.{has_device, parts_of, frames_left, grants_left}
 use Rattle.scenario_text.specs.Lookups.{new_domain_at, size_at, new_device_at, device_at, connector_at}
 use Rattle.scenario_text.specs.Declarations.{domain_at, display_at}
@@ -34,11 +35,12 @@ use Rattle.scenario_text.specs.Statements.{put_at, fill_at, put_grant_at, swap_a
 use Rattle.scenario_text.specs.Statements.{bus_at, wake_at, blank_at, show_at, back_at, serve_at}
 use Rattle.scenario_text.specs.Scenario.{Scenario, nothing, with_item}
 use Rattle.scenario_text.specs.Items.{is_empty_list, is_declaration, command_of, command_at, arguments_at, unless_more, item_from, item_of}
-use Rattle.scenario_text.specs.Lines.{code_of, lines}
+use Rattle.script_tokens.specs.Lines.{code_of, lines}
 use Rattle.scenario_text.specs.Reading.{line_item, at_line, scenario_from, scenario_of}
 use Rattle.scenario_text.specs.Playable.{parts_by, IsPlayed, IsDevice, AreDifferent, IsPlayable}
-use Rattle.scenario_text.proofs.OkLemmas.{bind_ok, test_failed, ok_one}
-use Rattle.scenario_text.proofs.GivenLemmas.{between_gives, below_gives, new_domain_gives, size_gives, size_keeps}
+use Rattle.script_tokens.proofs.OkLemmas.{bind_ok, test_failed, ok_one}
+use Rattle.script_tokens.proofs.NextLemmas.{between_gives, below_gives}
+use Rattle.scenario_text.proofs.GivenLemmas.{new_domain_gives, size_gives, size_keeps}
 use Rattle.scenario_text.proofs.GivenLemmas.{new_device_gives, device_gives, connector_gives, key_gives, node_value_gives}
 
 -- with one more element, and with a weaker fact of each
@@ -364,7 +366,7 @@ serve_fits s c x same =
     let one : (item, dev.0.1) ≡ x = cc in
     subst (λ (y : Item × Cursor). Fits s y.0) {x = (item, dev.0.1)} one there.there
 
-command_in_time : (s : Scenario) (t : Token) (command : Command) → command_at s t ≡ Ok command → (is_declaration command && not (is_empty_list s.statements)) ≡ false
+command_in_time : (s : Scenario) (t : Piece) (command : Command) → command_at s t ≡ Ok command → (is_declaration command && not (is_empty_list s.statements)) ≡ false
 unfolding command_at
 command_in_time s t command same =
     let found = bind_ok (or_flaw (command_of t.octets) t.column UnknownStatement) _ command same in
@@ -393,11 +395,11 @@ arguments_fit commands.Show s c x kept early same = show_fits s c x same
 arguments_fit commands.Back s c x kept early same = back_fits s c x same
 arguments_fit commands.Serve s c x kept early same = serve_fits s c x same
 
-no_more : {A : Type 0} (o : Option (Token × Cursor)) (x y : A) → unless_more o x ≡ Ok y → x ≡ y
+no_more : {A : Type 0} (o : Option (Piece × Cursor)) (x y : A) → unless_more o x ≡ Ok y → x ≡ y
 no_more None x y same = cc
 no_more (Some t) x y same = cc
 
-item_fits : (s : Scenario) (t : Option (Token × Cursor)) (item : Option Item) → IsKept s → item_from s t ≡ Ok item → IfSome item (Fits s)
+item_fits : (s : Scenario) (t : Option (Piece × Cursor)) (item : Option Item) → IsKept s → item_from s t ≡ Ok item → IfSome item (Fits s)
 item_fits s None item kept same = let one : None ≡ item = cc in subst (λ (i : Option Item). IfSome i (Fits s)) one tt
 item_fits s (Some t) item kept same =
     let command = bind_ok (command_at s t.0) _ item same in

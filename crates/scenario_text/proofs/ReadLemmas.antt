@@ -3,12 +3,12 @@ use Rattle.std.proofs.Common.{◌≡◌, ◌≢◌, ◌⊎◌, ℕ, ◌+◌, tru
 use Rattle.std.specs.List.{before_first, after_first}
 use Rattle.std.proofs.lemmas.List.{nil_from_length}
 use Rattle.scenario_text.specs.declared.draft.Item.{Item}
-use Rattle.scenario_text.specs.declared.fault.Flaw.{Flaw}
+use Rattle.script_tokens.specs.declared.fault.Flaw.{Flaw}
 use Rattle.scenario_text.specs.declared.fault.ScriptFault.{ScriptFault}
-use Rattle.scenario_text.specs.Lines.{is_line_end, lines}
+use Rattle.script_tokens.specs.Lines.{is_line_end, lines}
 use Rattle.scenario_text.specs.Scenario.{Scenario, nothing, with_item}
 use Rattle.scenario_text.specs.Reading.{line_item, scenario_from, scenario_of, or_behind, holds_item}
-use Rattle.scenario_text.proofs.LineLemmas.{first_line, no_lines}
+use Rattle.script_tokens.proofs.LineLemmas.{first_line, no_lines}
 
 pub begins : (text : List ℕ) → scenario_from 1 (lines text) nothing ≡ scenario_of text
 unfolding scenario_of

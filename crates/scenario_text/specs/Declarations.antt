@@ -6,10 +6,11 @@ use Rattle.pv_words.specs.declared.setup.Kind.TheVariants.{Wild}
 use Rattle.pv_words.specs.declared.setup.DeviceKind.TheVariants as kinds
 use Rattle.scenario_text.specs.declared.draft.Item.{Item}
 use Rattle.scenario_text.specs.declared.draft.Item.TheVariants as items
-use Rattle.scenario_text.specs.declared.fault.Flaw.{Flaw}
-use Rattle.scenario_text.specs.Flaws.{◌>>=◌}
-use Rattle.scenario_text.specs.Cursors.{Cursor}
-use Rattle.scenario_text.specs.Arguments.{between_at, keyword_at}
+use Rattle.script_tokens.specs.declared.fault.Flaw.{Flaw}
+use Rattle.script_tokens.specs.Flaws.{◌>>=◌}
+use Rattle.script_tokens.specs.Cursors.{Cursor}
+use Rattle.script_tokens.specs.Next.{between_at, keyword_at}
+use Rattle.scenario_text.specs.Limits.{connector_limit}
 use Rattle.scenario_text.specs.Lookups.{frames_left, grants_left, new_domain_at, size_at, new_device_at}
 use Rattle.scenario_text.specs.Scenario.{Scenario}
 
@@ -31,5 +32,5 @@ unfoldable pub display_at : Scenario → Cursor → Result (Item × Cursor) Flaw
 display_at so_far c = do
   dev ← new_device_at so_far.devices c
   size ← size_at so_far.sizes dev.1
-  connectors ← between_at 1 4 size.1
+  connectors ← between_at 1 connector_limit size.1
   Ok (items.Device (record { dev = dev.0; dom = size.0.dom; kind = kinds.Display connectors.0.value }), connectors.1)

@@ -1,16 +1,16 @@
 -- What a line holds, under what the lines before it declared.
 use Rattle.std.specs.Prelude.{ℕ, Bool, true, false, ◌&&◌, not, List, [], ◌∷◌, Option, Some, None, Result, Ok, Err, codes, if◌then◌else◌}
 use Rattle.scenario_text.specs.declared.draft.Item.{Item}
-use Rattle.scenario_text.specs.declared.fault.Flaw.{Flaw}
-use Rattle.scenario_text.specs.declared.fault.FaultKind.TheVariants.{UnknownStatement, ExtraWord, Late}
+use Rattle.script_tokens.specs.declared.fault.Flaw.{Flaw}
+use Rattle.script_tokens.specs.declared.fault.FaultKind.TheVariants.{UnknownStatement, ExtraWord, Late}
 use Rattle.scenario_text.specs.declared.item.Command.{Command}
 use Rattle.scenario_text.specs.declared.item.Command.TheVariants.{Domain, Display}
 use Rattle.scenario_text.specs.declared.item.Command.TheVariants.{Put, Fill, PutGrant, Swap, Open, End, Node, Bus, Wake}
 use Rattle.scenario_text.specs.declared.item.Command.TheVariants.{Blank, Show, Back, Serve}
-use Rattle.scenario_text.specs.Flaws.{flaw, ◌>>=◌, or_flaw}
-use Rattle.scenario_text.specs.Tokens.{Token, tokens}
-use Rattle.scenario_text.specs.Cursors.{Cursor, first_of}
-use Rattle.scenario_text.specs.Arguments.{named}
+use Rattle.script_tokens.specs.Flaws.{flaw, ◌>>=◌, or_flaw}
+use Rattle.script_tokens.specs.Tokens.{Piece, tokens}
+use Rattle.script_tokens.specs.Cursors.{Cursor, first_of}
+use Rattle.script_tokens.specs.Next.{named}
 use Rattle.scenario_text.specs.Declarations.{domain_at, display_at}
 use Rattle.scenario_text.specs.Statements.{put_at, fill_at, put_grant_at, swap_at, open_at, end_at, node_at, bus_at, wake_at}
 use Rattle.scenario_text.specs.Statements.{blank_at, show_at, back_at, serve_at}
@@ -39,7 +39,7 @@ is_empty_list [] = true
 is_empty_list (x ∷ xs) = false
 
 -- what the first token of a line names: a declaration may not follow a statement
-unfoldable pub command_at : Scenario → Token → Result Command Flaw
+unfoldable pub command_at : Scenario → Piece → Result Command Flaw
 command_at so_far t = do
   command ← or_flaw (command_of t.octets) t.column UnknownStatement
   if is_declaration command && not (is_empty_list so_far.statements) then Err (flaw t.column Late) else Ok command
@@ -63,12 +63,12 @@ arguments_at Back so_far c = back_at so_far c
 arguments_at Serve so_far c = serve_at so_far c
 
 -- no token may be left over
-abbrev pub unless_more : {A : Type 0} → Option (Token × Cursor) → A → Result A Flaw
+abbrev pub unless_more : {A : Type 0} → Option (Piece × Cursor) → A → Result A Flaw
 unless_more None x = Ok x
 unless_more (Some t) x = Err (flaw t.0.column ExtraWord)
 
 -- what a line holds, from its first token and those behind it
-abbrev pub item_from : Scenario → Option (Token × Cursor) → Result (Option Item) Flaw
+abbrev pub item_from : Scenario → Option (Piece × Cursor) → Result (Option Item) Flaw
 item_from so_far None = Ok None
 item_from so_far (Some t) = do
   command ← command_at so_far t.0

@@ -1,8 +1,11 @@
-pub mod Flaws
-pub mod Lines
-pub mod Tokens
-pub mod Cursors
-pub mod Numbers
+pub use Rattle.script_tokens.specs.Flaws
+pub use Rattle.script_tokens.specs.Lines
+pub use Rattle.script_tokens.specs.Tokens
+pub use Rattle.script_tokens.specs.Cursors
+pub use Rattle.script_tokens.specs.Numbers
+pub use Rattle.script_tokens.specs.Next
+pub use Rattle.script_tokens.specs.Kinds
+pub mod Limits
 pub mod Nodes
 pub mod Scenario
 pub mod Arguments

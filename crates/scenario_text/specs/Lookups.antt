@@ -1,17 +1,21 @@
 -- The domains and devices that a line names.
 use Rattle.std.specs.Prelude.{ℕ, ◌-◌, ◌==◌, Bool, List, Option, Some, Result, Ok, Err, is_some, find, sum_by, if◌then◌else◌}
+use Rattle.std.specs.Borrow.{Bor}
 use Rattle.std.specs.List.{list_any}
+use Rattle.pv_words.specs.Sizes.{size_limit}
 use Rattle.pv_words.specs.declared.place.DomId.{DomId}
 use Rattle.pv_words.specs.declared.place.DevId.{DevId}
 use Rattle.pv_words.specs.declared.setup.DomainSize.{DomainSize}
 use Rattle.pv_words.specs.declared.setup.DeviceSetup.{DeviceSetup}
 use Rattle.pv_words.specs.declared.setup.DeviceKind.{DeviceKind}
 use Rattle.pv_words.specs.declared.setup.DeviceKind.TheVariants as kinds
-use Rattle.scenario_text.specs.declared.fault.Flaw.{Flaw}
-use Rattle.scenario_text.specs.declared.fault.FaultKind.TheVariants.{Twice, Undeclared, WrongDevice}
-use Rattle.scenario_text.specs.Flaws.{flaw, ◌>>=◌, or_flaw}
-use Rattle.scenario_text.specs.Cursors.{Cursor}
-use Rattle.scenario_text.specs.Arguments.{between_at, below_at}
+use Rattle.script_tokens.specs.declared.fault.Flaw.{Flaw}
+use Rattle.script_tokens.specs.declared.fault.FaultKind.TheVariants.{Twice, Undeclared, WrongDevice}
+use Rattle.script_tokens.specs.Flaws.{flaw, ◌>>=◌, or_flaw}
+use Rattle.script_tokens.specs.declared.token.Tokens.{Tokens}
+use Rattle.script_tokens.specs.Cursors.{Cursor, cursor}
+use Rattle.script_tokens.specs.Next.{between_at, below_at}
+use Rattle.scenario_text.specs.Limits.{domain_limit, device_limit}
 
 -- the domain of this number
 unfoldable pub size_of : ℕ → List DomainSize → Option DomainSize
@@ -33,44 +37,48 @@ connectors_of (kinds.Display connectors) = Some connectors
 unfoldable pub has_device : ℕ → List DeviceSetup → Bool
 has_device dev devices = list_any (λ d. d.dev.0 == dev) devices
 
--- what is left of the 16384 frames, and of the 16384 grants, of all domains together
+-- how many frames, and grants, are left of those that all domains may have together
 unfoldable pub frames_left : List DomainSize → ℕ
-frames_left sizes = 16384 - sum_by (λ s. s.frames) sizes
+frames_left sizes = size_limit - sum_by (λ s. s.frames) sizes
 
 unfoldable pub grants_left : List DomainSize → ℕ
-grants_left sizes = 16384 - sum_by (λ s. s.grants) sizes
+grants_left sizes = size_limit - sum_by (λ s. s.grants) sizes
 
 -- a domain's number, 1 to 4, that wasn't declared yet
 unfoldable pub new_domain_at : List DomainSize → Cursor → Result (DomId × Cursor) Flaw
 new_domain_at sizes c = do
-  dom ← between_at 1 4 c
+  dom ← between_at 1 domain_limit c
   if is_some (size_of dom.0.value sizes) then Err (flaw dom.0.column Twice) else Ok (record { 0 = dom.0.value }, dom.1)
 
 -- a domain that was declared
 unfoldable pub size_at : List DomainSize → Cursor → Result (DomainSize × Cursor) Flaw
 size_at sizes c = do
-  dom ← between_at 1 4 c
+  dom ← between_at 1 domain_limit c
   size ← or_flaw (size_of dom.0.value sizes) dom.0.column Undeclared
   Ok (size, dom.1)
 
 -- a device's number, 1 to 16, that wasn't declared yet
 unfoldable pub new_device_at : List DeviceSetup → Cursor → Result (DevId × Cursor) Flaw
 new_device_at devices c = do
-  dev ← between_at 1 16 c
+  dev ← between_at 1 device_limit c
   if has_device dev.0.value devices then Err (flaw dev.0.column Twice) else Ok (record { 0 = dev.0.value }, dev.1)
 
 -- a device that was declared
 unfoldable pub device_at : List DeviceSetup → Cursor → Result (DeviceSetup × Cursor) Flaw
 device_at devices c = do
-  dev ← between_at 1 16 c
+  dev ← between_at 1 device_limit c
   device ← or_flaw (device_of dev.0.value devices) dev.0.column Undeclared
   Ok (device, dev.1)
 
 -- N C: a display that was declared, and one of its connectors
 unfoldable pub connector_at : List DeviceSetup → Cursor → Result ((DevId × ℕ) × Cursor) Flaw
 connector_at devices c = do
-  dev ← between_at 1 16 c
+  dev ← between_at 1 device_limit c
   device ← or_flaw (device_of dev.0.value devices) dev.0.column Undeclared
   connectors ← or_flaw (connectors_of device.kind) dev.0.column WrongDevice
   connector ← below_at connectors dev.1
   Ok ((device.dev, connector.0.value), connector.1)
+
+-- a device that was found, and the tokens behind its number, as the values that they stand for
+abbrev pub seen_device : Bor DeviceSetup × Tokens → DeviceSetup × Cursor
+seen_device x = (x.0.now, cursor x.1)

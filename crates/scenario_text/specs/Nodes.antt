@@ -2,7 +2,7 @@
 use Rattle.std.specs.Prelude.{ℕ, ◌^◌, nat_lt, List, [], ◌∷◌, Option, Some, None, codes, if◌then◌else◌}
 use Rattle.pv_words.specs.declared.device.NodeValue.{NodeValue}
 use Rattle.pv_words.specs.declared.device.NodeValue.TheVariants as value
-use Rattle.scenario_text.specs.Numbers.{digits_of}
+use Rattle.script_tokens.specs.Numbers.{digits_of}
 
 -- the names of a display's nodes, and their keys
 abbrev pub keys : List (List ℕ × ℕ)

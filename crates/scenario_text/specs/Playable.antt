@@ -13,6 +13,7 @@ use Rattle.pv_words.specs.declared.setup.DeviceSetup.{DeviceSetup}
 use Rattle.scenario_text.specs.declared.statement.Filling.{Filling}
 use Rattle.scenario_text.specs.declared.statement.Statement.{Statement}
 use Rattle.scenario_text.specs.declared.statement.Statement.TheVariants.{Put, Fill, Swap, Open, End, Node, Bus, Wake, Host, Back, Serve}
+use Rattle.scenario_text.specs.Limits.{device_limit, connector_limit, page_words}
 use Rattle.scenario_text.specs.Lookups.{has_device, parts_of}
 use Rattle.scenario_text.specs.Scenario.{Scenario}
 
@@ -41,8 +42,8 @@ IsNodeValue (Number n) = n < 2 ^ 32
 -- the words of a fill are its domain's, and there is at least one
 pub record IsFilled (frames : ℕ → ℕ) (f : Filling) : Type 0 where
   pub some : 1 ≤ f.count
-  pub word : f.word < 1024
-  pub within : 1024 * f.frame.0 + f.word + f.count ≤ 1024 * frames f.dom.0
+  pub word : f.word < page_words
+  pub within : page_words * f.frame.0 + f.word + f.count ≤ page_words * frames f.dom.0
   pub value : f.value < 2 ^ 32
   pub step : f.step < 2 ^ 32
 
@@ -62,7 +63,7 @@ IsPlayed s (Serve dev) = has_device dev.0 s.devices ≡ true
 
 -- a device's number is 1 to 16, and it has 1 to 4 parts
 abbrev pub IsDevice : DeviceSetup → Type 0
-IsDevice d = (1 ≤ d.dev.0) × (d.dev.0 ≤ 16) × (1 ≤ parts_of d.kind) × (parts_of d.kind ≤ 4)
+IsDevice d = (1 ≤ d.dev.0) × (d.dev.0 ≤ device_limit) × (1 ≤ parts_of d.kind) × (parts_of d.kind ≤ connector_limit)
 
 -- no two devices have one number
 abbrev pub AreDifferent : List DeviceSetup → Type 0

@@ -1,12 +1,12 @@
 -- What a text says, line by line, up to its first fault.
 use Rattle.std.specs.Prelude.{◌≡◌, ℕ, ◌+◌, Bool, true, false, List, [], ◌∷◌, Option, Some, None, Result, Ok, Err}
 use Rattle.scenario_text.specs.declared.draft.Item.{Item}
-use Rattle.scenario_text.specs.declared.fault.Flaw.{Flaw}
+use Rattle.script_tokens.specs.declared.fault.Flaw.{Flaw}
 use Rattle.scenario_text.specs.declared.fault.ScriptFault.{ScriptFault}
 use Rattle.scenario_text.specs.declared.fault.ParseFault.{ParseFault}
 use Rattle.scenario_text.specs.declared.fault.ParseFault.TheVariants.{Fault, OutOfMemory}
-use Rattle.scenario_text.specs.Flaws.{◌>>=◌}
-use Rattle.scenario_text.specs.Lines.{lines, code_of}
+use Rattle.script_tokens.specs.Flaws.{◌>>=◌}
+use Rattle.script_tokens.specs.Lines.{lines, code_of}
 use Rattle.scenario_text.specs.Scenario.{Scenario, nothing, with_item}
 use Rattle.scenario_text.specs.Items.{item_of}
 

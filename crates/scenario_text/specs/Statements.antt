@@ -10,10 +10,12 @@ use Rattle.scenario_text.specs.declared.draft.Item.TheVariants.{Step}
 use Rattle.scenario_text.specs.declared.statement.Filling.{Filling}
 use Rattle.scenario_text.specs.declared.statement.Opening.{Opening}
 use Rattle.scenario_text.specs.declared.statement.Statement.TheVariants.{Put, Fill, Swap, Open, End, Node, Bus, Wake, Host, Back, Serve}
-use Rattle.scenario_text.specs.declared.fault.Flaw.{Flaw}
-use Rattle.scenario_text.specs.Flaws.{◌>>=◌}
-use Rattle.scenario_text.specs.Cursors.{Cursor}
-use Rattle.scenario_text.specs.Arguments.{between_at, below_at, half_at, mode_at, key_at, node_value_at, state_at}
+use Rattle.script_tokens.specs.declared.fault.Flaw.{Flaw}
+use Rattle.script_tokens.specs.Flaws.{◌>>=◌}
+use Rattle.script_tokens.specs.Cursors.{Cursor}
+use Rattle.script_tokens.specs.Next.{between_at, below_at}
+use Rattle.scenario_text.specs.Arguments.{half_at, mode_at, key_at, node_value_at, state_at}
+use Rattle.scenario_text.specs.Limits.{page_words}
 use Rattle.scenario_text.specs.Lookups.{size_at, device_at, connector_at, parts_of}
 use Rattle.scenario_text.specs.Scenario.{Scenario}
 
@@ -22,7 +24,7 @@ unfoldable pub put_at : Scenario → Cursor → Result (Item × Cursor) Flaw
 put_at so_far c = do
   size ← size_at so_far.sizes c
   frame ← below_at size.0.frames size.1
-  word ← below_at 1024 frame.1
+  word ← below_at page_words frame.1
   value ← below_at (2 ^ 32) word.1
   Ok (Step (Put (Cell size.0.dom (record { 0 = frame.0.value }) word.0.value) value.0.value), value.1)
 
@@ -37,8 +39,8 @@ unfoldable pub fill_at : Scenario → Cursor → Result (Item × Cursor) Flaw
 fill_at so_far c = do
   size ← size_at so_far.sizes c
   frame ← below_at size.0.frames size.1
-  word ← below_at 1024 frame.1
-  count ← between_at 1 (min (1024 * (size.0.frames - frame.0.value) - word.0.value) (2 ^ 32 - 1)) word.1
+  word ← below_at page_words frame.1
+  count ← between_at 1 (min (page_words * (size.0.frames - frame.0.value) - word.0.value) (2 ^ 32 - 1)) word.1
   value ← below_at (2 ^ 32) count.1
   step ← below_at (2 ^ 32) value.1
   Ok (Step (Fill (filling size.0.dom frame.0.value word.0.value count.0.value value.0.value step.0.value)), step.1)

@@ -1,94 +1,16 @@
-//! The tokens behind a line's first one: numbers and words.
+//! The tokens behind a line's first one, where a place has tokens of its own.
 
-ghost use Rattle.std.specs.Prelude.{◌≡◌, ◌<◌, ◌≤◌, IfOk};
-ghost use Rattle.scenario_text.specs.Flaws.{Gives};
-ghost use Rattle.scenario_text.specs.Cursors.{cursor, seen};
-ghost use Rattle.scenario_text.specs.Arguments.{number_at, between_at, below_at, keyword_at, named, halves};
-ghost use Rattle.scenario_text.specs.Arguments.{half_at, modes, mode_at, key_at, node_value_at, state_at};
+ghost use Rattle.std.specs.Prelude.{◌≡◌};
+ghost use Rattle.script_tokens.specs.Flaws.{Gives};
+ghost use Rattle.script_tokens.specs.Cursors.{cursor, seen};
+ghost use Rattle.script_tokens.specs.Next.{named};
+ghost use Rattle.scenario_text.specs.Arguments.{halves, half_at, modes, mode_at, key_at, node_value_at, state_at};
 ghost use Rattle.scenario_text.specs.Nodes.{keys, node_value};
 ghost use Rattle.xenbus_states.specs.States.{state_of};
 
-use crate::fault::{FaultKind, Flaw};
-use crate::number::{digits_of, number_of};
-use crate::words::Words;
 use pv_words::{Half, Mode, NodeValue, State};
+use script_tokens::{FaultKind, Flaw, Token, Tokens};
 use xenbus_states::state_from_number;
-
-/// A number of a line, and the column of its token.
-#[derive(Clone, Copy, Debug)]
-pub struct Number {
-    pub column: u32,
-    pub value: u64,
-}
-
-/// The next token as a number.
-#[inline(always)]
-#[tactic(auto, unfolding(crate::specs::Arguments::number_at))]
-fn number_at<'a>(words: Words<'a>) -> Result<(Number, Words<'a>), Flaw>
-    ensures { Gives seen result (number_at (cursor words.entry)) }
-{
-    let (word, words) = words.next()?;
-    let column = word.column;
-    match number_of(word.octets) {
-        Some(value) => Ok((Number { column, value }, words)),
-        None => Err(Flaw {
-            column,
-            kind: FaultKind::BadNumber,
-        }),
-    }
-}
-
-/// The next token as a number from `low` to `high`.
-#[inline(always)]
-#[tactic(auto, unfolding(crate::specs::Arguments::between_at))]
-pub fn between<'a>(words: Words<'a>, low: u32, high: u32) -> Result<(Number, Words<'a>), Flaw>
-    ensures value { Gives seen result (between_at low high (cursor words.entry)) }
-    ensures bound { IfOk result (λ n. n.0.value ≤ high) }
-{
-    let (number, words) = number_at(words)?;
-    if u64::from(low) <= number.value && number.value <= u64::from(high) {
-        Ok((number, words))
-    } else {
-        Err(Flaw {
-            column: number.column,
-            kind: FaultKind::OutOfRange,
-        })
-    }
-}
-
-/// The next token as a number below a limit.
-#[inline(always)]
-#[tactic(auto, unfolding(crate::specs::Arguments::below_at))]
-pub fn below<'a>(words: Words<'a>, limit: u64) -> Result<(Number, Words<'a>), Flaw>
-    ensures value { Gives seen result (below_at limit (cursor words.entry)) }
-    ensures bound { IfOk result (λ n. n.0.value < limit) }
-{
-    let (number, words) = number_at(words)?;
-    if number.value < limit {
-        Ok((number, words))
-    } else {
-        Err(Flaw {
-            column: number.column,
-            kind: FaultKind::OutOfRange,
-        })
-    }
-}
-
-/// Takes the next token, which must be this word.
-#[tactic(auto, unfolding(crate::specs::Arguments::keyword_at))]
-pub fn keyword<'a>(words: Words<'a>, keyword: &[u8]) -> Result<Words<'a>, Flaw>
-    ensures { Gives cursor result (keyword_at keyword.now (cursor words.entry)) }
-{
-    let (word, words) = words.next()?;
-    if word.octets == keyword {
-        Ok(words)
-    } else {
-        Err(Flaw {
-            column: word.column,
-            kind: FaultKind::BadWord,
-        })
-    }
-}
 
 /// The half of a grant entry that this word names.
 fn half_of(octets: &[u8]) -> Option<Half>
@@ -105,14 +27,14 @@ fn half_of(octets: &[u8]) -> Option<Half>
 
 /// The next token as the word for a half of a grant entry.
 #[tactic(auto, unfolding(crate::specs::Arguments::half_at))]
-pub fn half<'a>(words: Words<'a>) -> Result<(Half, Words<'a>), Flaw>
-    ensures { Gives seen result (half_at (cursor words.entry)) }
+pub fn half<'a>(tokens: Tokens<'a>) -> Result<(Half, Tokens<'a>), Flaw>
+    ensures { Gives seen result (half_at (cursor tokens.entry)) }
 {
-    let (word, words) = words.next()?;
-    match half_of(word.octets) {
-        Some(half) => Ok((half, words)),
+    let (token, tokens) = tokens.next()?;
+    match half_of(token.octets) {
+        Some(half) => Ok((half, tokens)),
         None => Err(Flaw {
-            column: word.column,
+            column: token.column,
             kind: FaultKind::BadWord,
         }),
     }
@@ -133,14 +55,14 @@ fn mode_of(octets: &[u8]) -> Option<Mode>
 
 /// The next token as the word for what a grant permits.
 #[tactic(auto, unfolding(crate::specs::Arguments::mode_at))]
-pub fn mode<'a>(words: Words<'a>) -> Result<(Mode, Words<'a>), Flaw>
-    ensures { Gives seen result (mode_at (cursor words.entry)) }
+pub fn mode<'a>(tokens: Tokens<'a>) -> Result<(Mode, Tokens<'a>), Flaw>
+    ensures { Gives seen result (mode_at (cursor tokens.entry)) }
 {
-    let (word, words) = words.next()?;
-    match mode_of(word.octets) {
-        Some(mode) => Ok((mode, words)),
+    let (token, tokens) = tokens.next()?;
+    match mode_of(token.octets) {
+        Some(mode) => Ok((mode, tokens)),
         None => Err(Flaw {
-            column: word.column,
+            column: token.column,
             kind: FaultKind::BadWord,
         }),
     }
@@ -165,25 +87,25 @@ fn key_of(octets: &[u8]) -> Option<u8>
 
 /// The next token as the name of a node, by which its key is told.
 #[tactic(auto, unfolding(crate::specs::Arguments::key_at))]
-pub fn key<'a>(words: Words<'a>) -> Result<(u8, Words<'a>), Flaw>
-    ensures { Gives seen result (key_at (cursor words.entry)) }
+pub fn key<'a>(tokens: Tokens<'a>) -> Result<(u8, Tokens<'a>), Flaw>
+    ensures { Gives seen result (key_at (cursor tokens.entry)) }
 {
-    let (word, words) = words.next()?;
-    match key_of(word.octets) {
-        Some(key) => Ok((key, words)),
+    let (token, tokens) = tokens.next()?;
+    match key_of(token.octets) {
+        Some(key) => Ok((key, tokens)),
         None => Err(Flaw {
-            column: word.column,
+            column: token.column,
             kind: FaultKind::BadWord,
         }),
     }
 }
 
-/// What a node holds whose text is this.
+/// What a node holds whose text is this token.
 #[tactic(auto, unfolding(crate::specs::Nodes::node_value))]
-fn node_value_of(octets: &[u8]) -> NodeValue
-    ensures { result ≡ node_value octets.now }
+fn node_value_of(token: Token) -> NodeValue
+    ensures { result ≡ node_value token.entry.octets.now }
 {
-    match digits_of(10, octets) {
+    match token.decimal() {
         Some(value) if value < 1 << 32 => NodeValue::Number(value as u32),
         _ => NodeValue::Bad,
     }
@@ -191,11 +113,11 @@ fn node_value_of(octets: &[u8]) -> NodeValue
 
 /// The next token as what a node holds.
 #[tactic(auto, unfolding(crate::specs::Arguments::node_value_at))]
-pub fn node_value<'a>(words: Words<'a>) -> Result<(NodeValue, Words<'a>), Flaw>
-    ensures { Gives seen result (node_value_at (cursor words.entry)) }
+pub fn node_value<'a>(tokens: Tokens<'a>) -> Result<(NodeValue, Tokens<'a>), Flaw>
+    ensures { Gives seen result (node_value_at (cursor tokens.entry)) }
 {
-    let (word, words) = words.next()?;
-    Ok((node_value_of(word.octets), words))
+    let (token, tokens) = tokens.next()?;
+    Ok((node_value_of(token), tokens))
 }
 
 /// The state of this number.
@@ -210,12 +132,12 @@ fn state_of(n: u64) -> Option<State>
 
 /// The next token as the number of a state.
 #[tactic(auto, unfolding(crate::specs::Arguments::state_at))]
-pub fn state<'a>(words: Words<'a>) -> Result<(State, Words<'a>), Flaw>
-    ensures { Gives seen result (state_at (cursor words.entry)) }
+pub fn state<'a>(tokens: Tokens<'a>) -> Result<(State, Tokens<'a>), Flaw>
+    ensures { Gives seen result (state_at (cursor tokens.entry)) }
 {
-    let (number, words) = number_at(words)?;
+    let (number, tokens) = tokens.number()?;
     match state_of(number.value) {
-        Some(state) => Ok((state, words)),
+        Some(state) => Ok((state, tokens)),
         None => Err(Flaw {
             column: number.column,
             kind: FaultKind::OutOfRange,

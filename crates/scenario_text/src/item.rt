@@ -1,18 +1,17 @@
 //! What a line holds, under what the lines before it declared.
 
 ghost use Rattle.std.specs.Prelude.{◌≡◌, ◌<◌, ◌-◌, ◌^◌, length};
-ghost use Rattle.scenario_text.specs.Flaws.{Gives};
-ghost use Rattle.scenario_text.specs.Cursors.{cursor, seen, token};
+ghost use Rattle.script_tokens.specs.Flaws.{Gives};
+ghost use Rattle.script_tokens.specs.Cursors.{cursor, seen, token};
 ghost use Rattle.scenario_text.specs.Scenario.{drafted};
 ghost use Rattle.scenario_text.specs.Items.{command_of, is_declaration, command_at, arguments_at, item_of};
 
 use crate::declaration::{display, domain};
 use crate::draft::{Draft, Item};
-use crate::fault::{FaultKind, Flaw};
 use crate::statement::{
     back, blank, bus, end, fill, node, open, put, put_grant, serve, show, swap, wake,
 };
-use crate::words::{Word, Words};
+use script_tokens::{FaultKind, Flaw, Token, Tokens};
 
 /// What the first token of a line names.
 #[derive(Clone, Copy, Debug, PartialEq, Eq)]
@@ -83,16 +82,16 @@ fn is_declaration(command: Command) -> bool
 
 /// What the first token of a line names. No declaration may follow a statement.
 #[tactic(auto, unfolding(crate::specs::Items::command_at))]
-fn command_at(so_far: &Draft, word: Word) -> Result<Command, Flaw>
-    ensures { result ≡ command_at (drafted so_far.now) (token word.entry) }
+fn command_at(so_far: &Draft, first: Token) -> Result<Command, Flaw>
+    ensures { result ≡ command_at (drafted so_far.now) (token first.entry) }
 {
-    match command_of(word.octets) {
+    match command_of(first.octets) {
         None => Err(Flaw {
-            column: word.column,
+            column: first.column,
             kind: FaultKind::UnknownStatement,
         }),
         Some(command) if is_declaration(command) && !so_far.statements.is_empty() => Err(Flaw {
-            column: word.column,
+            column: first.column,
             kind: FaultKind::Late,
         }),
         Some(command) => Ok(command),
@@ -104,26 +103,26 @@ fn command_at(so_far: &Draft, word: Word) -> Result<Command, Flaw>
 fn arguments<'a>(
     command: Command,
     so_far: &Draft,
-    words: Words<'a>,
-) -> Result<(Item, Words<'a>), Flaw>
-    ensures { Gives seen result (arguments_at command (drafted so_far.now) (cursor words.entry)) }
+    tokens: Tokens<'a>,
+) -> Result<(Item, Tokens<'a>), Flaw>
+    ensures { Gives seen result (arguments_at command (drafted so_far.now) (cursor tokens.entry)) }
 {
     match command {
-        Command::Domain => domain(so_far, words),
-        Command::Display => display(so_far, words),
-        Command::Put => put(so_far, words),
-        Command::Fill => fill(so_far, words),
-        Command::PutGrant => put_grant(so_far, words),
-        Command::Swap => swap(so_far, words),
-        Command::Open => open(so_far, words),
-        Command::End => end(so_far, words),
-        Command::Node => node(so_far, words),
-        Command::Bus => bus(so_far, words),
-        Command::Wake => wake(so_far, words),
-        Command::Blank => blank(so_far, words),
-        Command::Show => show(so_far, words),
-        Command::Back => back(so_far, words),
-        Command::Serve => serve(so_far, words),
+        Command::Domain => domain(so_far, tokens),
+        Command::Display => display(so_far, tokens),
+        Command::Put => put(so_far, tokens),
+        Command::Fill => fill(so_far, tokens),
+        Command::PutGrant => put_grant(so_far, tokens),
+        Command::Swap => swap(so_far, tokens),
+        Command::Open => open(so_far, tokens),
+        Command::End => end(so_far, tokens),
+        Command::Node => node(so_far, tokens),
+        Command::Bus => bus(so_far, tokens),
+        Command::Wake => wake(so_far, tokens),
+        Command::Blank => blank(so_far, tokens),
+        Command::Show => show(so_far, tokens),
+        Command::Back => back(so_far, tokens),
+        Command::Serve => serve(so_far, tokens),
     }
 }
 
@@ -133,12 +132,12 @@ pub fn item_of(so_far: &Draft, code: &[u8]) -> Result<Option<Item>, Flaw>
     requires { length code.now < 2 ^ 32 - 1 }
     ensures { result ≡ item_of (drafted so_far.now) code.now }
 {
-    let Some((word, words)) = Words::new(code).split_first() else {
+    let Some((first, tokens)) = Tokens::new(code).split_first() else {
         return Ok(None);
     };
-    let command = command_at(so_far, word)?;
-    let (item, words) = arguments(command, so_far, words)?;
-    match words.split_first() {
+    let command = command_at(so_far, first)?;
+    let (item, tokens) = arguments(command, so_far, tokens)?;
+    match tokens.split_first() {
         None => Ok(Some(item)),
         Some((extra, _)) => Err(Flaw {
             column: extra.column,

@@ -10,16 +10,15 @@ mod declaration;
 mod draft;
 mod fault;
 mod item;
-mod line;
+mod limit;
 mod lookup;
-mod number;
 mod reading;
 mod script;
 mod statement;
-mod words;
 
-pub use fault::{FaultKind, ParseFault, ScriptFault};
+pub use fault::{ParseFault, ScriptFault};
 pub use script::Script;
+pub use script_tokens::FaultKind;
 pub use statement::{Closing, Filling, Opening, Statement};
 
 #[cfg(test)]

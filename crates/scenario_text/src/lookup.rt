@@ -1,19 +1,15 @@
 //! The domains and devices that a line names.
 
 ghost use Rattle.std.specs.Prelude.{◌≡◌, option_map};
-ghost use Rattle.scenario_text.specs.Flaws.{Gives};
-ghost use Rattle.scenario_text.specs.Cursors.{cursor, seen, seen_device};
+ghost use Rattle.script_tokens.specs.Flaws.{Gives};
+ghost use Rattle.script_tokens.specs.Cursors.{cursor, seen};
 ghost use Rattle.scenario_text.specs.Lookups.{size_of, device_of, has_device, parts_of, connectors_of};
 ghost use Rattle.scenario_text.specs.Lookups.{frames_left, grants_left, new_domain_at, size_at};
-ghost use Rattle.scenario_text.specs.Lookups.{new_device_at, device_at, connector_at};
+ghost use Rattle.scenario_text.specs.Lookups.{new_device_at, device_at, connector_at, seen_device};
 
-use crate::argument::{below, between};
-use crate::fault::{FaultKind, Flaw};
-use crate::words::Words;
+use crate::limit::{DEVICE_LIMIT, DOMAIN_LIMIT, SIZE_LIMIT};
 use pv_words::{DevId, DeviceKind, DeviceSetup, DomId, DomainSize};
-
-/// The most frames, and the most grants, of all domains together.
-const MOST: u32 = 16384;
+use script_tokens::{FaultKind, Flaw, Tokens};
 
 /// The domain of this number.
 #[tactic(auto, unfolding(crate::specs::Lookups::size_of))]
@@ -62,7 +58,7 @@ fn has_device(dev: u64, devices: &[DeviceSetup]) -> bool
 pub fn frames_left(sizes: &[DomainSize]) -> u32
     ensures { result ≡ frames_left sizes.now }
 {
-    let mut left = MOST;
+    let mut left = SIZE_LIMIT;
     for size in sizes {
         left = left.saturating_sub(size.frames);
     }
@@ -74,7 +70,7 @@ pub fn frames_left(sizes: &[DomainSize]) -> u32
 pub fn grants_left(sizes: &[DomainSize]) -> u32
     ensures { result ≡ grants_left sizes.now }
 {
-    let mut left = MOST;
+    let mut left = SIZE_LIMIT;
     for size in sizes {
         left = left.saturating_sub(size.grants);
     }
@@ -83,17 +79,17 @@ pub fn grants_left(sizes: &[DomainSize]) -> u32
 
 /// The next token as the number of a domain that is not declared yet.
 #[tactic(auto, unfolding(crate::specs::Lookups::new_domain_at))]
-pub fn new_domain<'a>(sizes: &[DomainSize], words: Words<'a>) -> Result<(DomId, Words<'a>), Flaw>
-    ensures { Gives seen result (new_domain_at sizes.now (cursor words.entry)) }
+pub fn new_domain<'a>(sizes: &[DomainSize], tokens: Tokens<'a>) -> Result<(DomId, Tokens<'a>), Flaw>
+    ensures { Gives seen result (new_domain_at sizes.now (cursor tokens.entry)) }
 {
-    let (dom, words) = between(words, 1, 4)?;
+    let (dom, tokens) = tokens.between(1, DOMAIN_LIMIT)?;
     if size_of(dom.value, sizes).is_some() {
         return Err(Flaw {
             column: dom.column,
             kind: FaultKind::Twice,
         });
     }
-    Ok((DomId(dom.value as u8), words))
+    Ok((DomId(dom.value as u8), tokens))
 }
 
 /// The next token as the number of a declared domain, which is returned.
@@ -101,13 +97,13 @@ pub fn new_domain<'a>(sizes: &[DomainSize], words: Words<'a>) -> Result<(DomId, 
 #[tactic(auto, unfolding(crate::specs::Lookups::size_at))]
 pub fn declared_domain<'a>(
     sizes: &[DomainSize],
-    words: Words<'a>,
-) -> Result<(DomainSize, Words<'a>), Flaw>
-    ensures { Gives seen result (size_at sizes.now (cursor words.entry)) }
+    tokens: Tokens<'a>,
+) -> Result<(DomainSize, Tokens<'a>), Flaw>
+    ensures { Gives seen result (size_at sizes.now (cursor tokens.entry)) }
 {
-    let (dom, words) = between(words, 1, 4)?;
+    let (dom, tokens) = tokens.between(1, DOMAIN_LIMIT)?;
     match size_of(dom.value, sizes) {
-        Some(size) => Ok((size, words)),
+        Some(size) => Ok((size, tokens)),
         None => Err(Flaw {
             column: dom.column,
             kind: FaultKind::Undeclared,
@@ -117,17 +113,20 @@ pub fn declared_domain<'a>(
 
 /// The next token as the number of a device that is not declared yet.
 #[tactic(auto, unfolding(crate::specs::Lookups::new_device_at))]
-pub fn new_device<'a>(devices: &[DeviceSetup], words: Words<'a>) -> Result<(DevId, Words<'a>), Flaw>
-    ensures { Gives seen result (new_device_at devices.now (cursor words.entry)) }
+pub fn new_device<'a>(
+    devices: &[DeviceSetup],
+    tokens: Tokens<'a>,
+) -> Result<(DevId, Tokens<'a>), Flaw>
+    ensures { Gives seen result (new_device_at devices.now (cursor tokens.entry)) }
 {
-    let (dev, words) = between(words, 1, 16)?;
+    let (dev, tokens) = tokens.between(1, DEVICE_LIMIT)?;
     if has_device(dev.value, devices) {
         return Err(Flaw {
             column: dev.column,
             kind: FaultKind::Twice,
         });
     }
-    Ok((DevId(dev.value as u8), words))
+    Ok((DevId(dev.value as u8), tokens))
 }
 
 /// The next token as the number of a declared device, which is returned.
@@ -135,13 +134,13 @@ pub fn new_device<'a>(devices: &[DeviceSetup], words: Words<'a>) -> Result<(DevI
 #[tactic(auto, unfolding(crate::specs::Lookups::device_at))]
 pub fn declared_device<'d, 'a>(
     devices: &'d [DeviceSetup],
-    words: Words<'a>,
-) -> Result<(&'d DeviceSetup, Words<'a>), Flaw>
-    ensures { Gives seen_device result (device_at devices.now (cursor words.entry)) }
+    tokens: Tokens<'a>,
+) -> Result<(&'d DeviceSetup, Tokens<'a>), Flaw>
+    ensures { Gives seen_device result (device_at devices.now (cursor tokens.entry)) }
 {
-    let (dev, words) = between(words, 1, 16)?;
+    let (dev, tokens) = tokens.between(1, DEVICE_LIMIT)?;
     match device_of(dev.value, devices) {
-        Some(device) => Ok((device, words)),
+        Some(device) => Ok((device, tokens)),
         None => Err(Flaw {
             column: dev.column,
             kind: FaultKind::Undeclared,
@@ -153,11 +152,11 @@ pub fn declared_device<'d, 'a>(
 #[tactic(auto, unfolding(crate::specs::Lookups::connector_at))]
 pub fn connector<'a>(
     devices: &[DeviceSetup],
-    words: Words<'a>,
-) -> Result<((DevId, u8), Words<'a>), Flaw>
-    ensures { Gives seen result (connector_at devices.now (cursor words.entry)) }
+    tokens: Tokens<'a>,
+) -> Result<((DevId, u8), Tokens<'a>), Flaw>
+    ensures { Gives seen result (connector_at devices.now (cursor tokens.entry)) }
 {
-    let (dev, words) = between(words, 1, 16)?;
+    let (dev, tokens) = tokens.between(1, DEVICE_LIMIT)?;
     let column = dev.column;
     let Some(device) = device_of(dev.value, devices) else {
         return Err(Flaw {
@@ -171,6 +170,6 @@ pub fn connector<'a>(
             kind: FaultKind::WrongDevice,
         });
     };
-    let (connector, words) = below(words, u64::from(connectors))?;
-    Ok(((device.dev, connector.value as u8), words))
+    let (connector, tokens) = tokens.below(u64::from(connectors))?;
+    Ok(((device.dev, connector.value as u8), tokens))
 }

@@ -2,15 +2,15 @@
 
 ghost use Rattle.std.specs.Prelude.{◌≡◌, ◌<◌, ◌-◌, ◌^◌, length, IfOk};
 ghost use Rattle.std.specs.List.{before_first, after_first};
-ghost use Rattle.scenario_text.specs.Flaws.{Gives};
-ghost use Rattle.scenario_text.specs.Lines.{is_line_end};
+ghost use Rattle.script_tokens.specs.Flaws.{Gives};
+ghost use Rattle.script_tokens.specs.Lines.{is_line_end};
 ghost use Rattle.scenario_text.specs.Scenario.{drafted};
 ghost use Rattle.scenario_text.specs.Reading.{Tells, line_item};
 
 use crate::draft::{Draft, Item};
-use crate::fault::{Flaw, ParseFault, ScriptFault};
+use crate::fault::{ParseFault, ScriptFault};
 use crate::item::item_of;
-use crate::line::{after_line, code_of};
+use script_tokens::{Flaw, after_line, code_of};
 use std::alloc::Global;
 
 /// What the first line of a text holds, and the text behind that line.

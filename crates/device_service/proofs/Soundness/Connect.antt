@@ -56,7 +56,7 @@ module _ {X A V Y M : Type 0} (D : Lawful X A V Y M) where
       fits_parts : (rs : List Refs) (met : List Joined) → AllOwn frames grants dom (all_pages met) → length met + length rs ≡ parts → FitsSo (holds_of (all_pages met)) (connect_parts (site D) rs met)
       unfolding settled
       fits_parts [] met own all =
-          ((refl, (λ k. ap (λ hs. times k (hs ++ all_pages met)) (sym (l.begun_sane w.read).2))), (connecting, own, omega (arith, all), found, bare))
+          ((refl, (λ k. ap (λ hs. times k (hs ++ all_pages met)) (sym (l.begun_sane w.service w.read).2))), (connecting, own, omega (arith, all), found, bare))
       fits_parts (a ∷ rs) met own all =
           fits_joined (IsProper frames grants dom) (holding frames) (after_part met (connect_parts (site D) rs)) Ends (holds_of (all_pages met)) (connect_plan (frames dom) (grants dom) dom a.ring a.event)
           (fits_connect frames grants dom a.event a.ring (all_pages met) (λ h x. FitsSo h (after_part met (connect_parts (site D) rs) x))

@@ -141,9 +141,9 @@ module _ {X A V Y M : Type 0} (D : Lawful X A V Y M) where
       }
 
   -- a state in which the service has nothing
-  entered_sane : (w v : Work X V) (nodes : List NodeValue) → IsSane D w → v.parts ≡ w.parts → v.service ≡ s.begun nodes → IsBare D w → v.kept ≡ None → IsSane D v
+  entered_sane : (w v : Work X V) (nodes : List NodeValue) → IsSane D w → v.parts ≡ w.parts → v.service ≡ s.begun w.service nodes → IsBare D w → v.kept ≡ None → IsSane D v
   entered_sane w v nodes q same none bare unkept =
-      let b = l.begun_sane nodes in
+      let b = l.begun_sane w.service nodes in
       record {
         own = subst (λ js. AllOwn frames grants dom (all_pages js)) (sym same) q.own;
         whole = subst (λ (js : List Joined). (js ≡ []) ⊎ (length js ≡ parts)) (sym same) q.whole;
@@ -174,7 +174,7 @@ module _ {X A V Y M : Type 0} (D : Lawful X A V Y M) where
   settles w (Answered notified) k q e = answer_sane w w.hand q e.0.0 e.0.2 e.0.3
   settles w (Slept quiet) k q e = sleep_sane w quiet q
   settles w (Met ps) k q e =
-      let b = l.begun_sane w.read in
+      let b = l.begun_sane w.service w.read in
       record { own = e.0.1; whole = inr e.0.2; sane = b.0; opened = inr ((refl, refl), b.1); kept = λ why h. let wrong : ⊥ = cc in absurd wrong }
   settles w (Denied why) k q e = shut_sane w q e.0.1
   settles w (Lacked problem) k q e = shut_sane w q e.0.1

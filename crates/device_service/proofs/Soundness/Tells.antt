@@ -230,19 +230,20 @@ module _ {X A V Y M : Type 0} (D : Lawful X A V Y M) where
       (b.0, record { move = ((due, e.0), ap (λ (y : Y). let x : Rows Y V = record (row w n) { bus = bus_closed (bus_of w); hand = None; service = y } in x) b.1); names = λ sight. ap (all_drawn sight) b.2 })
 
   -- a state in which there is no name
-  tells_state : (w v : Work X V) (k : Carried Learned) (n : Naming M) (b : State) (what : Said) → Enters t (site D) (row w n) b (row v (unnamed s t r n)) → v.service ≡ s.begun w.read → s.pages w.service ≡ [] → IsNamed D w n → Some (said.State b) ≡ Some what → TellsSo w k n what [] [] v (unnamed s t r n)
+  tells_state : (w v : Work X V) (k : Carried Learned) (n : Naming M) (b : State) (what : Said) → Enters t (site D) (row w n) b (row v (unnamed s t r n)) → v.service ≡ s.begun w.service w.read → s.pages w.service ≡ [] → IsNamed D w n → Some (said.State b) ≡ Some what → TellsSo w k n what [] [] v (unnamed s t r n)
   tells_state w v k n b what enters none bare named f =
-      let empty = l.begun_shows w.read in
+      let unnamed_so = l.begun_named w.service w.read in
+      let nameless = l.bare (s.begun w.service w.read) r.unnamed unnamed_so (l.begun_sane w.service w.read).2 in
       tells_as w k n (said.State b) what [] [] v (unnamed s t r n) f (
-        subst (λ x. known.Named x r.unnamed) (sym none) empty.0,
+        subst (λ x. known.Named x r.unnamed) (sym none) unnamed_so,
         record {
           move = enters;
-          names = λ sight. ap (λ (x : X). all_drawn sight (r.names x r.unnamed)) none ∙ (ap (all_drawn sight) empty.2 ∙ sym (ap (all_drawn sight) (l.bare w.service n.service named bare)));
+          names = λ sight. ap (λ (x : X). all_drawn sight (r.names x r.unnamed)) none ∙ (ap (all_drawn sight) nameless ∙ sym (ap (all_drawn sight) (l.bare w.service n.service named bare)));
         },
       )
 
-  entered_rows : (w : Work X V) (n : Naming M) (b : State) → row (entered s w b) (unnamed s t r n) ≡ rows.with_state t (row w n) b
-  entered_rows w n b = ap (λ (y : Y). let x : Rows Y V = record (rows.with_state t (row w n) b) { service = y } in x) (l.begun_shows w.read).1
+  entered_rows : (w : Work X V) (n : Naming M) (b : State) → IsNamed D w n → row (entered s w b) (unnamed s t r n) ≡ rows.with_state t (row w n) b
+  entered_rows w n b named = ap (λ (y : Y). let x : Rows Y V = record (rows.with_state t (row w n) b) { service = y } in x) (l.begun_shows w.service n.service w.read named)
 
   pub tells : (w : Work X V) (o : End A V) (k : Carried Learned) (what : Said) (n : Naming M) → IsSane D w → EndsWell D w k o → IsNamed D w n → said_at s w o ≡ Some what → TellsSo w k n what (taken_at o) (made_at s t r w o) (settled s (site D) w o) (named_after s t r w o n)
   unfolding settled said_at
@@ -254,12 +255,12 @@ module _ {X A V Y M : Type 0} (D : Lawful X A V Y M) where
   tells w (Answered b) k what n q e named f = tells_answer w k b n what q e named f
   tells w (Slept b) k what n q e named f = let wrong : ⊥ = cc in absurd wrong
   tells w (Met ps) k what n q e named f =
-      tells_state w (settled s (site D) w (Met ps)) k n state.Connected what ((e.0.0, e.0.3), entered_rows w n state.Connected) refl e.0.4 named f
+      tells_state w (settled s (site D) w (Met ps)) k n state.Connected what ((e.0.0, e.0.3), entered_rows w n state.Connected named) refl e.0.4 named f
   tells w (Denied why) k what n q e named f = tells_closed w k n (reason.Refused why) what e.0 e.1 named f
   tells w (Lacked problem) k what n q e named f = tells_closed w k n (reason.Node problem.part problem.key problem.fault) what e.0 e.1 named f
   tells w (Shut why) k what n q e named f = tells_closed w k n why what e.0 e.1 named f
   tells w Left k what n q e named f =
-      tells_state w (entered s w state.Closed) k n state.Closed what (e.0, entered_rows w n state.Closed) refl (bare_unless D w q (λ serving. true≢false (sym e.0 ∙ serving.1))).1 named f
+      tells_state w (entered s w state.Closed) k n state.Closed what (e.0, entered_rows w n state.Closed named) refl (bare_unless D w q (λ serving. true≢false (sym e.0 ∙ serving.1))).1 named f
   tells w (Raised part x p) k what n q e named f = tells_raise w k part x p n what q e.0.0 named f
   tells w Renewed k what n q e named f =
-      tells_state w (entered s w state.InitWait) k n state.InitWait what ((e.0.0, renews_from w.connection e.0.1 e.0.2), entered_rows w n state.InitWait) refl (bare_unless D w q (λ serving. closed_apart w.connection.back e.0.1 serving.0)).1 named f
+      tells_state w (entered s w state.InitWait) k n state.InitWait what ((e.0.0, renews_from w.connection e.0.1 e.0.2), entered_rows w n state.InitWait named) refl (bare_unless D w q (λ serving. closed_apart w.connection.back e.0.1 serving.0)).1 named f

@@ -143,10 +143,8 @@ impl<S: Serve + Drop> Backend<S> {
         self.waiting.clear();
         self.left = 0;
         self.round = Round::Looks(0, false);
-        Step {
-            access,
-            said: Some(Said::State(State::Connected)),
-        }
+        let said = Some(Said::State(State::Connected));
+        Step { access, said }
     }
 
     // The first step of a Connect.
@@ -187,9 +185,7 @@ impl<S: Serve + Drop> Backend<S> {
         self.service.start(&self.read);
         self.waiting.clear();
         self.activity = Activity::Between;
-        Step {
-            access: None,
-            said: Some(Said::State(s)),
-        }
+        let said = Some(Said::State(s));
+        Step { access: None, said }
     }
 }

@@ -10,11 +10,8 @@ use super::{Activity, Backend};
 use crate::serve::Serve;
 use device_core::Step;
 use host_events::Queue;
-use link_core::Put;
+use link_core::{EVENT_LIMIT, Put};
 use pv_words::{Reason, Said, State, Words};
-
-/// From this index on no event is put.
-const EVENT_LIMIT: u32 = 4_294_967_232;
 
 // The event that a Raise was for waits no longer; one that was owed never did.
 fn drop_done<V: Copy>(waiting: &mut Queue<V>, cause: Option<V>)

@@ -129,19 +129,14 @@ impl<S: Serve + Drop> Backend<S> {
         ensures same { Same self.old self.new }
     {
         let deed = self.service.begin(self.dom, self.parts.len(), words);
+        let (access, said) = (deed.access, deed.said);
         match deed.now {
             Now::Answers => self.reply(words),
             Now::GoesOn => {
                 self.activity = Activity::Working;
-                Step {
-                    access: deed.access,
-                    said: deed.said,
-                }
+                Step { access, said }
             }
-            Now::Over => Step {
-                access: deed.access,
-                said: deed.said,
-            },
+            Now::Over => Step { access, said },
         }
     }
 
@@ -155,14 +150,12 @@ impl<S: Serve + Drop> Backend<S> {
         ensures same { Same self.old self.new }
     {
         let deed = self.service.go_on(self.dom, self.parts.len(), words);
+        let (access, said) = (deed.access, deed.said);
         match deed.now {
             Now::GoesOn => {}
             _ => self.activity = Activity::Between,
         }
-        Step {
-            access: deed.access,
-            said: deed.said,
-        }
+        Step { access, said }
     }
 
     // The first step of what the oldest waiting event leads to.
@@ -183,14 +176,12 @@ impl<S: Serve + Drop> Backend<S> {
             return self.begin_raise(words, part, Some(event), outgoing);
         }
         let deed = self.service.serve(self.dom, self.parts.len(), words, event);
+        let (access, said) = (deed.access, deed.said);
         match deed.now {
             Now::GoesOn => self.activity = Activity::Serving,
             _ => self.waiting.drop_oldest(),
         }
-        Step {
-            access: deed.access,
-            said: deed.said,
-        }
+        Step { access, said }
     }
 
     // The next access of an activity of the service, for the oldest waiting event.
@@ -203,6 +194,7 @@ impl<S: Serve + Drop> Backend<S> {
         ensures same { Same self.old self.new }
     {
         let deed = self.service.go_on(self.dom, self.parts.len(), words);
+        let (access, said) = (deed.access, deed.said);
         match deed.now {
             Now::GoesOn => {}
             _ => {
@@ -210,10 +202,7 @@ impl<S: Serve + Drop> Backend<S> {
                 self.activity = Activity::Between;
             }
         }
-        Step {
-            access: deed.access,
-            said: deed.said,
-        }
+        Step { access, said }
     }
 
     // The first access of an Answer.
@@ -256,10 +245,8 @@ impl<S: Serve + Drop> Backend<S> {
         let status = self.service.answered();
         self.hand = None;
         self.activity = Activity::Between;
-        Step {
-            access,
-            said: Some(Said::Replied(hand.part, hand.id, status, notified)),
-        }
+        let said = Some(Said::Replied(hand.part, hand.id, status, notified));
+        Step { access, said }
     }
 
     // The next access of a Take.
@@ -285,10 +272,8 @@ impl<S: Serve + Drop> Backend<S> {
         self.hand = Some(hand);
         self.left = self.left.saturating_sub(1);
         self.activity = Activity::Between;
-        Step {
-            access,
-            said: Some(Said::Request(hand.part, hand.id, hand.op)),
-        }
+        let said = Some(Said::Request(hand.part, hand.id, hand.op));
+        Step { access, said }
     }
 
     // The next access of a Sleep.

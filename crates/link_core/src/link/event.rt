@@ -2,7 +2,7 @@
 
 ghost use Rattle.std.specs.Prelude.{◌≡◌, List, OnSome, length, true};
 
-use super::{IN_CONS, IN_PROD, Link, Put, Stage};
+use super::{EVENT_LIMIT, IN_CONS, IN_PROD, Link, Put, Stage};
 use event_ring::{EventRing, Room};
 use pv_words::{Access, Place, Turn, Words};
 
@@ -13,9 +13,6 @@ const EVENT_WORDS: u16 = 16;
 
 /// The word of the page with which the first slot starts.
 const FIRST_EVENT_WORD: u16 = 16;
-
-/// From this index on no event is put.
-const EVENT_LIMIT: u32 = 4_294_967_232;
 
 impl Link {
     ghost use Rattle.std.specs.Prelude.{◌≢◌};

@@ -81,31 +81,13 @@ fn indices_go_on_at_zero(rt: HostRuntime) -> Result<(), Fail> {
     Ok(())
 }
 
-// A connected display whose domain has four frames: frame 2 is a page directory that lists frame 3, and the first request is
-// a CREATE of a buffer of 32 by 32 pixels with that directory.
-const BUFFER: &str =
-    "put 1 0 16 1\nput 1 0 18 1\nput 1 0 20 32\nput 1 0 21 32\nput 1 0 22 32\nput 1 0 23 4096\nput 1 0 25 2\n";
-
-fn run_buffers(alloc: Global, more: &str) -> Result<Outcome, AllocError> {
-    run_parts(
-        alloc,
-        &[
-            "domain 1 wild 4 4\ndisplay 1 1 1\nput 1 0 1 1\nput 1 0 3 1\nopen 1 0 0 rw 4\n",
-            NODES,
-            "put 1 2 1 3\n",
-            CONNECTS,
-            BUFFER,
-            more,
-        ],
-    )
-}
-
 // The page of a buffer is in use until the buffer is destroyed.
 #[test]
 fn a_buffer_is_made_and_destroyed(rt: HostRuntime) -> Result<(), Fail> {
     let alloc = rt.alloc();
-    let outcome = run_buffers(
+    let outcome = run_buffer(
         alloc,
+        "",
         "put 1 0 0 1\nserve 1\nend 1 3 1\nput 1 0 32 0x00010002\nput 1 0 34 1\nput 1 0 0 2\nserve 1\nend 1 3 1\n",
     )?;
     let wanted = joined(
@@ -120,22 +102,26 @@ fn a_buffer_is_made_and_destroyed(rt: HostRuntime) -> Result<(), Fail> {
     Ok(())
 }
 
-// The second request is a CREATE or a DESTROY beside a live buffer of cookie 1.
+// The second request stands beside a live buffer of cookie 1, and no framebuffer is attached.
 #[test]
-fn buffers_that_are_refused(rt: HostRuntime) -> Result<(), Fail> {
+fn requests_that_are_refused(rt: HostRuntime) -> Result<(), Fail> {
     let alloc = rt.alloc();
     for (asks, op, status) in [
         ("put 1 0 32 2\nput 1 0 40 1\n", "0", "-95"),
         ("put 1 0 32 2\nput 1 0 34 1\n", "0", "-17"),
         ("put 1 0 32 2\nput 1 0 34 2\n", "0", "-22"),
         ("put 1 0 32 0x00010002\nput 1 0 34 2\n", "1", "-2"),
-        ("put 1 0 32 0x00050002\nput 1 0 34 1\n", "5", "-95"),
+        ("put 1 0 32 0x00020002\nput 1 0 34 2\n", "2", "-2"),
+        ("put 1 0 32 0x00030002\nput 1 0 34 1\n", "3", "-2"),
+        ("put 1 0 32 0x00040002\nput 1 0 34 1\n", "4", "-2"),
+        ("put 1 0 32 0x00050002\nput 1 0 34 1\n", "5", "-2"),
+        ("put 1 0 32 0x00060002\nput 1 0 34 1\n", "6", "-95"),
     ] {
         let more = joined(
             alloc,
             &["put 1 0 0 1\nserve 1\n", asks, "put 1 0 0 2\nserve 1\n"],
         )?;
-        let outcome = run_buffers(alloc, more.as_str())?;
+        let outcome = run_buffer(alloc, "", more.as_str())?;
         let wanted = joined(
             alloc,
             &[
@@ -165,7 +151,7 @@ fn a_page_that_is_denied(rt: HostRuntime) -> Result<(), Fail> {
         ("putg 1 3 frame 4\n", "badframe 4", 11 + 17 + 9 + 18 + 3),
     ] {
         let more = joined(alloc, &[change, "put 1 0 0 1\nserve 1\n"])?;
-        let outcome = run_buffers(alloc, more.as_str())?;
+        let outcome = run_buffer(alloc, "", more.as_str())?;
         let wanted = joined(
             alloc,
             &[
@@ -233,7 +219,7 @@ fn a_walk_comes_to_its_end_before_a_close(rt: HostRuntime) -> Result<(), Fail> {
         ),
     ] {
         let script = joined(alloc, &["put 1 0 0 1\nback 1 20\nbus 1 5\nserve 1\n", more])?;
-        let outcome = run_buffers(alloc, script.as_str())?;
+        let outcome = run_buffer(alloc, "", script.as_str())?;
         let wanted = joined(
             alloc,
             &[

@@ -1,7 +1,7 @@
 // Runs over ports in memory, and the parts of scripts that several tests share.
 use crate::{Status, run};
 use pv_ports::{ListSink, ListSource};
-use pv_words::{DevId, Entry, Journal};
+use pv_words::{Access, DevId, Entry, Journal, Place};
 use scenario_text::{FaultKind, ScriptFault};
 use std::alloc::{AllocError, Global};
 use std::process::Abort;
@@ -21,6 +21,10 @@ pub const CONNECTED: &str = "bus 1 front 3\nbus 1 back 4\n";
 
 // One SET_CONFIG of zeros.
 pub const ASKS: &str = "put 1 0 16 0x00040001\nput 1 0 0 1\n";
+
+// The first request is a CREATE of a buffer of 32 by 32 pixels of 32 bits: its page is frame 3, by the directory in frame 2.
+pub const BUFFER: &str =
+    "put 1 0 16 1\nput 1 0 18 1\nput 1 0 20 32\nput 1 0 21 32\nput 1 0 22 32\nput 1 0 23 4096\nput 1 0 25 2\n";
 
 // What came of a run over ports in memory.
 #[derive(Drop)]
@@ -96,6 +100,22 @@ pub fn run_connected(alloc: Global, more: &str) -> Result<Outcome, AllocError> {
     run_parts(alloc, &[DECLARED, OPENED, NODES, CONNECTS, more])
 }
 
+// Runs a script whose display has a domain of four frames, with these statements before it connects; then its frontend stores
+// the request `BUFFER`, and the script goes on.
+pub fn run_buffer(alloc: Global, before: &str, more: &str) -> Result<Outcome, AllocError> {
+    run_parts(
+        alloc,
+        &[
+            "domain 1 wild 4 4\ndisplay 1 1 1\nput 1 0 1 1\nput 1 0 3 1\nopen 1 0 0 rw 4\nput 1 2 1 3\n",
+            before,
+            NODES,
+            CONNECTS,
+            BUFFER,
+            more,
+        ],
+    )
+}
+
 // One request, of which no word is wrong.
 pub fn one_request_script(alloc: Global) -> Result<String, AllocError> {
     joined(
@@ -115,6 +135,19 @@ pub fn accesses(journal: &Journal, dev: DevId) -> usize {
         }
     }
     made
+}
+
+// What a device stored last at this place.
+pub fn stored(journal: &Journal, at: Place) -> Option<u32> {
+    let mut found = None;
+    for entry in journal.entries() {
+        if let Entry::Back(_, Access::Store(place, v)) = entry
+            && place == at
+        {
+            found = Some(v);
+        }
+    }
+    found
 }
 
 // The run ended by this status, and the sink got this.

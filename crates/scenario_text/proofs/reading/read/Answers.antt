@@ -3,7 +3,7 @@ use Rattle.std.specs.List.{position_or_len}
 use Rattle.std.proofs.lemmas.Bool.{eqb-true, eqb-false}
 use Rattle.std.proofs.lemmas.Result.{err_from_is_err_and}
 use Rattle.std.proofs.lemmas.List.{length-drop}
-use Rattle.scenario_text.specs.Lines.{is_line_end}
+use Rattle.script_tokens.specs.Lines.{is_line_end}
 use Rattle.scenario_text.specs.Scenario.{drafted}
 use Rattle.scenario_text.specs.Reading.{scenario_of}
 use Rattle.scenario_text.proofs.ReadLemmas.{begins, goes_on, stops, is_over, item_held, held_on}

@@ -1,5 +1,5 @@
 use Rattle.std.proofs.Common.{◌≡◌, ◌+◌, ◌≤◌, length}
-use Rattle.scenario_text.specs.Lines.{lines}
+use Rattle.script_tokens.specs.Lines.{lines}
 use Rattle.scenario_text.specs.Scenario.{drafted}
 use Rattle.scenario_text.specs.Reading.{scenario_from, scenario_of}
 use Rattle.scenario_text.proofs.ReadLemmas.{HeldSoFar}

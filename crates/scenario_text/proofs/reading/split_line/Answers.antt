@@ -1,7 +1,7 @@
 use Rattle.std.proofs.Common.{length, ap, ◌∙◌}
 use Rattle.std.specs.List.{after_first}
-use Rattle.scenario_text.specs.Lines.{is_line_end}
-use Rattle.scenario_text.proofs.LineLemmas.{after_within, code_within}
+use Rattle.script_tokens.specs.Lines.{is_line_end}
+use Rattle.script_tokens.proofs.LineLemmas.{after_within, code_within}
 use Rattle.scenario_text.proofs.reading.split_line.Goals as goal
 
 pub returns-clause-rest : goal.returns-clause-rest

@@ -86,7 +86,9 @@ returns-clause-goes g c =
     let at = ap (λ n. site_of frames grants n (count_of d.parts)) d.dom_is in
     let leads = subst (λ (site : Site). Leads (connect_left site d.read d.parts) turn.result.access (ending_of new turn.result.done) (connect_left site d.read new)) at turn.ensures.leads in
     let end = c.in-Some.is ∙ ap (λ r. Some r) c.in_default-end.is in
-    let same = met_as s here (work_of d) (joined_of new) c.moved.new.self c.clear.new.self (g.S.Serve.knows c.start.new.self) c.moved.ensures c.clear.ensures c.start.ensures.knows in
+    let known = known_connecting s.stripped d.activity (g.S.Serve.knows d.service) c.requires.connecting in
+    let begun = c.start.ensures.knows ∙ ap (λ x. s.begun x d.read) (sym known) in
+    let same = met_as s here (work_of d) (joined_of new) c.moved.new.self c.clear.new.self (g.S.Serve.knows c.start.new.self) c.moved.ensures c.clear.ensures begun in
     connect_met s here (work_of d) _ (connect_left here d.read d.parts) (connect_left here d.read new) new turn.result.access turn.result.done leads c.in_default-end.field-0 end turn.ensures.joins same
 
 pub returns-clause-stays : goal.returns-clause-stays

@@ -12,7 +12,7 @@ use Rattle.device_service.proofs.backend.Backend.new.Goals as goal
 pub invariant_of-result : goal.invariant_of-result
 invariant_of-result g c =
     let p = c.in_ok-parts in
-    let bare = ap g.S.Serve.service.pages c.requires.fresh ∙ g.S.Serve.begins_bare no_nodes in
+    let bare = ap g.S.Serve.service.pages (sym c.requires.fresh) ∙ g.S.Serve.begins_bare (g.S.Serve.knows c.args.service) no_nodes in
     record {
       dom_is = p.ensures.dom;
       kind_is = p.ensures.kind ∙ c.is_ringed.ensures;
@@ -33,7 +33,7 @@ pub returns-clause-between : goal.returns-clause-between
 unfolding stand_of work_of
 returns-clause-between g c = λ site.
     let p = c.in_ok-parts in
-    ap (λ w. Between w) (new_work g.S.Serve.service c.new-3.result c.new-4.result c.new-5.result (joined_of p.parts) c.in_ok-waiting.waiting (g.S.Serve.knows c.args.service) c.new-3.ensures c.new-4.ensures c.new-5.ensures (bare_joins p.parts p.ensures.bare) c.in_ok-waiting.ensures c.requires.fresh)
+    ap (λ w. Between w) (new_work c.new-3.result c.new-4.result c.new-5.result (joined_of p.parts) c.in_ok-waiting.waiting (g.S.Serve.knows c.args.service) c.new-3.ensures c.new-4.ensures c.new-5.ensures (bare_joins p.parts p.ensures.bare) c.in_ok-waiting.ensures)
 
 pub returns-clause-dom : goal.returns-clause-dom
 unfolding dom_of
@@ -47,5 +47,5 @@ pub returns-clause-held : goal.returns-clause-held
 unfolding held_of
 returns-clause-held g c =
     let x = c.args.service in
-    let bare = ap g.S.Serve.service.pages c.requires.fresh ∙ g.S.Serve.begins_bare no_nodes in
+    let bare = ap g.S.Serve.service.pages (sym c.requires.fresh) ∙ g.S.Serve.begins_bare (g.S.Serve.knows c.args.service) no_nodes in
     none_held (g.S.Serve.holds x) (parts_held c.in_ok-parts.parts) (g.S.Serve.holds_pages x c.requires.idle ∙ bare) c.in_ok-parts.ensures.held

@@ -211,9 +211,9 @@ returns-then-is_none-clause-same g c =
     let s = c.undo-then-is_none.ensures.same in
     record { dom = s.dom; count = s.count ∙ length-set c.args.self.now.links.items c.in-Connecting.part c.connect_step-turn.new.self; kind = s.kind }
 
-pub undone-requires : goal.undone-requires
+pub undone-done-requires : goal.undone-done-requires
 unfolding doing_of
-undone-requires g c =
+undone-done-requires g c =
     refl
 
 pub returns-in-Err-clause-leads : goal.returns-in-Err-clause-leads
@@ -245,7 +245,7 @@ returns-in-Err-clause-leads g c =
     let goes : (a : Access) → turn.result.access ≡ Some a → Goes (connect_in site (kind_in p.ringed) nodes ls p.doing) a (unmaps rest (Finished (Err why))) = λ a is.
     subst (λ (x : List Hold). Goes (connect_in site (kind_in p.ringed) nodes ls p.doing) a (unmaps x (Finished (Err why)))) (sym held)
     (refused_by site (kind_in p.ringed) nodes ls k p.doing l e at a hs why (left_of site (kind_in p.ringed) nodes ls k p.doing l e at new) (subst (λ x. Leads (left_of site (kind_in p.ringed) nodes ls k p.doing l e at l) x (Some (Refuses hs why)) (left_of site (kind_in p.ringed) nodes ls k p.doing l e at new)) is t)) in
-    refused_on site nodes c.undone.new.self (connect_in site (kind_in p.ringed) nodes ls p.doing) turn.result.access rest why c.undone.result some goes c.undone.ensures.ends c.undone.ensures.left c.undone.ensures.held
+    refused_on site nodes c.undone-done.new.self (connect_in site (kind_in p.ringed) nodes ls p.doing) turn.result.access rest why c.undone-done.result some goes c.undone-done.ensures.ends c.undone-done.ensures.left c.undone-done.ensures.held
 
 pub returns-in-Err-clause-stays : goal.returns-in-Err-clause-stays
 unfolding held_of
@@ -262,7 +262,7 @@ returns-in-Err-clause-stays g c =
 pub returns-in-Err-clause-same : goal.returns-in-Err-clause-same
 unfolding count_of dom_of kind_of
 returns-in-Err-clause-same g c =
-    let s = c.undone.ensures.same in
+    let s = c.undone-done.ensures.same in
     record { dom = s.dom; count = s.count ∙ length-set c.args.self.now.links.items c.in-Connecting.part c.connect_step-turn.new.self; kind = s.kind }
 
 pub invariant_of-self-then-following-len : goal.invariant_of-self-then-following-len

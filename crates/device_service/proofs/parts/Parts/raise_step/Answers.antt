@@ -1,15 +1,14 @@
-use Rattle.std.proofs.Common.{◌≡◌, ◌<◌, length, slice_set, refl, sym, ap, subst, ◌∙◌, arith}
+use Rattle.std.proofs.Common.{◌<◌, length, slice_set, refl, sym, ap, subst, ◌∙◌, arith}
 use Rattle.std.proofs.lemmas.Bool.{false≢true}
 use Rattle.std.proofs.lemmas.List.{length-set}
 use Rattle.device_service.specs.declared.parts.Doing.{Doing}
 use Rattle.device_service.specs.declared.parts.Doing.TheVariants as doing
 use Rattle.device_service.specs.Doing.{Whole, is_open}
-use Rattle.device_service.specs.Parts.{count_of, doing_of, dom_of, held_of, joined_of, kind_of, open_or, raise_from, raise_left}
+use Rattle.device_service.specs.Parts.{count_of, doing_of, dom_of, held_of, joined_of, kind_of, rest_if, raise_from, raise_left}
 use Rattle.device_service.proofs.Holding.Held.{held_set, here, in_all}
 use Rattle.device_service.proofs.Opened.{raised_set, pages_raised, may_at, leads_at}
-use Rattle.device_service.proofs.Wholes.{all_met, open_after, open_else, open_then, serving_open, whole_served}
+use Rattle.device_service.proofs.Wholes.{all_met, open_after, serving_open, whole_served}
 use Rattle.device_service.proofs.parts.Parts.raise_step.Goals as goal
-use Rattle.device_service.proofs.parts.Parts.raise_step.Goals.{then-is_some, else-is_some}
 
 pub index_mut-requires : goal.index_mut-requires
 unfolding count_of
@@ -33,10 +32,7 @@ invariant_of-self g c =
     let l = c.index_mut.result.now in
     let turn = c.raise_step-turn in
     let at = here ls k l _ c.requires.part c.index_mut.ensures.value in
-    let is : c.if-is_some.self ≡ open_or turn.result.done (doing.Raising k) = elim c.if-is_some.branch [
-      | then-is_some w ↦ open_then turn.result.done (doing.Raising k) c.if-is_some.self (sym c.is_some.ensures ∙ w.if-is_some.true) w.self-is
-      | else-is_some w ↦ open_else turn.result.done (doing.Raising k) c.if-is_some.self (sym c.is_some.ensures ∙ w.if-is_some.false) w.self-is
-    ] in
+    let is = c.rest_if-self.ensures ∙ ap (λ b. rest_if b (doing.Raising k)) c.is_some.ensures in
     let whole = whole_served p.dom.0 p.ringed p.doing (doing.Raising k) ls k l turn.new.self turn.result.done p.whole refl refl c.requires.part (λ h. absurd (false≢true h)) c.requires.serving at turn.ensures.keeps.dom turn.ensures.keeps.held (pages_raised turn.result.done l turn.new.self turn.ensures.joined) turn.ensures.rests in
     record { whole = subst (λ (d : Doing). Whole p.dom.0 p.ringed d (slice_set ls k turn.new.self)) (sym is) whole }
 
@@ -65,12 +61,7 @@ returns-clause-stays g c =
 pub returns-clause-doing : goal.returns-clause-doing
 unfolding doing_of
 returns-clause-doing g c =
-    let o = c.raise_step-turn.result.done in
-    let t = doing.Raising c.args.part in
-    elim c.if-is_some.branch [
-      | then-is_some w ↦ open_then o t c.if-is_some.self (sym c.is_some.ensures ∙ w.if-is_some.true) w.self-is
-      | else-is_some w ↦ open_else o t c.if-is_some.self (sym c.is_some.ensures ∙ w.if-is_some.false) w.self-is
-    ]
+    c.rest_if-self.ensures ∙ ap (λ b. rest_if b (doing.Raising c.args.part)) c.is_some.ensures
 
 pub returns-clause-held : goal.returns-clause-held
 unfolding count_of held_of
@@ -91,13 +82,10 @@ returns-clause-joined g c =
     let l = c.index_mut.result.now in
     let turn = c.raise_step-turn in
     let at = here ls k l _ c.requires.part c.index_mut.ensures.value in
-    let is : c.if-is_some.self ≡ open_or turn.result.done (doing.Raising k) = elim c.if-is_some.branch [
-      | then-is_some w ↦ open_then turn.result.done (doing.Raising k) c.if-is_some.self (sym c.is_some.ensures ∙ w.if-is_some.true) w.self-is
-      | else-is_some w ↦ open_else turn.result.done (doing.Raising k) c.if-is_some.self (sym c.is_some.ensures ∙ w.if-is_some.false) w.self-is
-    ] in
+    let is = c.rest_if-self.ensures ∙ ap (λ b. rest_if b (doing.Raising k)) c.is_some.ensures in
     let opened = serving_open p.doing (doing.Raising k) refl c.requires.serving in
     let after = ap is_open is ∙ open_after turn.result.done (doing.Raising k) refl in
-    raised_set turn.result.done (is_open p.doing) (is_open c.if-is_some.self) ls k l turn.new.self opened after at turn.ensures.joined
+    raised_set turn.result.done (is_open p.doing) (is_open c.rest_if-self.result) ls k l turn.new.self opened after at turn.ensures.joined
 
 pub returns-clause-same : goal.returns-clause-same
 unfolding count_of dom_of kind_of

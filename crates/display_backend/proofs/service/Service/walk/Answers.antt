@@ -5,7 +5,8 @@ use Rattle.page_directory.specs.WalkLeft.{dom_of as walked_dom}
 use Rattle.display_backend.specs.Course.{stock_at}
 use Rattle.display_backend.specs.Known.{known_of}
 use Rattle.display_backend.specs.Service.{Listed, after_walk, says_at}
-use Rattle.display_backend.specs.Store.{stock_of}
+use Rattle.display_backend.specs.Showing.{scene_of}
+use Rattle.display_buffers.specs.Store.{stock_of}
 use Rattle.display_backend.proofs.Serviced.{knowing, walk_goes, walk_ends}
 use Rattle.display_backend.proofs.service.Service.walk.Goals as goal
 
@@ -17,7 +18,7 @@ returns-in_default-clause-comes g c = λ parts.
     let grants = g.W.Words.grants_of c.args.words.now in
     let dom = walked_dom c.args.walk in
     walk_goes (known_of d) _ (walk_left (frames dom) (grants dom) c.args.walk) (walk_left (frames dom) (grants dom) turn.new.self) turn.result.access turn.result.done _ c.in_default.is
-    (ap (λ k. knowing (stock_at k (stock_of d.store)) d.hand d.progress) (sym c.requires.idle)) turn.ensures.turns refl
+    (ap (λ k. knowing (stock_at k (stock_of d.store)) (scene_of d.scene) d.hand d.progress) (sym c.requires.idle)) turn.ensures.turns refl
 
 pub returns-clause-comes : goal.returns-clause-comes
 returns-clause-comes g c = λ parts.

@@ -1,8 +1,9 @@
 use Rattle.std.proofs.Common.{sym, ap, subst}
 use Rattle.pv_words.specs.Release.{Drops}
 use Rattle.display_backend.specs.Course.{stock_at}
-use Rattle.display_backend.specs.Stock.{Stock, pages_of}
-use Rattle.display_backend.specs.Store.{stock_of, count_of}
+use Rattle.display_backend.specs.Showing.{scene_of}
+use Rattle.display_buffers.specs.Stock.{Stock, pages_of}
+use Rattle.display_buffers.specs.Store.{stock_of, count_of}
 use Rattle.display_backend.proofs.Serviced.{at_rest, knowing, stands_less, strips_less}
 use Rattle.display_backend.proofs.service.ServiceServe.unmap_first.Goals as goal
 
@@ -24,4 +25,4 @@ returns-clause-drops g c =
 pub returns-clause-strips : goal.returns-clause-strips
 returns-clause-strips g c =
     let d = c.args.self.now in
-    ap (λ (x : Stock). knowing x d.hand d.progress) (strips_less d.course (stock_of d.store) (stock_of c.unmap_first.new.self) c.requires.idle c.unmap_first.ensures.stock)
+    ap (λ (x : Stock). knowing x (scene_of d.scene) d.hand d.progress) (strips_less d.course (stock_of d.store) (stock_of c.unmap_first.new.self) c.requires.idle c.unmap_first.ensures.stock)

@@ -1,5 +1,0 @@
-use Rattle.display_backend.proofs.Order.{buffers_stay, first_goes, none_left}
-use Rattle.display_backend.proofs.laws.gives_up_in_order.Goals as goal
-
-pub returns : goal.returns
-returns c s = (first_goes s, buffers_stay s, none_left s)

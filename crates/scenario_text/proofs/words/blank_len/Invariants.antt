@@ -1,6 +1,0 @@
-use Rattle.std.proofs.Common.{◌≡◌, ℕ, ◌<◌, false, get_or, not}
-use Rattle.scenario_text.specs.Tokens.{is_blank}
-use Rattle.scenario_text.proofs.words.blank_len.Given as goal
-
-abbrev pub invariant-loop-len : goal.invariant-loop-len
-invariant-loop-len l = (k : ℕ) → k < l.len → not (is_blank (get_or l.octets k 0)) ≡ false

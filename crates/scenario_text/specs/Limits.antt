@@ -1,0 +1,18 @@
+-- The limits of what a scenario declares.
+use Rattle.std.specs.Prelude.{ℕ}
+
+-- domains have the numbers 1 to this
+abbrev pub domain_limit : ℕ
+domain_limit = 4
+
+-- devices have the numbers 1 to this
+abbrev pub device_limit : ℕ
+device_limit = 16
+
+-- a display has this many connectors at most
+abbrev pub connector_limit : ℕ
+connector_limit = 4
+
+-- a page has this many words
+abbrev pub page_words : ℕ
+page_words = 1024

@@ -1,0 +1,5 @@
+pub mod LineLemmas
+pub mod TokenLemmas
+pub mod NumberLemmas
+pub mod OkLemmas
+pub mod NextLemmas

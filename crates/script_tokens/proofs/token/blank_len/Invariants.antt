@@ -1,0 +1,6 @@
+use Rattle.std.proofs.Common.{◌≡◌, ℕ, ◌<◌, false, get_or, not}
+use Rattle.script_tokens.specs.Tokens.{is_blank}
+use Rattle.script_tokens.proofs.token.blank_len.Given as goal
+
+abbrev pub invariant-loop-len : goal.invariant-loop-len
+invariant-loop-len l = (k : ℕ) → k < l.len → not (is_blank (get_or l.octets k 0)) ≡ false

@@ -1,0 +1,8 @@
+mod HeldThroughout
+mod Hosts
+mod Keeps
+mod Declared
+mod Lists
+mod Names
+mod Serviced
+mod Streams

@@ -1,0 +1,27 @@
+use Rattle.std.proofs.Common.{sym, ap, subst}
+use Rattle.pv_words.specs.Release.{Drops}
+use Rattle.sound_backend.specs.Course.{stock_at}
+use Rattle.sound_backend.specs.Stock.{Stock, pages_of}
+use Rattle.sound_backend.specs.Store.{queue_of, stock_of}
+use Rattle.sound_backend.proofs.Serviced.{at_rest, knowing, stands_less, strips_less}
+use Rattle.sound_backend.proofs.service.ServiceServe.unmap_first.Goals as goal
+
+pub invariant_of-self : goal.invariant_of-self
+invariant_of-self g c =
+    let d = c.args.self.now in
+    record { stands = stands_less d.course d.hand d.progress (stock_of d.store).held (stock_of c.unmap_first.new.self).held (queue_of d.store) (queue_of c.unmap_first.new.self) c.requires.idle c.unmap_first.ensures.queue d.stands }
+
+pub returns-clause-drops : goal.returns-clause-drops
+returns-clause-drops g c =
+    let d = c.args.self.now in
+    let s = stock_of d.store in
+    let t = stock_of c.unmap_first.new.self in
+    let old = at_rest d.course s c.requires.idle in
+    let new = at_rest d.course t c.requires.idle in
+    subst (λ (x : Stock). Drops (pages_of x) c.unmap_first.result (pages_of (stock_at d.course t))) (sym old)
+    (subst (λ (x : Stock). Drops (pages_of s) c.unmap_first.result (pages_of x)) (sym new) c.unmap_first.ensures.drops)
+
+pub returns-clause-strips : goal.returns-clause-strips
+returns-clause-strips g c =
+    let d = c.args.self.now in
+    ap (λ (x : Stock). knowing x d.hand d.progress) (strips_less d.course (stock_of d.store) (stock_of c.unmap_first.new.self) c.requires.idle c.unmap_first.ensures.stock)

@@ -1,0 +1,14 @@
+pub mod Course
+pub mod CourseFacts
+pub mod Held
+pub mod Kept
+pub mod Known
+pub mod Laws
+pub mod Names
+pub mod Over
+pub mod Service
+pub mod Sound
+pub mod Stock
+pub mod Store
+pub mod Verdict
+pub mod Waiting

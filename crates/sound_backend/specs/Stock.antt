@@ -1,0 +1,63 @@
+-- The streams of a sound device, and the pages that it holds for them.
+use Rattle.std.specs.Prelude.{ℕ, zero, suc, Bool, true, List, [], ◌∷◌, ◌++◌, length, map, replicate}
+use Rattle.pv_words.specs.declared.device.StreamKind.{StreamKind}
+use Rattle.pv_words.specs.declared.grant.Hold.{Hold}
+use Rattle.snd_wire.specs.declared.types.Asked.{Asked}
+use Rattle.snd_wire.specs.declared.types.Asked.TheVariants as asked
+use Rattle.pcm_stream.specs.Stream.{Pcm, closed, opened}
+use Rattle.sound_backend.specs.Held.{all_bared, pages_in, with_list}
+use Rattle.sound_backend.specs.Held as lists
+
+-- The pages that were mapped for an OPEN that isn't answered; and by part the pages of each stream, and the streams.
+pub record Stock : Type 0 where
+  pub mapped : List Hold
+  pub held : List (List Hold)
+  pub streams : List Pcm
+
+-- all pages that are held, in the order in which a Close unmaps them
+abbrev pub pages_of : Stock → List Hold
+pages_of s = s.mapped ++ pages_in s.held
+
+-- all streams are closed, and none has a page
+abbrev pub all_closed : List StreamKind → Stock
+all_closed kinds = record { mapped = []; held = replicate (length kinds) []; streams = map closed kinds }
+
+-- which way the octets of each stream go
+abbrev pub kinds_in : List Pcm → List StreamKind
+kinds_in streams = map (λ (s : Pcm). s.kind) streams
+
+-- all pages are given up
+abbrev pub stripped : Stock → Stock
+stripped s = record { mapped = []; held = all_bared s.held; streams = s.streams }
+
+-- the first of all pages is gone
+abbrev pub without_first_of : List Hold → List (List Hold) → List Pcm → Stock
+without_first_of [] held streams = record { mapped = []; held = lists.without_first held; streams = streams }
+without_first_of (h ∷ hs) held streams = record { mapped = hs; held = held; streams = streams }
+
+abbrev pub without_first : Stock → Stock
+without_first s = without_first_of s.mapped s.held s.streams
+
+-- the stream of a part has no page; it has one less
+abbrev pub bared : ℕ → Stock → Stock
+bared part s = record s { held = lists.bared s.held part }
+
+abbrev pub less_one : ℕ → Stock → Stock
+less_one part s = record s { held = lists.less_one s.held part }
+
+-- the stream at this place changes so
+abbrev pub changed : (Pcm → Pcm) → List Pcm → ℕ → List Pcm
+changed f [] k = []
+changed f (s ∷ ss) zero = f s ∷ ss
+changed f (s ∷ ss) (suc k) = s ∷ changed f ss k
+
+-- after an accepted OPEN the stream has the pages that were mapped for it, after an accepted CLOSE it is closed
+abbrev pub streams_after : List Pcm → ℕ → Asked → Bool → List Pcm
+streams_after streams part (asked.Open p) true = changed (λ s. opened s.kind p) streams part
+streams_after streams part asked.Close true = changed (λ s. closed s.kind) streams part
+streams_after streams part asks accepted = streams
+
+abbrev pub stock_after : Stock → ℕ → Asked → Bool → Stock
+stock_after s part (asked.Open p) true =
+    record { mapped = []; held = with_list s.held part s.mapped; streams = streams_after s.streams part (asked.Open p) true }
+stock_after s part asks accepted = record s { streams = streams_after s.streams part asks accepted }

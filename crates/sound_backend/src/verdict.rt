@@ -1,0 +1,35 @@
+//! The answer to a request, as its checks come out.
+
+ghost use Rattle.std.specs.Prelude.{◌≡◌};
+ghost use Rattle.sound_backend.specs.Verdict.{checked, refused};
+
+use pcm_params::Answer;
+use pcm_stream::StreamRefusal;
+use snd_wire::NO_RANGES;
+
+// The statuses of an operation that isn't known, where memory was wanting, and where a page was denied.
+pub(crate) const EOPNOTSUPP: i32 = -95;
+
+pub(crate) const ENOMEM: i32 = -12;
+
+pub(crate) const EACCES: i32 = -13;
+
+// The answer of this status that tells no ranges.
+pub(crate) fn refused(status: i32) -> Answer
+    ensures { result ≡ refused status }
+{
+    Answer {
+        status,
+        body: NO_RANGES,
+    }
+}
+
+// The answer to a request whose checks come out so.
+pub(crate) fn checked(check: Result<(), StreamRefusal>) -> Answer
+    ensures { result ≡ checked check }
+{
+    match check {
+        Ok(()) => refused(0),
+        Err(why) => refused(why.status()),
+    }
+}

@@ -1,0 +1,23 @@
+//! The host's events that wait.
+
+ghost use Rattle.std.specs.Prelude.{◌≡◌};
+ghost use Rattle.sound_backend.specs.Waiting.{waiting_of};
+
+use pv_words::HostEvent;
+
+/// An event of the host that waits.
+#[derive(Clone, Copy, Debug, PartialEq, Eq)]
+pub enum Waiting {
+    /// The clock of the stream of a part goes on by so many frames.
+    Tick(u8, u32),
+}
+
+/// What of a host's event waits, where it is one of a sound device's.
+pub fn waiting_of(e: &HostEvent) -> Option<Waiting>
+    ensures { result ≡ waiting_of e.now }
+{
+    match e {
+        HostEvent::Tick(part, frames) => Some(Waiting::Tick(*part, *frames)),
+        _ => None,
+    }
+}

@@ -7,13 +7,16 @@ pub mod Faults
 pub mod Fitting
 pub mod Hearing
 pub mod InPages
+pub mod Keeping
 pub mod Leaving
 pub mod Lists
+pub mod Mapping
 pub mod Opened
 pub mod Out
 pub mod PartsLaws
 mod RefusingKept
 pub mod Raising
+pub mod Refusals
 pub mod Resting
 pub mod Serving
 pub mod Sleeps

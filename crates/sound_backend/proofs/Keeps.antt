@@ -39,7 +39,7 @@ use Rattle.device_service.specs.Claims.{KeepsLaws, site_of}
 use Rattle.device_service.specs.Laws.{AreHeld, AreLost, FitsBeside, IsOfService, IsRaise, IsTouching, Laws, Leads, Same, WantsFor, evidence}
 use Rattle.device_service.specs.Rows.{made_if}
 use Rattle.device_service.specs.Service.{Runs}
-use Rattle.device_service.proofs.Fitting.{fits_carried}
+use Rattle.device_service.proofs.Keeping.{are_parted, beside, freed_fits, made_cond, page_are, same_parted, walk_fits, walk_found}
 use Rattle.device_service.proofs.Soundness.Plans.{fits_drop}
 use Rattle.device_service.proofs.Soundness.Same.{are_append, are_left, are_right, are_same}
 use Rattle.sound_backend.specs.declared.course.Demand.{Demand}
@@ -117,14 +117,6 @@ not_true false h = refl
 none_length : (hs : List Hold) → nat_lt 0 (length hs) ≡ false → hs ≡ []
 none_length [] h = refl
 none_length (x ∷ hs) h = absurd (true≢false (sym (lt-ltb 0 (suc (length hs)) (omega arith)) ∙ h))
-
-page_are : (frames grants dom : ℕ) (mode : Mode) (ps : List Hold) → AllByRecursion (IsPage frames grants dom mode) ps → AreOf grants dom ps
-page_are frames grants dom mode [] all = tt
-page_are frames grants dom mode (p ∷ ps) all = (all.0.dom_is, all.0.gref_in, page_are frames grants dom mode ps all.1)
-
-made_cond : (b : Bool) (n : ℕ) → cond b (Some n) None ≡ made_if b n
-made_cond true n = refl
-made_cond false n = refl
 
 all_behind : (xs ys : List Hold) → xs ++ ys ≡ [] → ys ≡ []
 all_behind [] ys e = e
@@ -286,43 +278,40 @@ module _ (frames grants : ℕ → ℕ) (dom parts : ℕ) where
       )
 
   -- the walk of an OPEN
-  walk_fits : (x : Known) (w : IsWalking x) (rest held : List Hold) → AreOf (grants dom) dom (pages_of x.stock) → AreSame held (pages_of x.stock ++ rest) → FitsFrom (IsProper frames grants dom) (holding frames) (λ h a. AreHeld h (pages_of (after_end x a).stock ++ rest) × EndsHeld x a) (holds_of held) (mapped Listed (open_walk site x.stock.streams w.demand.part w.params))
-  walk_fits x w rest held are same =
-      let mode = mode_at x.stock.streams w.demand.part in
-      let n = walking.pages_of w.params.buffer_sz in
-      let plan = walk_plan (frames dom) (grants dom) dom w.params.gref_directory mode n in
-      fits_mapped (IsProper frames grants dom) (holding frames) (λ y. Listed y) (λ h a. AreHeld h (pages_of (after_end x a).stock ++ rest) × EndsHeld x a) (holds_of held) plan
-      (fits_so (IsProper frames grants dom) (holding frames) (Leaves (frames dom) (grants dom) dom mode n held) (λ h y. AreHeld h (pages_of (after_end x (Listed y)).stock ++ rest) × EndsHeld x (Listed y)) (λ h y. ended h y) (holds_of held) plan (walks_exactly frames grants dom w.params.gref_directory mode n held))
-    where
-      ended : (h : Holds) (y : Walked) → Leaves (frames dom) (grants dom) dom (mode_at x.stock.streams w.demand.part) (walking.pages_of w.params.buffer_sz) held h y → AreHeld h (pages_of (after_end x (Listed y)).stock ++ rest) × EndsHeld x (Listed y)
-      ended h (walked.Pages ps) l =
-          let ps_are = page_are (frames dom) (grants dom) dom (mode_at x.stock.streams w.demand.part) ps l.2 in
-          let lists = pages_in x.stock.held in
-          let o = open_accepted (slice_get x.stock.streams w.demand.part) w.params (opening_of x.stock w.demand w.params w.opening.1 w.opening.0) in
-          let some : 0 < length ps = omega (arith, l.3, sized w.params o.fit) in
-          ((l.0, λ k. omega (arith, l.1 k, same k, times_append k held ps, times_append k (x.stock.mapped ++ lists) rest, times_append k x.stock.mapped lists, times_append k (ps ++ lists) rest, times_append k ps lists, ap (times k) w.bare)), (w, (ps_are, some)))
-      ended h (walked.Refused why) l = ((l.0, λ k. l.1 k ∙ same k), (w, tt))
+  module _ (x : Known) (w : IsWalking x) where
+    abbrev count : ℕ
+    count = walking.pages_of w.params.buffer_sz
 
-  walk_found : (x : Known) (w : IsWalking x) (f : Found) → FitFound (EndsFound x) f (mapped Listed (open_walk site x.stock.streams w.demand.part w.params))
-  walk_found x w f =
-      let mode = mode_at x.stock.streams w.demand.part in
-      let plan = walk_plan (frames dom) (grants dom) dom w.params.gref_directory mode (walking.pages_of w.params.buffer_sz) in
-      fits_mapped (λ (g : Found) want note. IsUntouched note) (λ g (note : Note) a. finding g a) (λ y. Listed y) (EndsFound x) f plan
-      (fits_so (λ (g : Found) want note. IsUntouched note) (λ g (note : Note) a. finding g a) (walk.HasShown (frames dom) (grants dom) w.params.gref_directory mode) (λ g came. EndsFound x g (Listed came)) ended f plan (walks_show (frames dom) (grants dom) dom w.params.gref_directory mode (walking.pages_of w.params.buffer_sz) f))
-    where
-      ended : (g : Found) (came : Walked) → walk.HasShown (frames dom) (grants dom) w.params.gref_directory (mode_at x.stock.streams w.demand.part) g came → EndsFound x g (Listed came)
-      ended g (walked.Pages ps) h = tt
-      ended g (walked.Refused why) h = λ d p has is.
-          let same : w.demand ≡ d = demand_same w.demand d (sym w.in_hand ∙ has) in
-          let one : w.params ≡ p = params_same w.params p (sym w.opening.0 ∙ (ap (λ (z : Demand). z.request.asked) same ∙ is)) in
-          subst (λ (z : Params). walk.IsReason (frames dom) (grants dom) z.gref_directory (mode_at x.stock.streams d.part) g why) one
-          (subst (λ (z : Demand). walk.IsReason (frames dom) (grants dom) w.params.gref_directory (mode_at x.stock.streams z.part) g why) same h)
-        where
-          demand_same : (q k : Demand) → Some q ≡ Some k → q ≡ k
-          demand_same q k e = cc
+    abbrev mode : Mode
+    mode = mode_at x.stock.streams w.demand.part
 
-          params_same : (c d : Params) → asked.Open c ≡ asked.Open d → c ≡ d
-          params_same c d e = cc
+    some_pages : 0 < count
+    some_pages =
+        let o = open_accepted (slice_get x.stock.streams w.demand.part) w.params (opening_of x.stock w.demand w.params w.opening.1 w.opening.0) in
+        sized w.params o.fit
+
+    -- the pages of the stream are there, beside those of the others
+    adds : (came : Walked) → AreSame (pages_of (after_end x (Listed came)).stock) (walk.pages_in came ++ pages_of x.stock)
+    adds (walked.Pages ps) k = ap (λ hs. times k (ps ++ (hs ++ pages_in x.stock.held))) (sym w.bare)
+    adds (walked.Refused why) k = refl
+
+    listed : (held : List Hold) (h : Holds) (came : Walked) → Leaves (frames dom) (grants dom) dom mode count held h came → EndsHeld x (Listed came)
+    listed held h (walked.Pages ps) l = (w, (page_are (frames dom) (grants dom) dom mode ps l.2, omega (arith, l.3, some_pages)))
+    listed held h (walked.Refused why) l = (w, tt)
+
+    walk_shows : (g : Found) (came : Walked) → walk.HasShown (frames dom) (grants dom) w.params.gref_directory mode g came → EndsFound x g (Listed came)
+    walk_shows g (walked.Pages ps) h = tt
+    walk_shows g (walked.Refused why) h = λ d p has is.
+        let same : w.demand ≡ d = demand_same w.demand d (sym w.in_hand ∙ has) in
+        let one : w.params ≡ p = params_same w.params p (sym w.opening.0 ∙ (ap (λ (z : Demand). z.request.asked) same ∙ is)) in
+        subst (λ (z : Params). walk.IsReason (frames dom) (grants dom) z.gref_directory (mode_at x.stock.streams d.part) g why) one
+        (subst (λ (z : Demand). walk.IsReason (frames dom) (grants dom) w.params.gref_directory (mode_at x.stock.streams z.part) g why) same h)
+      where
+        demand_same : (q k : Demand) → Some q ≡ Some k → q ≡ k
+        demand_same q k e = cc
+
+        params_same : (c d : Params) → asked.Open c ≡ asked.Open d → c ≡ d
+        params_same c d e = cc
 
   -- the Release of a CLOSE
   module _ (x : Known) (d : Demand) (sane : IsSane x) (has : x.demand ≡ Some d) (decided : x.progress ≡ progress.Decided) (closing : IsClosing x.stock d) (bare : x.stock.mapped ≡ []) where
@@ -332,12 +321,12 @@ module _ (frames grants : ℕ → ℕ) (dom parts : ℕ) where
     abbrev left : List Hold
     left = pages_in (bared x.stock.held d.part)
 
+    -- the pages of the stream, and those of all others
+    freed_are : AreOf (grants dom) dom under × AreOf (grants dom) dom (pages_of (freeing x d.part).stock)
+    freed_are = are_parted (grants dom) dom x.stock.mapped (pages_in x.stock.held) under left (parted x.stock.held d.part) sane.0
+
     freed_sane : IsSane (freeing x d.part)
-    freed_sane =
-        let lists = pages_in x.stock.held in
-        let mapped_are = are_left (grants dom) dom x.stock.mapped lists sane.0 in
-        let all_are = are_same (grants dom) dom lists (under ++ left) (parted x.stock.held d.part) (are_right (grants dom) dom x.stock.mapped lists sane.0) in
-        (are_append (grants dom) dom x.stock.mapped left mapped_are (are_right (grants dom) dom under left all_are), kept_bared x.stock.streams x.stock.held d.part sane.1)
+    freed_sane = (freed_are.1, kept_bared x.stock.streams x.stock.held d.part sane.1)
 
     freed_well : IsFreeing (freeing x d.part)
     freed_well =
@@ -350,21 +339,12 @@ module _ (frames grants : ℕ → ℕ) (dom parts : ℕ) where
           bare = bare;
         }
 
-    freed_fits : (rest held : List Hold) → AreSame held (pages_of x.stock ++ rest) → FitsFrom (IsProper frames grants dom) (holding frames) (λ h a. AreHeld h (pages_of (after_end (freeing x d.part) a).stock ++ rest) × EndsHeld (freeing x d.part) a) (holds_of held) (unmaps under (Finished Freed))
-    freed_fits rest held same =
-        let lists = pages_in x.stock.held in
-        let split = parted x.stock.held d.part in
-        let after = pages_of (freeing x d.part).stock ++ rest in
-        let are = are_left (grants dom) dom under left (are_same (grants dom) dom lists (under ++ left) split (are_right (grants dom) dom x.stock.mapped lists sane.0)) in
-        let before : AreSame held (under ++ after) = λ g. omega (arith, same g, split g, times_append g (pages_of x.stock) rest, times_append g x.stock.mapped lists, times_append g under left, times_append g under after, times_append g (x.stock.mapped ++ left) rest, times_append g x.stock.mapped left) in
-        fits_drop frames grants dom (λ h a. AreHeld h (pages_of (after_end (freeing x d.part) a).stock ++ rest) × EndsHeld (freeing x d.part) a) (Finished Freed) after under held are before (λ gone g. ((refl, g), freed_well))
+    freed_split : AreSame (pages_of x.stock) (under ++ pages_of (freeing x d.part).stock)
+    freed_split = same_parted x.stock.mapped (pages_in x.stock.held) under left (parted x.stock.held d.part)
 
-  -- what it holds, and what it finds
-  beside : (x y : Known) (pl : Plan Ending) → ((rest held : List Hold) → AreSame held (pages_of x.stock ++ rest) → FitsFrom (IsProper frames grants dom) (holding frames) (λ h a. AreHeld h (pages_of (after_end y a).stock ++ rest) × EndsHeld y a) (holds_of held) pl) → ((f : Found) → FitFound (EndsFound y) f pl) → FitsBeside sound frames grants dom Meets EndsOwn x y pl
-  beside x y pl a b rest k held =
-      fits_carried frames (IsProper frames grants dom) (Meets y) (λ want note u. u) (λ h e. AreHeld h (pages_of (after_end y e).stock ++ rest) × EndsHeld y e) (EndsFound y) (λ (j : Carried Learned) e. AreHeld j.own.holds (pages_of (after_end y e).stock ++ rest) × EndsOwn y j.own.found j.touched e)
-      (λ j e p q. (p.0, (p.1, q))) k pl
-      (subst (λ (h : Holds). FitsFrom (IsProper frames grants dom) (holding frames) (λ h e. AreHeld h (pages_of (after_end y e).stock ++ rest) × EndsHeld y e) h pl) (sym held.0) (a rest k.own.holds.held held.1)) (b k.own.found)
+  -- an activity that holds and finds this keeps to the laws
+  keeps : (x y : Known) (pl : Plan Ending) → ((rest held : List Hold) → AreSame held (pages_of x.stock ++ rest) → FitsFrom (IsProper frames grants dom) (holding frames) (λ h a. AreHeld h (pages_of (after_end y a).stock ++ rest) × EndsHeld y a) (holds_of held) pl) → ((f : Found) → FitFound (EndsFound y) f pl) → FitsBeside sound frames grants dom Meets EndsOwn x y pl
+  keeps x y pl = beside frames grants dom sound Meets (EndsHeld y) (EndsFound y) EndsOwn x y pl (λ want note u. u) (λ f ts a held found. (held, found))
 
   -- what a request leads to
   abbrev Begun : Known → Known → Plan Ending → Type 0
@@ -375,14 +355,14 @@ module _ (frames grants : ℕ → ℕ) (dom parts : ℕ) where
       let bare : x.stock.mapped ≡ [] = subst (λ z. HasComeTo x.stock d z) e come in
       let w : IsWalking x = record { demand = d; params = c; in_hand = has; opening = (f, accepted_is _ (not_false _ h)); decided = e; bare = bare } in
       subst (λ z. Begun x z pl) leads.0 (subst (λ z. Begun x x z) leads.1
-      (sane, (ap (λ o. is_some o) has, subst (λ (o : Option Demand). Come x.stock x.progress o) (sym has) come), beside x x (mapped (λ z. Listed z) (open_walk site x.stock.streams d.part c)) (λ rest held same. walk_fits x w rest held sane.0 same) (λ f. walk_found x w f)))
+      (sane, (ap (λ o. is_some o) has, subst (λ (o : Option Demand). Come x.stock x.progress o) (sym has) come), keeps x x (mapped (λ z. Listed z) (open_walk site x.stock.streams d.part c)) (λ rest held same. walk_fits frames grants dom sound Listed x (adds x w) (EndsHeld x) c.gref_directory (count x w) (mode x w) rest held (listed x w held) same) (walk_found frames grants dom Listed (EndsFound x) c.gref_directory (count x w) (mode x w) (walk_shows x w))))
   begins_in x d has sane come progress.Decided asked.Close e f h y pl leads =
       let bare : x.stock.mapped ≡ [] = subst (λ z. HasComeTo x.stock d z) e come in
       let accepted = and_left (is_accepted (verdict x.stock.streams d)) (nat_lt 0 (length (list_at x.stock.held d.part))) (not_false _ h) in
       let closing : IsClosing x.stock d = (f, accepted_is _ accepted) in
       let new = freeing x d.part in
       subst (λ z. Begun x z pl) leads.0 (subst (λ z. Begun x new z) leads.1
-      (freed_sane x d sane has e closing bare, (ap (λ o. is_some o) has, subst (λ (o : Option Demand). Come new.stock x.progress o) (sym has) (subst (λ z. HasComeTo new.stock d z) (sym e) bare)), beside x new (unmaps (list_at x.stock.held d.part) (Finished Freed)) (λ rest held same. freed_fits x d sane has e closing bare rest held same) (λ f. unmaps_found (EndsFound new) f (list_at x.stock.held d.part) (Finished Freed) tt)))
+      (freed_sane x d sane has e closing bare, (ap (λ o. is_some o) has, subst (λ (o : Option Demand). Come new.stock x.progress o) (sym has) (subst (λ z. HasComeTo new.stock d z) (sym e) bare)), keeps x new (unmaps (list_at x.stock.held d.part) (Finished Freed)) (λ rest held same. freed_fits frames grants dom sound (EndsHeld new) Freed x new (list_at x.stock.held d.part) rest held (freed_are x d sane has e closing bare).0 (freed_split x d sane has e closing bare) refl (freed_well x d sane has e closing bare) same) (λ f. unmaps_found (EndsFound new) f (list_at x.stock.held d.part) (Finished Freed) tt)))
   begins_in x d has sane come progress.Decided (asked.Read o z) e f h y pl leads = absurd (true≢false h)
   begins_in x d has sane come progress.Decided (asked.Write o z) e f h y pl leads = absurd (true≢false h)
   begins_in x d has sane come progress.Decided (asked.Trigger k) e f h y pl leads = absurd (true≢false h)

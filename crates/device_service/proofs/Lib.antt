@@ -7,7 +7,6 @@ pub mod Faults
 pub mod Fitting
 pub mod Hearing
 pub mod InPages
-pub mod Keeping
 pub mod Leaving
 pub mod Lists
 pub mod Mapping
@@ -16,7 +15,6 @@ pub mod Out
 pub mod PartsLaws
 mod RefusingKept
 pub mod Raising
-pub mod Refusals
 pub mod Resting
 pub mod Serving
 pub mod Sleeps
@@ -25,7 +23,6 @@ pub mod Standing
 pub mod Telling
 pub mod Throughout
 pub mod Truth
-pub mod Unmapping
 pub mod Wholes
 pub mod Works
 pub mod Soundness

@@ -1,11 +1,6 @@
 -- Pages of buffers are unmapped.
-use Rattle.std.proofs.Common.{◌≡◌, ℕ, Bool, true, false, cond, List, [], ◌∷◌, Some, refl, sym, ap}
-use Rattle.pv_words.specs.declared.access.Access.{Access}
-use Rattle.pv_words.specs.declared.grant.Hold.{Hold}
-use Rattle.pv_words.specs.Release.{Drops}
+use Rattle.std.proofs.Common.{◌≡◌, ℕ, Bool, true, false, cond, List, [], ◌∷◌, refl, sym, ap}
 use Rattle.display_buffers.specs.Buffers.{has_cookie}
-use Rattle.link_core.specs.Stays.{AccessIn}
-use Rattle.device_service.proofs.Holding.Held.{in_unmap}
 use Rattle.display_buffers.specs.Stock.{Held, pages_under, with_pages, bared}
 
 -- a buffer without pages stays as it is

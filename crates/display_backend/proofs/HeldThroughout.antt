@@ -3,16 +3,14 @@ use Rattle.std.proofs.Common.{◌≡◌, ℕ, ◌+◌, ◌++◌, Bool, true, Lis
 use Rattle.std.proofs.lemmas.Bool.{false≢true, eqb-true}
 use Rattle.pv_words.specs.declared.grant.Hold.{Hold}
 use Rattle.pv_words.specs.Held.{Holds, IsProper, holding}
-use Rattle.pv_words.specs.Plan.{Finished, FitsFrom}
+use Rattle.pv_words.specs.Plan.{FitsFrom}
 use Rattle.displ_wire.specs.declared.Request.{Request}
-use Rattle.page_directory.specs.declared.walk.Walk.{Walk}
 use Rattle.page_directory.specs.declared.walk.Walked.{Walked}
 use Rattle.page_directory.specs.declared.walk.Walked.TheVariants as walked
 use Rattle.page_directory.specs.Laws.{pages_in}
 use Rattle.page_directory.specs.Same.{AreSame, times}
-use Rattle.page_directory.specs.WalkLeft.{dom_of, held_by, walk_left}
+use Rattle.page_directory.specs.WalkLeft.{dom_of}
 use Rattle.page_directory.proofs.Counts.{times_append}
-use Rattle.page_directory.proofs.Remaining.{walk_comes}
 use Rattle.device_service.specs.Claims.{site_of}
 use Rattle.device_service.specs.Laws.{AreHeld}
 use Rattle.device_service.specs.Throughout.{HoldsThroughout}
@@ -21,11 +19,11 @@ use Rattle.display_backend.specs.declared.picture.Reading.{Reading}
 use Rattle.display_backend.specs.Course.{scan_left}
 use Rattle.display_backend.specs.Service.{Pictured}
 use Rattle.display_backend.proofs.Loads.{in_scan}
-use Rattle.device_service.proofs.Keeping.{release_told, same_parted, walk_told}
+use Rattle.device_service.proofs.Mapping.Keeping.{release_told, same_parted, walk_told}
 use Rattle.display_backend.specs.declared.course.Course.{Course}
 use Rattle.display_backend.specs.declared.course.Course.TheVariants.{Rests, Walks, Frees, Reads}
-use Rattle.display_backend.specs.declared.course.Progress.{Progress}
-use Rattle.display_backend.specs.declared.course.Progress.TheVariants as progress
+use Rattle.page_directory.specs.declared.progress.Progress.{Progress}
+use Rattle.page_directory.specs.declared.progress.Progress.TheVariants as progress
 use Rattle.display_backend.specs.Course.{Stands, is_under_way, is_walk_of, left_at, pages_walked, stock_at}
 use Rattle.display_backend.specs.Kept.{Come, HasCome, HasComeTo, facts}
 use Rattle.display_backend.specs.Known.{going_of, held_of, is_of, known_of, left_of}

@@ -1,6 +1,6 @@
 -- The display keeps the laws of a service.
 use Rattle.std.proofs.Common.{◌≡◌, inl, ℕ, ◌*◌, pos, map, ◌<◌, ◌≤◌, ◌&&◌, ◌||◌, ◌==◌, nat_lt, nat_le, Bool, true, false, cond, List, [], ◌∷◌, ◌++◌, Option, Some, None, IsSome, is_some, refl, sym, ◌∙◌, ap, subst, arith, length}
-use Rattle.std.proofs.lemmas.Bool.{true≢false, false≢true}
+use Rattle.std.proofs.lemmas.Bool.{true≢false, false≢true, and_parts}
 use Rattle.std.proofs.lemmas.List.{length-replicate, map-append}
 use Rattle.std.proofs.lemmas.Bool.Decides.{nat_tests}
 use Rattle.std.specs.List.{AllByRecursion}
@@ -9,7 +9,7 @@ use Rattle.pv_words.specs.declared.device.Said.TheVariants as said
 use Rattle.pv_words.specs.declared.grant.Hold.{Hold}
 use Rattle.pv_words.specs.declared.grant.Mode.TheVariants.{Read}
 use Rattle.pv_words.specs.Held.{Holds, IsProper, holding, holds_of}
-use Rattle.pv_words.specs.Found.{Found, finding}
+use Rattle.pv_words.specs.Found.{Found}
 use Rattle.pv_words.specs.Plan.{Plan, Finished, Make, Want, Load, Note, Plain, Begins, Frames, Undoes, Ends, Takes, Puts, IsUntouched, mapped, FitsFrom}
 use Rattle.displ_wire.specs.declared.Asked.{Asked}
 use Rattle.displ_wire.specs.declared.Asked.TheVariants as asked
@@ -26,27 +26,27 @@ use Rattle.page_directory.specs.Same.{AreSame, times}
 use Rattle.page_directory.specs.Walking.{walk_plan}
 use Rattle.page_directory.specs.Walking as walking
 use Rattle.page_directory.proofs.Counts.{times_append}
-use Rattle.page_directory.proofs.Shown.{walks_show}
-use Rattle.page_directory.proofs.WalkAlong.{walks_exactly}
 use Rattle.link_core.specs.Laws.{AreOf}
 use Rattle.link_core.specs.Activities.{unmaps}
 use Rattle.device_core.specs.Learned.{Learned}
 use Rattle.device_core.specs.Names.{Name, Sight, cells_of, drawn, all_drawn, words_in, with_name}
 use Rattle.device_core.specs.Touched.{Carried, Touch}
-use Rattle.pv_words.proofs.Fits.{fits_mapped, fits_so}
+use Rattle.pv_words.proofs.Fits.{fits_mapped}
 use Rattle.link_core.proofs.Shown.{FitFound, unmaps_found}
-use Rattle.display_backend.specs.declared.course.Progress.{Progress}
-use Rattle.display_backend.specs.declared.course.Progress.TheVariants as progress
+use Rattle.page_directory.specs.declared.progress.Progress.{Progress}
+use Rattle.page_directory.specs.declared.progress.Progress.TheVariants as progress
 use Rattle.display_backend.specs.declared.waiting.Waiting.{Waiting}
 use Rattle.display_backend.specs.declared.waiting.Waiting.TheVariants as waiting
 use Rattle.display_buffers.specs.Stock.{Stock, Held, pages_of, buffer_pages, pages_under, bared, all_bared}
-use Rattle.display_backend.specs.Names.{live_names, names_under, numbers, numbered}
+use Rattle.display_backend.specs.Names.{live_names, names_under, numbered}
+use Rattle.device_service.specs.Named.{numbers}
 use Rattle.display_backend.specs.Reply.{replied_to, stock_after}
-use Rattle.display_backend.specs.Verdict.{is_accepted, is_creation, is_denied, status_in, verdict}
+use Rattle.display_backend.specs.Verdict.{is_creation, verdict}
+use Rattle.page_directory.specs.Progress.{is_accepted, is_denied, status_in}
 use Rattle.display_backend.specs.Waiting.{said_of}
 use Rattle.display_backend.specs.Kept as kept
 use Rattle.display_backend.specs.Scene.{IsSound, Scene, after_blank_at, pending_at, scene_after}
-use Rattle.display_backend.specs.Kept.{AreMapped, AreWholeBut, Come, HasCome, HasComeTo, IsCreating, IsDestroying, IsNamed, IsWalking, IsFreeing, WholeFor, facts, goes_by}
+use Rattle.display_backend.specs.Kept.{AreMapped, AreWholeBut, Come, HasCome, HasComeTo, IsDestroying, IsNamed, IsWalking, IsFreeing, WholeFor, facts, goes_by}
 use Rattle.display_backend.specs.declared.picture.Source.{Source}
 use Rattle.display_backend.specs.Picture.{AreShown, is_within, number_under, source_at}
 use Rattle.displ_wire.specs.Wire.{request_of}
@@ -60,7 +60,8 @@ use Rattle.picture_scan.specs.Scan.{LiesIn}
 use Rattle.picture_scan.specs.Scanning.{scan_plan}
 use Rattle.picture_scan.proofs.Showing.{shows_exactly}
 use Rattle.page_directory.proofs.WalkAlong.{all_weaker}
-use Rattle.display_backend.proofs.Answering.{IsAnswerAt, accepted_at, answer_buffers, answer_same, answer_sound, answer_none, answer_all, answer_rows, answer_names, answers_at, done_as}
+use Rattle.display_backend.proofs.Answering.{IsAnswerAt, answer_buffers, answer_same, answer_sound, answer_none, answer_all, answer_rows, answer_names, answers_at, done_as}
+use Rattle.page_directory.proofs.Ready.{accepted_at, ready_decided}
 use Rattle.display_backend.proofs.HasWork.{create_accepted, create_refused, destroy_accepted, destroy_bare}
 use Rattle.display_backend.proofs.Names.{GoesFrom, names_none, none_bared, name_goes}
 use Rattle.display_backend.proofs.Numbered.{AreLike, like_length, like_sound, like_verdict, no_buffers, numbered_bared, numbered_all_bared, same_scene, same_verdict, same_status, passes_by}
@@ -69,7 +70,6 @@ use Rattle.display_buffers.proofs.Order.{none_left, none_under, parted}
 use Rattle.display_backend.proofs.Taking.{may_take, word_of_name}
 use Rattle.display_backend.proofs.Wholes.{answered_whole, bared_whole, not_mapped, whole_any, whole_still}
 use Rattle.display_backend.proofs.Pictures.{picture_within, same_source, shown_numbered, within_so}
-use Rattle.device_service.proofs.Soundness.Plans.{fits_drop}
 use Rattle.device_service.proofs.Soundness.Same.{are_append, are_left, are_right, are_same}
 use Rattle.device_core.specs.Site.{Site}
 use Rattle.device_service.specs.Service.{Runs, Raises}
@@ -77,34 +77,19 @@ use Rattle.device_service.specs.Rows.{Evidence, made_if}
 use Rattle.device_service.specs.Claims.{KeepsLaws, site_of}
 use Rattle.device_service.specs.Laws as law
 use Rattle.device_service.specs.Laws.{AreHeld, AreLost, FitsBeside, IsOfService, IsRaise, IsTouching, Laws, Leads, Same, WantsFor, evidence}
-use Rattle.device_service.proofs.Fitting.{fits_carried}
-use Rattle.device_service.proofs.Keeping.{are_parted, beside, freed_fits, made_cond, page_are, same_parted, walk_fits, walk_found}
-use Rattle.display_backend.specs.Service.{has_work, reply_for, ready_for, goes_of, Known, Ending, Listed, Freed, Served, Pictured, Lines, show_in, show_of, display, table, shows, freeing, blank_of, event_for, flip_words, flipped_at, flipped_for, put_for, raised_at, ready_at, job_of, job_for, says_at, after_end}
-
--- what isn't ready is decided
-ready_decided : (p : Progress) (working : Bool) → ready_at p working ≡ false → p ≡ progress.Decided
-ready_decided progress.Decided working h = refl
-ready_decided progress.NoMemory working h = absurd (true≢false h)
-ready_decided progress.Denied working h = absurd (true≢false h)
-ready_decided progress.Mapped working h = absurd (true≢false h)
-ready_decided progress.Released working h = absurd (true≢false h)
-
-and_right : (a b : Bool) → (a && b) ≡ true → b ≡ true
-and_right true b h = h
-and_right false b h = let wrong : ⊥ = cc in absurd wrong
-
-and_left : (a b : Bool) → (a && b) ≡ true → a ≡ true
-and_left true b h = refl
-and_left false b h = let wrong : ⊥ = cc in absurd wrong
+use Rattle.page_directory.proofs.Lists.{right_nil}
+use Rattle.device_service.proofs.Mapping.Keeping.{are_parted, beside, freed_fits, made_cond, page_are, same_parted, walk_fits, walk_found}
+use Rattle.display_backend.specs.Service.{has_work, reply_for, ready_for, goes_of, Known, Ending, Listed, Freed, Served, Pictured, Lines, show_in, show_of, display, table, shows, freeing, blank_of, event_for, flip_words, flipped_at, flipped_for, put_for, raised_at, job_of, job_for, says_at, after_end}
+use Rattle.page_directory.specs.Progress.{ready_at}
 
 sized : (c : Create) → is_in_range (made_of c) ≡ true → 0 < walking.pages_of c.buffer_sz
 sized c h =
     let fits : Bool = nat_le (picture_octets (made_of c)) c.buffer_sz in
     let small : Bool = nat_le c.buffer_sz 33554432 in
-    let a = and_right ((c.bpp == 16) || ((c.bpp == 24) || (c.bpp == 32))) (nat_lt 0 c.width && (nat_lt 0 c.height && (nat_lt 0 c.buffer_sz && (small && fits)))) h in
-    let b = and_right (nat_lt 0 c.width) (nat_lt 0 c.height && (nat_lt 0 c.buffer_sz && (small && fits))) a in
-    let d = and_right (nat_lt 0 c.height) (nat_lt 0 c.buffer_sz && (small && fits)) b in
-    let e = and_left (nat_lt 0 c.buffer_sz) (small && fits) d in
+    let a = (and_parts ((c.bpp == 16) || ((c.bpp == 24) || (c.bpp == 32))) (nat_lt 0 c.width && (nat_lt 0 c.height && (nat_lt 0 c.buffer_sz && (small && fits)))) h).1 in
+    let b = (and_parts (nat_lt 0 c.width) (nat_lt 0 c.height && (nat_lt 0 c.buffer_sz && (small && fits))) a).1 in
+    let d = (and_parts (nat_lt 0 c.height) (nat_lt 0 c.buffer_sz && (small && fits)) b).1 in
+    let e = (and_parts (nat_lt 0 c.buffer_sz) (small && fits) d).0 in
     let some : 0 < c.buffer_sz = grind (arith, nat_tests, e) in
     omega (arith, some)
 
@@ -149,10 +134,6 @@ fits_under : {S A : Type 0} (after : S → Note → Access → S) (P Q : S → W
 fits_under after P Q U V may end s (Finished x) f = end s x f
 fits_under after P Q U V may end s (Make want note next) f =
     (may s want note f.0, λ v. fits_under after P Q U V may end _ (next v) (f.1 v))
-
-all_behind : (xs ys : List Hold) → xs ++ ys ≡ [] → ys ≡ []
-all_behind [] ys e = e
-all_behind (x ∷ xs) ys e = let wrong : ⊥ = cc in absurd wrong
 
 module _ (frames grants : ℕ → ℕ) (dom parts : ℕ) where
   abbrev site : Site
@@ -758,7 +739,7 @@ module _ (frames grants : ℕ → ℕ) (dom parts : ℕ) where
         strips_shows = λ x m s named. (named ∙ sym (like_length (all_bared x.stock.buffers) x.stock.buffers (numbered_all_bared x.stock.buffers [])), ap (λ z. record (shows.rows x m) { buffers = z }) (numbered_all_bared x.stock.buffers m), none_bared x.stock.buffers m, λ key. ap (number_under key) (numbered_all_bared x.stock.buffers m));
         drops = λ x s. (s, refl);
         drops_shows = λ x m named. (named, refl, refl);
-        bare = λ x m named none. names_none x.stock.buffers m (all_behind x.stock.mapped (buffer_pages x.stock.buffers) none);
+        bare = λ x m named none. names_none x.stock.buffers m (right_nil x.stock.mapped (buffer_pages x.stock.buffers) none);
         takes = λ x part words s h. let b = takes x.stock x.scene x.request x.progress part words s h.0 in (b.0, (b.1, takes_whole x.stock x.scene x.request x.progress part words h));
         takes_pages = λ x part words. refl;
         takes_shows = λ x part words m named. (named, refl, refl);

@@ -1,49 +1,43 @@
 -- What a step of a display's service comes to.
-use Rattle.std.proofs.Common.{◌≡◌, ℕ, ℤ, ◌<◌, ◌++◌, ◌&&◌, Bool, true, false, nat_lt, List, [], ◌∷◌, length, Option, Some, None, refl, sym, ap, subst, ◌∙◌, arith}
+use Rattle.std.proofs.Common.{◌≡◌, ℕ, ℤ, ◌++◌, ◌&&◌, true, false, nat_lt, List, [], length, Option, Some, None, refl, sym, ap, subst, ◌∙◌}
 use Rattle.std.proofs.lemmas.Bool.{true≢false}
 use Rattle.pv_words.specs.declared.access.Access.{Access}
 use Rattle.pv_words.specs.declared.device.Said.{Said}
-use Rattle.pv_words.specs.declared.device.Said.TheVariants as said
 use Rattle.pv_words.specs.declared.grant.Hold.{Hold}
-use Rattle.pv_words.specs.declared.place.Place.TheVariants.{Cell, Grant}
-use Rattle.pv_words.specs.Plan as plan
-use Rattle.pv_words.specs.Plan.{Plan, Finished, Make, Want, Load, Store, Swap, Clear, MayGo, Turns, IsUnfinished, joined, mapped, wanted}
+use Rattle.pv_words.specs.Plan.{Plan, mapped}
 use Rattle.displ_wire.specs.declared.Asked.{Asked}
 use Rattle.displ_wire.specs.declared.Asked.TheVariants as asked
 use Rattle.displ_wire.specs.declared.Create.{Create}
 use Rattle.displ_wire.specs.declared.Request.{Request}
 use Rattle.display_buffers.specs.Buffers.{check_of}
-use Rattle.page_directory.specs.declared.walk.Walked.{Walked}
-use Rattle.page_directory.specs.declared.walk.Walked.TheVariants as walked
-use Rattle.page_directory.specs.Joins.{TurnsOrEnds}
 use Rattle.page_directory.specs.declared.walk.Walk.{Walk}
-use Rattle.page_directory.specs.WalkLeft.{PagesByAccess, walk_left, dom_of, held_by}
-use Rattle.link_core.specs.Activities.{unmaps}
-use Rattle.link_core.specs.Stays.{LiesIn, AccessIn}
-use Rattle.pv_words.specs.Release.{Drops}
+use Rattle.page_directory.specs.WalkLeft.{walk_left, dom_of, held_by}
+use Rattle.link_core.specs.Stays.{AccessIn}
 use Rattle.device_service.specs.declared.deed.Now.{Now}
-use Rattle.device_service.specs.declared.deed.Now.TheVariants.{GoesOn, Over}
-use Rattle.device_service.specs.Operating.{Comes, Continues, Leaves}
+use Rattle.device_service.specs.Operating.{Comes, Continues}
 use Rattle.display_backend.specs.declared.course.Course.{Course}
 use Rattle.display_backend.specs.declared.course.Course.TheVariants.{Rests, Walks, Frees, Reads}
-use Rattle.display_backend.specs.declared.course.Progress.{Progress}
-use Rattle.display_backend.specs.declared.course.Progress.TheVariants as progress
-use Rattle.display_backend.specs.Course.{Goes, is_under_way, is_walk_of, pages_walked, stock_at, left_at, Creates, Destroys, ComesTo, InHand, HasDestroy, Releases, Stands}
-use Rattle.display_backend.specs.Service.{Known, Ending, Listed, Freed, after_walk, display, has_work, ready_at, ready_for, reply_for, says_at}
+use Rattle.page_directory.specs.declared.progress.Progress.{Progress}
+use Rattle.page_directory.specs.declared.progress.Progress.TheVariants as progress
+use Rattle.display_backend.specs.Course.{is_under_way, is_walk_of, pages_walked, stock_at, left_at, Creates, Destroys, ComesTo, InHand, HasDestroy, Releases, Stands}
+use Rattle.page_directory.specs.Going.{Goes}
+use Rattle.display_backend.specs.Service.{Known, Ending, Listed, display, has_work, ready_for, reply_for}
+use Rattle.page_directory.specs.Progress.{ready_at}
 use Rattle.display_buffers.specs.Stock.{Stock, Held, pages_of, pages_under, less_one, bared, stripped, without_first}
 use Rattle.display_backend.specs.Names.{numbered}
 use Rattle.display_backend.specs.Reply.{reply_to}
 use Rattle.display_backend.specs.Scene.{Scene}
-use Rattle.display_backend.specs.Verdict.{is_accepted, status_in, verdict}
-use Rattle.page_directory.proofs.Releases.{drops_goes}
+use Rattle.display_backend.specs.Verdict.{verdict}
+use Rattle.page_directory.specs.Progress.{is_accepted, status_in}
 use Rattle.display_backend.proofs.Freeing.{bare_freed}
 use Rattle.display_backend.proofs.Numbered.{AreLike, like_verdict, numbered_all_bared, numbered_bared, same_check}
 use Rattle.display_buffers.proofs.Order.{buffers_stay, none_under, others_stay, under_less}
-use Rattle.device_service.proofs.Mapping.{walk_on}
+use Rattle.device_service.proofs.Mapping.Steps.{walk_on}
 use Rattle.device_service.proofs.Serving.{in_service}
 use Rattle.device_core.specs.Site.{Site}
 use Rattle.device_service.specs.Claims.{site_of}
 use Rattle.std.proofs.lemmas.Bool.{eqb-true}
+use Rattle.page_directory.proofs.Ready.{ready_bare}
 
 abbrev stock : List Hold → List Held → Stock
 stock mapped buffers = record { mapped = mapped; buffers = buffers }
@@ -79,25 +73,13 @@ pub releases : (course : Course) (cookie : ℕ) (hand : Option Request) (p : Pro
 releases course cookie hand p bs count is st = (subst (λ (k : Course). Stands k hand p bs count) is st).1
 
 -- its request is to be answered
-ready_rest : (p : Progress) → ready_at p false ≡ true
-ready_rest progress.Decided = refl
-ready_rest progress.NoMemory = refl
-ready_rest progress.Denied = refl
-ready_rest progress.Mapped = refl
-ready_rest progress.Released = refl
-
-no_work : (b : Bool) → (b && false) ≡ false
-no_work true = refl
-no_work false = refl
-
 ready_destroy : (cookie : ℕ) (hand : Option Request) (p : Progress) (s : Stock) (sc : Scene) → HasDestroy hand cookie → ready_for (knowing (stock s.mapped (bared cookie s.buffers)) sc hand p) hand ≡ true
 ready_destroy cookie None p s sc h = refl
 ready_destroy cookie (Some q) p s sc h =
     let accepted = is_accepted (verdict (bared cookie s.buffers) sc (asked.Destroy cookie)) in
     ap (λ (a : Asked). ready_at p (has_work (bared cookie s.buffers) sc a)) h
     ∙ (ap (λ (hs : List Hold). ready_at p (accepted && nat_lt 0 (length hs))) (none_under cookie s.buffers)
-    ∙ (ap (ready_at p) (no_work accepted)
-    ∙ ready_rest p))
+    ∙ ready_bare p accepted)
 
 pub ready_freeing : (course : Course) (cookie : ℕ) (hand : Option Request) (p : Progress) (s : Stock) (sc : Scene) (count : ℕ) → course ≡ Frees cookie → Stands course hand p s.buffers count → ready_for (knowing (stock_at course s) sc hand p) hand ≡ true
 ready_freeing course cookie hand p s sc count is st =
@@ -161,7 +143,7 @@ walk_continues frames grants dom parts course mid w hand p s sc count access now
     let dom_is : dom_of w ≡ dom = eqb-true _ _ (subst (λ (k : Course). is_walk_of dom k ≡ true) is of) in
     let goes : Goes w = (subst (λ (k : Course). Stands k hand p s.buffers count) is st).2 in
     let at : (n : ℕ) → Comes display (knowing s sc hand p) (mapped Listed (walk_left (frames (dom_of w)) (grants (dom_of w)) w)) access now told y (left (site_of frames grants (dom_of w) n)) =
-        λ n. subst (λ (k : Course). Comes display (knowing (stock_at k s) sc hand p) (mapped Listed (walk_left (frames (dom_of w)) (grants (dom_of w)) w)) access now told y (left (site_of frames grants (dom_of w) n))) rests (comes n) in
+    λ n. subst (λ (k : Course). Comes display (knowing (stock_at k s) sc hand p) (mapped Listed (walk_left (frames (dom_of w)) (grants (dom_of w)) w)) access now told y (left (site_of frames grants (dom_of w) n))) rests (comes n) in
     subst (λ (k : Course). Continues display (knowing (stock_at k s) sc hand p) (left_at (site_of frames grants dom parts) k s) access now told y (left (site_of frames grants dom parts))) (sym is)
     (walk_on display Listed frames grants dom parts w (knowing s sc hand p) y access now told left dom_is goes.further at)
 

@@ -8,3 +8,5 @@ pub mod Stages
 pub mod WalkLeft
 pub mod WalkSteps
 pub mod Walking
+pub mod Progress
+pub mod Going

@@ -4,25 +4,22 @@ use Rattle.std.proofs.lemmas.Bool.{false≢true, eqb-true}
 use Rattle.circular_buffer.specs.Buffer.{Buffer}
 use Rattle.pv_words.specs.declared.grant.Hold.{Hold}
 use Rattle.pv_words.specs.Held.{Holds, IsProper, holding}
-use Rattle.pv_words.specs.Plan.{Finished, FitsFrom}
-use Rattle.page_directory.specs.declared.walk.Walk.{Walk}
+use Rattle.pv_words.specs.Plan.{FitsFrom}
 use Rattle.page_directory.specs.declared.walk.Walked.{Walked}
 use Rattle.page_directory.specs.declared.walk.Walked.TheVariants as walked
 use Rattle.page_directory.specs.Laws.{pages_in as pages_listed}
 use Rattle.page_directory.specs.Same.{AreSame, times}
-use Rattle.page_directory.specs.WalkLeft.{dom_of, held_by, walk_left}
+use Rattle.page_directory.specs.WalkLeft.{dom_of}
 use Rattle.page_directory.proofs.Counts.{times_append}
-use Rattle.page_directory.proofs.Remaining.{walk_comes}
 use Rattle.device_service.specs.Claims.{site_of}
 use Rattle.device_service.specs.Laws.{AreHeld}
 use Rattle.device_service.specs.Throughout.{HoldsThroughout}
-use Rattle.device_service.proofs.InPages.{fits_before}
-use Rattle.device_service.proofs.Keeping.{release_told, same_parted, walk_told}
+use Rattle.device_service.proofs.Mapping.Keeping.{release_told, same_parted, walk_told}
 use Rattle.sound_backend.specs.declared.course.Course.{Course}
 use Rattle.sound_backend.specs.declared.course.Course.TheVariants.{Rests, Walks, Frees}
 use Rattle.sound_backend.specs.declared.course.Demand.{Demand}
-use Rattle.sound_backend.specs.declared.course.Progress.{Progress}
-use Rattle.sound_backend.specs.declared.course.Progress.TheVariants as progress
+use Rattle.page_directory.specs.declared.progress.Progress.{Progress}
+use Rattle.page_directory.specs.declared.progress.Progress.TheVariants as progress
 use Rattle.sound_backend.specs.Course.{Stands, is_under_way, is_walk_of, left_at, pages_walked, stock_at}
 use Rattle.sound_backend.specs.Held.{bared, list_at, pages_in}
 use Rattle.sound_backend.specs.Kept.{Come, HasCome, HasComeTo, facts}

@@ -4,17 +4,7 @@ use Rattle.std.proofs.lemmas.Bool.{false≢true}
 use Rattle.std.proofs.lemmas.Bool.Decides.{nat_tests}
 use Rattle.pv_words.specs.declared.device.HostEvent.{HostEvent}
 use Rattle.pv_words.specs.declared.device.HostEvent.TheVariants as host
-use Rattle.pv_words.specs.Plan.{Plan, Finished, Make}
-use Rattle.device_core.specs.Order.{work_at}
-use Rattle.device_core.specs.Site.{Site}
-use Rattle.device_service.specs.declared.backend.Activity.{Activity}
-use Rattle.device_service.specs.declared.backend.Activity.TheVariants as activity
-use Rattle.device_service.specs.declared.backend.Backend.{Backend}
-use Rattle.device_service.specs.declared.serve.Serve.{Ghosts}
-use Rattle.device_service.specs.Service.{Service}
-use Rattle.device_service.specs.Stand.{stand_at, stand_in, stand_of, work_of}
 use Rattle.device_service.specs.Waits.{IsFor}
-use Rattle.device_service.specs.Work.{Work, End, refused_at}
 use Rattle.sound_backend.specs.declared.waiting.Waiting.TheVariants as waiting
 use Rattle.sound_backend.specs.Service.{sound}
 use Rattle.sound_backend.specs.Waiting.{is_for}

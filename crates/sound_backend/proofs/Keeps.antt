@@ -1,16 +1,14 @@
 -- The sound device keeps the laws of a service.
-use Rattle.std.proofs.Common.{◌≡◌, inl, inr, ℕ, zero, suc, ◌%◌, ◌==◌, ℤ, pos, negsuc, ◌<◌, ◌&&◌, not, replicate, nat_le, nat_lt, Bool, true, false, cond, List, [], ◌∷◌, ◌++◌, Option, Some, None, is_some, slice_get, refl, sym, ◌∙◌, ap, subst, arith, length}
-use Rattle.std.proofs.lemmas.Bool.{true≢false, false≢true, lt-ltb}
+use Rattle.std.proofs.Common.{◌≡◌, inl, inr, ℕ, ◌%◌, ◌==◌, pos, ◌<◌, ◌&&◌, replicate, nat_le, nat_lt, Bool, true, false, cond, List, [], ◌∷◌, ◌++◌, Option, Some, None, is_some, slice_get, refl, sym, ◌∙◌, ap, subst, arith, length}
+use Rattle.std.proofs.lemmas.Bool.{true≢false, false≢true, and_parts, not-false, not-true}
 use Rattle.std.proofs.lemmas.List.{map-append}
 use Rattle.std.proofs.lemmas.Bool.Decides.{nat_tests}
-use Rattle.std.specs.List.{AllByRecursion}
 use Rattle.pv_words.specs.declared.device.Said.{Said}
 use Rattle.pv_words.specs.declared.grant.Hold.{Hold}
 use Rattle.pv_words.specs.declared.grant.Mode.{Mode}
 use Rattle.pv_words.specs.Held.{Holds, IsProper, holding, holds_of}
-use Rattle.pv_words.specs.Found.{Found, finding}
+use Rattle.pv_words.specs.Found.{Found}
 use Rattle.pv_words.specs.Plan.{Plan, Finished, Want, Note, Plain, Begins, Frames, Undoes, Ends, Takes, Puts, IsUntouched, mapped, FitsFrom}
-use Rattle.pv_words.proofs.Fits.{fits_mapped, fits_so}
 use Rattle.snd_wire.specs.declared.types.Asked.{Asked}
 use Rattle.snd_wire.specs.declared.types.Asked.TheVariants as asked
 use Rattle.snd_wire.specs.declared.types.Params.{Params}
@@ -21,106 +19,55 @@ use Rattle.pcm_stream.specs.Tick.{after_tick}
 use Rattle.page_directory.specs.declared.walk.Walked.{Walked}
 use Rattle.page_directory.specs.declared.walk.Walked.TheVariants as walked
 use Rattle.page_directory.specs.Laws as walk
-use Rattle.page_directory.specs.Laws.{IsPage, Leaves}
+use Rattle.page_directory.specs.Laws.{Leaves}
 use Rattle.page_directory.specs.Same.{AreSame, times}
-use Rattle.page_directory.specs.Walking.{walk_plan}
 use Rattle.page_directory.specs.Walking as walking
-use Rattle.page_directory.proofs.Counts.{times_append}
-use Rattle.page_directory.proofs.Shown.{walks_show}
-use Rattle.page_directory.proofs.WalkAlong.{walks_exactly}
 use Rattle.link_core.specs.Laws.{AreOf}
 use Rattle.link_core.specs.Activities.{unmaps}
 use Rattle.link_core.proofs.Shown.{FitFound, unmaps_found}
-use Rattle.device_core.specs.Learned.{Learned}
 use Rattle.device_core.specs.Names.{Sight, all_drawn, cells_of, drawn, with_name, words_in}
 use Rattle.device_core.specs.Site.{Site}
-use Rattle.device_core.specs.Touched.{Carried, Touch}
+use Rattle.device_core.specs.Touched.{Touch}
 use Rattle.device_service.specs.Claims.{KeepsLaws, site_of}
 use Rattle.device_service.specs.Laws.{AreHeld, AreLost, FitsBeside, IsOfService, IsRaise, IsTouching, Laws, Leads, Same, WantsFor, evidence}
 use Rattle.device_service.specs.Rows.{made_if}
 use Rattle.device_service.specs.Service.{Runs}
-use Rattle.device_service.proofs.Keeping.{are_parted, beside, freed_fits, made_cond, page_are, same_parted, walk_fits, walk_found}
-use Rattle.device_service.proofs.Soundness.Plans.{fits_drop}
-use Rattle.device_service.proofs.Soundness.Same.{are_append, are_left, are_right, are_same}
+use Rattle.device_service.proofs.Mapping.Keeping.{are_parted, beside, freed_fits, made_cond, page_are, same_parted, walk_fits, walk_found}
+use Rattle.device_service.proofs.Soundness.Same.{are_append, are_right, are_same}
 use Rattle.sound_backend.specs.declared.course.Demand.{Demand}
-use Rattle.sound_backend.specs.declared.course.Progress.{Progress}
-use Rattle.sound_backend.specs.declared.course.Progress.TheVariants as progress
+use Rattle.page_directory.specs.declared.progress.Progress.{Progress}
+use Rattle.page_directory.specs.declared.progress.Progress.TheVariants as progress
 use Rattle.sound_backend.specs.declared.waiting.Waiting.{Waiting}
 use Rattle.sound_backend.specs.declared.waiting.Waiting.TheVariants as waiting
 use Rattle.sound_backend.specs.Held.{all_bared, bared, list_at, pages_in}
 use Rattle.sound_backend.specs.Kept as kept
 use Rattle.sound_backend.specs.Kept.{AreKept, Come, HasCome, HasComeTo, IsClosing, IsFreeing, IsNamed, IsWalking, facts, whole_replies}
-use Rattle.sound_backend.specs.Names.{Numbered, live_names, names_under, numbered_after, numbers}
-use Rattle.sound_backend.specs.Service.{Known, Ending, Listed, Freed, Served, after_end, freeing, goes_of, has_work, job_for, job_of, open_walk, ready_at, ready_for, says_at, shows, sound, table}
+use Rattle.sound_backend.specs.Names.{Numbered, live_names, names_under, numbered_after}
+use Rattle.device_service.specs.Named.{numbers}
+use Rattle.sound_backend.specs.Service.{Known, Ending, Listed, Freed, Served, after_end, freeing, goes_of, has_work, job_for, job_of, open_walk, ready_for, says_at, shows, sound, table}
+use Rattle.page_directory.specs.Progress.{ready_at}
 use Rattle.sound_backend.specs.Stock.{Stock, kinds_in, pages_of, stock_after, streams_after}
-use Rattle.sound_backend.specs.Verdict.{IsStatus, answer_to, is_accepted, is_denied, is_opening, mode_at, status_in, verdict}
+use Rattle.sound_backend.specs.Verdict.{IsStatus, answer_to, is_opening, mode_at, verdict}
+use Rattle.page_directory.specs.Progress.{is_accepted, is_denied, status_in}
 use Rattle.sound_backend.specs.Waiting.{said_of, streams_ticked}
 use Rattle.sound_backend.proofs.Lists.{filled, list_bared, none_among, none_in, parted}
 use Rattle.sound_backend.proofs.Names.{names_closed, names_freed, names_none, names_opened}
 use Rattle.sound_backend.proofs.Streams.{kept_bared, kept_changed, kept_closed, kept_length, kept_none, kept_opened, kept_bare, kept_shut, named_apart, named_changed, named_closed, named_opened, open_accepted, stream_within, tick_closed}
-
--- what isn't ready is decided
-ready_decided : (p : Progress) (working : Bool) → ready_at p working ≡ false → p ≡ progress.Decided
-ready_decided progress.Decided working h = refl
-ready_decided progress.NoMemory working h = absurd (true≢false h)
-ready_decided progress.Denied working h = absurd (true≢false h)
-ready_decided progress.Mapped working h = absurd (true≢false h)
-ready_decided progress.Released working h = absurd (true≢false h)
-
-and_right : (a b : Bool) → (a && b) ≡ true → b ≡ true
-and_right true b h = h
-and_right false b h = let wrong : ⊥ = cc in absurd wrong
-
-and_left : (a b : Bool) → (a && b) ≡ true → a ≡ true
-and_left true b h = refl
-and_left false b h = let wrong : ⊥ = cc in absurd wrong
-
-and_false : (a : Bool) → a ≡ true → (b : Bool) → (a && b) ≡ false → b ≡ false
-and_false true f b h = h
-and_false false f b h = absurd (false≢true f)
-
--- a status that accepts is 0
-accepted_is : (v : ℤ) → is_accepted v ≡ true → v ≡ pos 0
-accepted_is (pos zero) h = refl
-accepted_is (pos (suc n)) h = let wrong : ⊥ = cc in absurd wrong
-accepted_is (negsuc n) h = let wrong : ⊥ = cc in absurd wrong
-
-accepted_at : (p : Progress) (v : ℤ) → is_accepted (status_in p v) ≡ true → v ≡ pos 0
-accepted_at progress.Decided v h = accepted_is v h
-accepted_at progress.NoMemory v h = let wrong : ⊥ = cc in absurd wrong
-accepted_at progress.Denied v h = let wrong : ⊥ = cc in absurd wrong
-accepted_at progress.Mapped v h = accepted_is v h
-accepted_at progress.Released v h = accepted_is v h
+use Rattle.page_directory.proofs.Ready.{accepted_is, and_rest, none_left, ready_decided}
 
 -- the buffer of an accepted OPEN has a page
 sized : (p : Params) → are_accepted p ≡ true → 0 < walking.pages_of p.buffer_sz
 sized p h =
     let whole : Bool = p.buffer_sz % frame_of p == 0 in
     let last : Bool = nat_lt 0 p.buffer_sz && (nat_le p.buffer_sz 1048576 && whole) in
-    let a = and_right (nat_le p.pcm_format 13) (nat_le 8000 p.pcm_rate && (nat_le p.pcm_rate 192000 && (nat_le 1 p.pcm_channels && (nat_le p.pcm_channels 8 && last)))) h in
-    let b = and_right (nat_le 8000 p.pcm_rate) (nat_le p.pcm_rate 192000 && (nat_le 1 p.pcm_channels && (nat_le p.pcm_channels 8 && last))) a in
-    let c = and_right (nat_le p.pcm_rate 192000) (nat_le 1 p.pcm_channels && (nat_le p.pcm_channels 8 && last)) b in
-    let d = and_right (nat_le 1 p.pcm_channels) (nat_le p.pcm_channels 8 && last) c in
-    let e = and_right (nat_le p.pcm_channels 8) last d in
-    let f = and_left (nat_lt 0 p.buffer_sz) (nat_le p.buffer_sz 1048576 && whole) e in
+    let a = (and_parts (nat_le p.pcm_format 13) (nat_le 8000 p.pcm_rate && (nat_le p.pcm_rate 192000 && (nat_le 1 p.pcm_channels && (nat_le p.pcm_channels 8 && last)))) h).1 in
+    let b = (and_parts (nat_le 8000 p.pcm_rate) (nat_le p.pcm_rate 192000 && (nat_le 1 p.pcm_channels && (nat_le p.pcm_channels 8 && last))) a).1 in
+    let c = (and_parts (nat_le p.pcm_rate 192000) (nat_le 1 p.pcm_channels && (nat_le p.pcm_channels 8 && last)) b).1 in
+    let d = (and_parts (nat_le 1 p.pcm_channels) (nat_le p.pcm_channels 8 && last) c).1 in
+    let e = (and_parts (nat_le p.pcm_channels 8) last d).1 in
+    let f = (and_parts (nat_lt 0 p.buffer_sz) (nat_le p.buffer_sz 1048576 && whole) e).0 in
     let some : 0 < p.buffer_sz = grind (arith, nat_tests, f) in
     omega (arith, some)
-
-not_false : (b : Bool) → not b ≡ false → b ≡ true
-not_false true h = refl
-not_false false h = absurd (true≢false h)
-
-not_true : (b : Bool) → not b ≡ true → b ≡ false
-not_true true h = absurd (false≢true h)
-not_true false h = refl
-
-none_length : (hs : List Hold) → nat_lt 0 (length hs) ≡ false → hs ≡ []
-none_length [] h = refl
-none_length (x ∷ hs) h = absurd (true≢false (sym (lt-ltb 0 (suc (length hs)) (omega arith)) ∙ h))
-
-all_behind : (xs ys : List Hold) → xs ++ ys ≡ [] → ys ≡ []
-all_behind [] ys e = e
-all_behind (x ∷ xs) ys e = let wrong : ⊥ = cc in absurd wrong
 
 -- What there is once a request is answered by a status that accepts it, or by another: an OPEN of a closed stream with its pages, or a
 -- CLOSE of a stream without any.
@@ -146,10 +93,10 @@ refused_done s d asks bare = bare
 
 -- the answers of a request, by how far it has come
 answer_at : (s : Stock) (d : Demand) (p : Progress) (a : Asked) (b : Bool) → d.request.asked ≡ a → is_accepted (verdict s.streams d) ≡ b → ready_at p (has_work s d a) ≡ true → HasComeTo s d p → IsAnswerAt s d p
-answer_at s d progress.Decided (asked.Open p) true e f h come = absurd (true≢false (sym f ∙ not_true _ h))
+answer_at s d progress.Decided (asked.Open p) true e f h come = absurd (true≢false (sym f ∙ not-true _ h))
 answer_at s d progress.Decided (asked.Open p) false e f h come = (done_as s d d.request.asked (asked.Open p) (is_accepted (verdict s.streams d)) false e f come, inl refl)
 answer_at s d progress.Decided asked.Close true e f h come =
-    let none = none_length (list_at s.held d.part) (and_false (is_accepted (verdict s.streams d)) f (nat_lt 0 (length (list_at s.held d.part))) (not_true _ h)) in
+    let none = none_left (list_at s.held d.part) (and_rest (is_accepted (verdict s.streams d)) (nat_lt 0 (length (list_at s.held d.part))) f h) in
     (done_as s d d.request.asked asked.Close (is_accepted (verdict s.streams d)) true e f (none, come), inl refl)
 answer_at s d progress.Decided asked.Close false e f h come = (done_as s d d.request.asked asked.Close (is_accepted (verdict s.streams d)) false e f come, inl refl)
 answer_at s d progress.Decided (asked.Read o z) b e f h come = (done_as s d d.request.asked (asked.Read o z) (is_accepted (verdict s.streams d)) b e f come, inl refl)
@@ -353,12 +300,12 @@ module _ (frames grants : ℕ → ℕ) (dom parts : ℕ) where
   begins_in : (x : Known) (d : Demand) → x.demand ≡ Some d → IsSane x → HasComeTo x.stock d x.progress → (p : Progress) (a : Asked) → x.progress ≡ p → d.request.asked ≡ a → ready_at p (has_work x.stock d a) ≡ false → (y : Known) (pl : Plan Ending) → Leads (job_of site x d.part a) y pl → Begun x y pl
   begins_in x d has sane come progress.Decided (asked.Open c) e f h y pl leads =
       let bare : x.stock.mapped ≡ [] = subst (λ z. HasComeTo x.stock d z) e come in
-      let w : IsWalking x = record { demand = d; params = c; in_hand = has; opening = (f, accepted_is _ (not_false _ h)); decided = e; bare = bare } in
+      let w : IsWalking x = record { demand = d; params = c; in_hand = has; opening = (f, accepted_is _ (not-false _ h)); decided = e; bare = bare } in
       subst (λ z. Begun x z pl) leads.0 (subst (λ z. Begun x x z) leads.1
       (sane, (ap (λ o. is_some o) has, subst (λ (o : Option Demand). Come x.stock x.progress o) (sym has) come), keeps x x (mapped (λ z. Listed z) (open_walk site x.stock.streams d.part c)) (λ rest held same. walk_fits frames grants dom sound Listed x (adds x w) (EndsHeld x) c.gref_directory (count x w) (mode x w) rest held (listed x w held) same) (walk_found frames grants dom Listed (EndsFound x) c.gref_directory (count x w) (mode x w) (walk_shows x w))))
   begins_in x d has sane come progress.Decided asked.Close e f h y pl leads =
       let bare : x.stock.mapped ≡ [] = subst (λ z. HasComeTo x.stock d z) e come in
-      let accepted = and_left (is_accepted (verdict x.stock.streams d)) (nat_lt 0 (length (list_at x.stock.held d.part))) (not_false _ h) in
+      let accepted = (and_parts (is_accepted (verdict x.stock.streams d)) (nat_lt 0 (length (list_at x.stock.held d.part))) (not-false _ h)).0 in
       let closing : IsClosing x.stock d = (f, accepted_is _ accepted) in
       let new = freeing x d.part in
       subst (λ z. Begun x z pl) leads.0 (subst (λ z. Begun x new z) leads.1
@@ -414,7 +361,7 @@ module _ (frames grants : ℕ → ℕ) (dom parts : ℕ) where
       let bare : x.stock.mapped ≡ [] = subst (λ z. HasComeTo x.stock d z) e come in
       let new : Known = record x { progress = progress.NoMemory } in
       subst (λ z. Starving x z) wants
-      (sane, (ap (λ o. is_some o) has, subst (λ (o : Option Demand). Come x.stock progress.NoMemory o) (sym has) ((c, (f, accepted_is _ (not_false _ h))), bare)), subst (λ (o : Option Demand). ready_for new o ≡ true) (sym has) refl, (λ k. refl))
+      (sane, (ap (λ o. is_some o) has, subst (λ (o : Option Demand). Come x.stock progress.NoMemory o) (sym has) ((c, (f, accepted_is _ (not-false _ h))), bare)), subst (λ (o : Option Demand). ready_for new o ≡ true) (sym has) refl, (λ k. refl))
   starves_in x d has sane come p asked.Close e f h y wants = absurd wants
   starves_in x d has sane come p (asked.Read o z) e f h y wants = absurd wants
   starves_in x d has sane come p (asked.Write o z) e f h y wants = absurd wants
@@ -563,7 +510,7 @@ module _ (frames grants : ℕ → ℕ) (dom parts : ℕ) where
         strips_shows = λ x m s named. (named, refl, names_none (all_bared x.stock.held) m (none_in x.stock.held), λ key. refl);
         drops = λ x s. (s, refl);
         drops_shows = λ x m named. (named, refl, refl);
-        bare = λ x m named none. names_none x.stock.held m (all_behind x.stock.mapped (pages_in x.stock.held) none);
+        bare = λ x m named none. names_none x.stock.held m (right_nil x.stock.mapped (pages_in x.stock.held) none);
         takes = λ x part words s h. (s, takes x.stock x.demand x.progress part words h);
         takes_pages = λ x part words. refl;
         takes_shows = λ x part words m named. (named, refl, refl);

@@ -1,46 +1,38 @@
 -- What a step of a sound device's service comes to.
-use Rattle.std.proofs.Common.{◌≡◌, ℕ, ◌<◌, ◌++◌, ◌&&◌, Bool, true, false, nat_lt, List, [], ◌∷◌, drop, length, Option, Some, None, refl, sym, ap, subst, ◌∙◌, arith}
+use Rattle.std.proofs.Common.{◌≡◌, ℕ, ◌++◌, ◌&&◌, true, false, nat_lt, List, [], ◌∷◌, drop, length, Option, Some, None, refl, sym, ap, subst, ◌∙◌}
 use Rattle.std.proofs.lemmas.Bool.{true≢false, eqb-true}
 use Rattle.circular_buffer.specs.Buffer.{Buffer}
 use Rattle.pv_words.specs.declared.access.Access.{Access}
 use Rattle.pv_words.specs.declared.device.Said.{Said}
-use Rattle.pv_words.specs.declared.device.Said.TheVariants as said
 use Rattle.pv_words.specs.declared.grant.Hold.{Hold}
-use Rattle.pv_words.specs.declared.place.Place.TheVariants.{Cell, Grant}
-use Rattle.pv_words.specs.Plan as plan
-use Rattle.pv_words.specs.Plan.{Plan, Finished, Make, Want, Load, Store, Swap, Clear, Turns, IsUnfinished, mapped, wanted}
-use Rattle.pv_words.specs.Release.{Drops}
+use Rattle.pv_words.specs.Plan.{Plan, mapped}
 use Rattle.snd_wire.specs.declared.types.Asked.{Asked}
 use Rattle.pcm_stream.specs.Stream.{Pcm}
 use Rattle.page_directory.specs.declared.walk.Walk.{Walk}
-use Rattle.page_directory.specs.declared.walk.Walked.{Walked}
-use Rattle.page_directory.specs.declared.walk.Walked.TheVariants as walked
-use Rattle.page_directory.specs.Joins.{TurnsOrEnds}
-use Rattle.page_directory.specs.WalkLeft.{PagesByAccess, walk_left, dom_of, held_by}
-use Rattle.page_directory.proofs.Releases.{drops_goes}
-use Rattle.link_core.specs.Activities.{unmaps}
-use Rattle.link_core.specs.Stays.{LiesIn, AccessIn}
+use Rattle.page_directory.specs.WalkLeft.{walk_left, dom_of, held_by}
+use Rattle.link_core.specs.Stays.{AccessIn}
 use Rattle.device_core.specs.Site.{Site}
 use Rattle.device_service.specs.declared.deed.Now.{Now}
-use Rattle.device_service.specs.declared.deed.Now.TheVariants.{GoesOn, Over}
 use Rattle.device_service.specs.Claims.{site_of}
-use Rattle.device_service.specs.Operating.{Comes, Continues, Leaves}
-use Rattle.device_service.proofs.Holding.Held.{in_unmap}
-use Rattle.device_service.proofs.Mapping.{walk_on}
+use Rattle.device_service.specs.Operating.{Comes, Continues}
+use Rattle.device_service.proofs.Mapping.Steps.{walk_on}
 use Rattle.device_service.proofs.Serving.{in_service}
 use Rattle.sound_backend.specs.declared.course.Course.{Course}
 use Rattle.sound_backend.specs.declared.course.Course.TheVariants.{Rests, Walks, Frees}
 use Rattle.sound_backend.specs.declared.course.Demand.{Demand}
-use Rattle.sound_backend.specs.declared.course.Progress.{Progress}
-use Rattle.sound_backend.specs.declared.course.Progress.TheVariants as progress
-use Rattle.sound_backend.specs.Course.{Goes, HasClose, InHand, Releases, Stands, is_under_way, is_walk_of, left_at, pages_walked, stock_at}
+use Rattle.page_directory.specs.declared.progress.Progress.{Progress}
+use Rattle.sound_backend.specs.Course.{HasClose, InHand, Releases, Stands, is_under_way, is_walk_of, left_at, pages_walked, stock_at}
+use Rattle.page_directory.specs.Going.{Goes}
 use Rattle.sound_backend.specs.Held.{list_at, pages_in}
 use Rattle.sound_backend.specs.Held as lists
-use Rattle.sound_backend.specs.Service.{Known, Ending, Listed, Freed, after_walk, denied_by, has_work, ready_at, ready_for, reply_for, reply_to, sound}
+use Rattle.sound_backend.specs.Service.{Known, Ending, Listed, has_work, ready_for, reply_for, reply_to, sound}
+use Rattle.page_directory.specs.Progress.{ready_at}
 use Rattle.sound_backend.specs.Stock.{Stock, bared, less_one, pages_of, stripped}
 use Rattle.sound_backend.specs.Stock as stock
-use Rattle.sound_backend.specs.Verdict.{is_accepted, status_in, verdict}
+use Rattle.sound_backend.specs.Verdict.{verdict}
+use Rattle.page_directory.specs.Progress.{is_accepted, status_in}
 use Rattle.sound_backend.proofs.Lists.{bared_bare, bared_first, bared_less, first_in, list_bared}
+use Rattle.page_directory.proofs.Ready.{ready_bare}
 
 abbrev pub knowing : Stock → Option Demand → Progress → Known
 knowing s hand p = record { stock = s; demand = hand; progress = p }
@@ -72,17 +64,6 @@ pub releases : (course : Course) (part : ℕ) (hand : Option Demand) (p : Progre
 releases course part hand p held queue is st = (subst (λ (k : Course). Stands k hand p held queue) is st).1
 
 -- its request is to be answered
-ready_rest : (p : Progress) → ready_at p false ≡ true
-ready_rest progress.Decided = refl
-ready_rest progress.NoMemory = refl
-ready_rest progress.Denied = refl
-ready_rest progress.Mapped = refl
-ready_rest progress.Released = refl
-
-no_work : (b : Bool) → (b && false) ≡ false
-no_work true = refl
-no_work false = refl
-
 ready_close : (part : ℕ) (hand : Option Demand) (p : Progress) (s : Stock) → HasClose hand part → ready_for (knowing (bared part s) hand p) hand ≡ true
 ready_close part None p s h = refl
 ready_close part (Some d) p s h =
@@ -91,8 +72,7 @@ ready_close part (Some d) p s h =
     ap (λ (a : Asked). ready_at p (has_work (bared part s) d a)) h.1
     ∙ (ap (λ n. ready_at p (accepted && nat_lt 0 (length (list_at held n)))) h.0
     ∙ (ap (λ (hs : List Hold). ready_at p (accepted && nat_lt 0 (length hs))) (list_bared s.held part)
-    ∙ (ap (ready_at p) (no_work accepted)
-    ∙ ready_rest p)))
+    ∙ ready_bare p accepted))
 
 pub ready_freeing : (course : Course) (part : ℕ) (hand : Option Demand) (p : Progress) (s : Stock) (queue : Option (Buffer ℕ)) → course ≡ Frees part → Stands course hand p s.held queue → ready_for (knowing (stock_at course s) hand p) hand ≡ true
 ready_freeing course part hand p s queue is st =

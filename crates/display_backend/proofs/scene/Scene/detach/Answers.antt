@@ -1,10 +1,8 @@
-use Rattle.std.proofs.Common.{◌≡◌, length, arith}
+use Rattle.std.proofs.Common.{arith}
 use Rattle.connectors.specs.Connectors.{after_detach}
-use Rattle.display_backend.proofs.Mapped.{through_more}
+use Rattle.page_directory.proofs.Lists.{through_more}
 use Rattle.display_backend.proofs.scene.Scene.detach.Goals as goal
 
 pub loop-connector-preserved : goal.loop-connector-preserved
 loop-connector-preserved c =
-    let old = c.args.self.now in
-    let four : length old.connectors ≡ 4 = old.four in
-    through_more (after_detach c.args.fb) old.connectors c.loop-connector.connector-items c.loop-connector.connector-index _ _ c.loop-connector.invariant (omega (arith, four, c.loop-connector-test.true)) c.detached.ensures
+    through_more (after_detach c.args.fb) c.args.self.now.connectors c.loop-connector.connector-items c.loop-connector.connector-index _ _ c.loop-connector.invariant (omega (arith, c.loop-connector-test.true)) c.detached.ensures

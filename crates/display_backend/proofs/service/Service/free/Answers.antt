@@ -6,9 +6,9 @@ use Rattle.display_backend.specs.Service.{Freed, display}
 use Rattle.display_backend.specs.Showing.{scene_of}
 use Rattle.display_buffers.specs.Stock.{Stock, pages_under}
 use Rattle.display_buffers.specs.Store.{stock_of}
-use Rattle.display_backend.specs.declared.course.Progress.TheVariants as progress
+use Rattle.page_directory.specs.declared.progress.Progress.TheVariants as progress
 use Rattle.device_service.proofs.Holding.Held.{nil_of}
-use Rattle.device_service.proofs.Mapping.{free_ends, free_goes, unmap_lies}
+use Rattle.device_service.proofs.Mapping.Steps.{free_ends, free_goes, unmap_lies}
 use Rattle.page_directory.proofs.Releases.{may_first}
 use Rattle.display_backend.proofs.Serviced.{knowing, stock_freed, stock_less}
 use Rattle.display_backend.proofs.service.Service.free.Goals as goal

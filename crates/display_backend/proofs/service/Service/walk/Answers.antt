@@ -2,7 +2,7 @@ use Rattle.std.proofs.Common.{refl, sym, ap, ◌∙◌}
 use Rattle.page_directory.specs.declared.walk.Walked.{Walked}
 use Rattle.page_directory.specs.WalkLeft.{walk_left}
 use Rattle.page_directory.specs.WalkLeft.{dom_of as walked_dom}
-use Rattle.device_service.proofs.Mapping.{walk_ends, walk_goes}
+use Rattle.device_service.proofs.Mapping.Steps.{walk_ends, walk_goes}
 use Rattle.display_backend.specs.Course.{stock_at}
 use Rattle.display_backend.specs.Known.{known_of}
 use Rattle.display_backend.specs.Service.{Listed, after_walk, display, says_at}

@@ -2,8 +2,8 @@ use Rattle.std.proofs.Common.{◌≡◌, ◌<◌, [], length, refl, ap, arith}
 use Rattle.pv_words.specs.Plan.{Finished}
 use Rattle.page_directory.proofs.Releases.{may_first}
 use Rattle.device_service.proofs.Holding.Held.{nil_of}
-use Rattle.device_service.proofs.Mapping.{free_ends, free_goes, unmap_lies}
-use Rattle.sound_backend.specs.declared.course.Progress.TheVariants as progress
+use Rattle.device_service.proofs.Mapping.Steps.{free_ends, free_goes, unmap_lies}
+use Rattle.page_directory.specs.declared.progress.Progress.TheVariants as progress
 use Rattle.sound_backend.specs.Course.{left_at}
 use Rattle.sound_backend.specs.Held.{list_at}
 use Rattle.sound_backend.specs.Known.{known_of, left_of}

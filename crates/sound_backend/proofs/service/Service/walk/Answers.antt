@@ -2,10 +2,11 @@ use Rattle.std.proofs.Common.{refl, sym, ap, ◌∙◌}
 use Rattle.page_directory.specs.declared.walk.Walked.{Walked}
 use Rattle.page_directory.specs.WalkLeft.{walk_left}
 use Rattle.page_directory.specs.WalkLeft.{dom_of as walked_dom}
-use Rattle.device_service.proofs.Mapping.{walk_ends, walk_goes}
+use Rattle.device_service.proofs.Mapping.Steps.{walk_ends, walk_goes}
 use Rattle.sound_backend.specs.Course.{stock_at}
 use Rattle.sound_backend.specs.Known.{known_of}
-use Rattle.sound_backend.specs.Service.{Listed, after_walk, denied_by, sound}
+use Rattle.sound_backend.specs.Service.{Listed, after_walk, sound}
+use Rattle.device_service.specs.Mapping.{denied_by}
 use Rattle.sound_backend.specs.Store.{stock_of}
 use Rattle.sound_backend.proofs.Serviced.{knowing}
 use Rattle.sound_backend.proofs.service.Service.walk.Goals as goal

@@ -31,7 +31,7 @@ use Rattle.device_service.proofs.Fitting.{fits_carried}
 use Rattle.device_service.proofs.InPages.{fits_before}
 use Rattle.device_service.proofs.Soundness.Plans.{fits_drop}
 use Rattle.device_service.proofs.Soundness.Same.{are_append, are_left, are_right, are_same}
-use Rattle.device_service.proofs.Unmapping.{unmaps_come}
+use Rattle.device_service.proofs.Mapping.Unmaps.{unmaps_come}
 
 -- the pages that a walk comes to are the domain's
 pub page_are : (frames grants dom : ℕ) (mode : Mode) (ps : List Hold) → AllByRecursion (IsPage frames grants dom mode) ps → AreOf grants dom ps

@@ -43,7 +43,7 @@ use Rattle.device_service.proofs.Soundness.Same.{same_append}
 use Rattle.device_service.proofs.Soundness.Serves.{raise_pages}
 use Rattle.device_service.proofs.Soundness.Work.{Lawful, EndsSo, IsSane, held_pages, learned, site, sleep_pages}
 use Rattle.device_service.proofs.Mapping.Unmaps.{unmaps_come}
-use Rattle.page_directory.proofs.Lists.{left_nil}
+use Rattle.page_directory.specs.Lists.{left_nil}
 
 -- parts that rest hold the pages of what they are joined to
 parts_held : (p : Parts) (o : Bool) → doing_of p ≡ resting o → all_pages (joined_of p) ≡ of_parts.held_of p

@@ -77,7 +77,7 @@ use Rattle.device_service.specs.Rows.{Evidence, made_if}
 use Rattle.device_service.specs.Claims.{KeepsLaws, site_of}
 use Rattle.device_service.specs.Laws as law
 use Rattle.device_service.specs.Laws.{AreHeld, AreLost, FitsBeside, IsOfService, IsRaise, IsTouching, Laws, Leads, Same, WantsFor, evidence}
-use Rattle.page_directory.proofs.Lists.{right_nil}
+use Rattle.page_directory.specs.Lists.{right_nil}
 use Rattle.device_service.proofs.Mapping.Keeping.{are_parted, beside, freed_fits, made_cond, page_are, same_parted, walk_fits, walk_found}
 use Rattle.display_backend.specs.Service.{has_work, reply_for, ready_for, goes_of, Known, Ending, Listed, Freed, Served, Pictured, Lines, show_in, show_of, display, table, shows, freeing, blank_of, event_for, flip_words, flipped_at, flipped_for, put_for, raised_at, job_of, job_for, says_at, after_end}
 use Rattle.page_directory.specs.Progress.{ready_at}

@@ -19,7 +19,7 @@ use Rattle.page_directory.specs.Laws as walk
 use Rattle.link_core.specs.Laws.{AreOf}
 use Rattle.device_core.specs.Touched.{Touch}
 use Rattle.device_service.specs.Laws.{Facts}
-use Rattle.page_directory.proofs.Lists.{left_nil, right_nil}
+use Rattle.page_directory.specs.Lists.{left_nil, right_nil}
 use Rattle.display_backend.specs.declared.course.Course.{Course}
 use Rattle.display_backend.specs.declared.course.Course.TheVariants.{Rests, Walks, Frees, Reads}
 use Rattle.page_directory.specs.declared.progress.Progress.{Progress}

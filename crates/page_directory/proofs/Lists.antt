@@ -1,13 +1,5 @@
--- Lists of which each item is replaced in turn, and the parts of a list without an item.
+-- Lists of which each item is replaced in turn.
 use Rattle.std.proofs.Common.{◌≡◌, ℕ, zero, suc, ◌+◌, ◌<◌, ◌≤◌, List, [], ◌∷◌, ◌++◌, drop, get_or, length, map, set, take, refl, ap, ◌∙◌, arith}
-
-pub left_nil : {A : Type 0} (xs ys : List A) → xs ++ ys ≡ [] → xs ≡ []
-left_nil [] ys e = refl
-left_nil (x ∷ xs) ys e = let wrong : ⊥ = cc in absurd wrong
-
-pub right_nil : {A : Type 0} (xs ys : List A) → xs ++ ys ≡ [] → ys ≡ []
-right_nil [] ys e = e
-right_nil (x ∷ xs) ys e = let wrong : ⊥ = cc in absurd wrong
 
 -- those before k are through, and so are those before the next, once item k is replaced.
 abbrev through : {X : Type 0} → (X → X) → List X → ℕ → List X

@@ -10,3 +10,4 @@ pub mod WalkSteps
 pub mod Walking
 pub mod Progress
 pub mod Going
+pub mod Lists

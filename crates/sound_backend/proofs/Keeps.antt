@@ -53,7 +53,7 @@ use Rattle.sound_backend.specs.Waiting.{said_of, streams_ticked}
 use Rattle.sound_backend.proofs.Lists.{filled, list_bared, none_among, none_in, parted}
 use Rattle.sound_backend.proofs.Names.{names_closed, names_freed, names_none, names_opened}
 use Rattle.sound_backend.proofs.Streams.{kept_bared, kept_changed, kept_closed, kept_length, kept_none, kept_opened, kept_bare, kept_shut, named_apart, named_changed, named_closed, named_opened, open_accepted, stream_within, tick_closed}
-use Rattle.page_directory.proofs.Lists.{right_nil}
+use Rattle.page_directory.specs.Lists.{right_nil}
 use Rattle.page_directory.proofs.Ready.{accepted_is, and_rest, none_left, ready_decided}
 
 -- the buffer of an accepted OPEN has a page

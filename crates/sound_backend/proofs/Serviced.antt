@@ -114,7 +114,7 @@ walk_continues frames grants dom parts course mid w hand p s queue access now to
     let dom_is : dom_of w ≡ dom = eqb-true _ _ (subst (λ (k : Course). is_walk_of dom k ≡ true) is of) in
     let goes : Goes w = (subst (λ (k : Course). Stands k hand p s.held queue) is st).2 in
     let at : (n : ℕ) → Comes sound (knowing s hand p) (mapped Listed (walk_left (frames (dom_of w)) (grants (dom_of w)) w)) access now told y (left (site_of frames grants (dom_of w) n)) =
-        λ n. subst (λ (k : Course). Comes sound (knowing (stock_at k s) hand p) (mapped Listed (walk_left (frames (dom_of w)) (grants (dom_of w)) w)) access now told y (left (site_of frames grants (dom_of w) n))) rests (comes n) in
+    λ n. subst (λ (k : Course). Comes sound (knowing (stock_at k s) hand p) (mapped Listed (walk_left (frames (dom_of w)) (grants (dom_of w)) w)) access now told y (left (site_of frames grants (dom_of w) n))) rests (comes n) in
     subst (λ (k : Course). Continues sound (knowing (stock_at k s) hand p) (left_at (site_of frames grants dom parts) k s) access now told y (left (site_of frames grants dom parts))) (sym is)
     (walk_on sound Listed frames grants dom parts w (knowing s hand p) y access now told left dom_is goes.further at)
 

@@ -15,7 +15,7 @@ use Rattle.page_directory.specs.Laws as walk
 use Rattle.link_core.specs.Laws.{AreOf}
 use Rattle.device_core.specs.Touched.{Touch}
 use Rattle.device_service.specs.Laws.{Facts}
-use Rattle.page_directory.proofs.Lists.{left_nil, right_nil}
+use Rattle.page_directory.specs.Lists.{left_nil, right_nil}
 use Rattle.sound_backend.specs.declared.course.Course.{Course}
 use Rattle.sound_backend.specs.declared.course.Course.TheVariants.{Rests, Walks, Frees}
 use Rattle.sound_backend.specs.declared.course.Demand.{Demand}

@@ -20,7 +20,7 @@ use Rattle.device_service.specs.Doing.{all_held}
 use Rattle.device_service.specs.Parts.{Drops, LeftBy, MayDrop, UndoneAs, met_links}
 use Rattle.device_service.specs.Work.{all_pages, ring_hold, ring_page}
 use Rattle.device_service.proofs.Lists.{within}
-use Rattle.page_directory.proofs.Lists.{left_nil, right_nil}
+use Rattle.page_directory.specs.Lists.{left_nil, right_nil}
 
 pub here : {A : Type 0} (xs : List A) (i : ℕ) (x d : A) → i < length xs → x ≡ get_or xs i d → slice_get xs i ≡ Some x
 here xs i x d lt e = slice_get-get_or xs i d lt ∙ ap Some (sym e)

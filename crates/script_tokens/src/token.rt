@@ -1,6 +1,6 @@
 //! The tokens of a line, one after the other.
 
-ghost use Rattle.std.specs.Prelude.{◌≡◌, ◌<◌, ◌≤◌, ◌+◌, ◌-◌, ◌^◌, not, length, drop, option_map, IfOk, IfSome, MatchOption, []};
+ghost use Rattle.std.specs.Prelude.{◌≡◌, ◌<◌, ◌≤◌, ◌-◌, ◌^◌, not, length, option_map, IfOk, IfSome};
 ghost use Rattle.std.specs.List.{position_or_len};
 ghost use Rattle.script_tokens.specs.Tokens.{is_blank, tokens};
 
@@ -69,7 +69,8 @@ impl<'a> Token<'a> {
 
 impl<'a> Tokens<'a> {
     ghost use Rattle.script_tokens.specs.Flaws.{Gives};
-    ghost use Rattle.script_tokens.specs.Cursors.{Cursor, cursor_at, cursor, seen, seen_token, first_of, next_of, StandsAt};
+    ghost use Rattle.script_tokens.specs.Cursors.{Cursor, cursor_at, cursor, seen, seen_token, first_of, next_of};
+    ghost use Rattle.script_tokens.specs.Cursors.{StartsAt, IsRest};
     ghost use Rattle.script_tokens.specs.Next.{number_at, between_at, below_at, keyword_at};
 
     /// The tokens of a line's code.
@@ -83,8 +84,8 @@ impl<'a> Tokens<'a> {
     /// How many octets stand before the next token, and the octets from there on, if there is one.
     #[inline(always)]
     fn start(self) -> Option<(usize, &'a [u8])>
-        ensures at { MatchOption result (tokens (self.entry.read + 1) (drop self.entry.read self.entry.code.now) ≡ []) (λ x. StandsAt (x.0 + 1) x.1.now (tokens (self.entry.read + 1) (drop self.entry.read self.entry.code.now))) }
-        ensures place { IfSome result (λ x. (x.0 + length x.1.now ≡ length self.entry.code.now) × (x.1.now ≡ drop x.0 self.entry.code.now)) }
+        ensures at { StartsAt (cursor self.entry) result }
+        ensures place { IfSome result (λ x. IsRest x.0 x.1.now self.entry.code.now) }
     {
         let (_, rest) = self.code.split_at(self.read);
         let skipped = blank_len(rest);
@@ -126,7 +127,7 @@ impl<'a> Tokens<'a> {
     }
 
     /// The first token behind so many octets of a line's code as a number, and how many octets were read with it.
-    #[inline(never)]
+    #[inline(always)]
     fn read_number(code: &'a [u8], read: usize) -> Result<(Number, usize), Flaw>
         requires within { read ≤ length code.now }
         requires fits { length code.now < 2 ^ 32 - 1 }
@@ -149,8 +150,54 @@ impl<'a> Tokens<'a> {
         Ok((Number { column, value }, start + len))
     }
 
+    /// The same, where the number is to be one from `low` to `high`.
+    #[inline(never)]
+    #[tactic(auto, unfolding(crate::specs::Next::between_at))]
+    fn read_between(
+        code: &'a [u8],
+        read: usize,
+        low: u32,
+        high: u32,
+    ) -> Result<(Number, usize), Flaw>
+        requires within { read ≤ length code.now }
+        requires fits { length code.now < 2 ^ 32 - 1 }
+        ensures value { Gives (λ x. (x.0, cursor_at x.1 code.now)) result (between_at low high (cursor_at read code.now)) }
+        ensures range { IfOk result (λ x. x.0.value ≤ high) }
+        ensures bound { IfOk result (λ x. x.1 ≤ length code.now) }
+    {
+        let (number, read) = Tokens::read_number(code, read)?;
+        if u64::from(low) <= number.value && number.value <= u64::from(high) {
+            Ok((number, read))
+        } else {
+            Err(Flaw {
+                column: number.column,
+                kind: FaultKind::OutOfRange,
+            })
+        }
+    }
+
+    /// The same, where the number is to be one below a limit.
+    #[inline(never)]
+    #[tactic(auto, unfolding(crate::specs::Next::below_at))]
+    fn read_below(code: &'a [u8], read: usize, limit: u64) -> Result<(Number, usize), Flaw>
+        requires within { read ≤ length code.now }
+        requires fits { length code.now < 2 ^ 32 - 1 }
+        ensures value { Gives (λ x. (x.0, cursor_at x.1 code.now)) result (below_at limit (cursor_at read code.now)) }
+        ensures range { IfOk result (λ x. x.0.value < limit) }
+        ensures bound { IfOk result (λ x. x.1 ≤ length code.now) }
+    {
+        let (number, read) = Tokens::read_number(code, read)?;
+        if number.value < limit {
+            Ok((number, read))
+        } else {
+            Err(Flaw {
+                column: number.column,
+                kind: FaultKind::OutOfRange,
+            })
+        }
+    }
+
     /// The next token as a number.
-    #[inline(always)]
     pub fn number(self) -> Result<(Number, Tokens<'a>), Flaw>
         ensures { Gives seen result (number_at (cursor self.entry)) }
     {
@@ -164,38 +211,30 @@ impl<'a> Tokens<'a> {
 
     /// The next token as a number from `low` to `high`.
     #[inline(always)]
-    #[tactic(auto, unfolding(crate::specs::Next::between_at))]
     pub fn between(self, low: u32, high: u32) -> Result<(Number, Tokens<'a>), Flaw>
         ensures value { Gives seen result (between_at low high (cursor self.entry)) }
         ensures bound { IfOk result (λ n. n.0.value ≤ high) }
     {
-        let (number, tokens) = self.number()?;
-        if u64::from(low) <= number.value && number.value <= u64::from(high) {
-            Ok((number, tokens))
-        } else {
-            Err(Flaw {
-                column: number.column,
-                kind: FaultKind::OutOfRange,
-            })
-        }
+        let (number, read) = Tokens::read_between(self.code, self.read, low, high)?;
+        let tokens = Tokens {
+            code: self.code,
+            read,
+        };
+        Ok((number, tokens))
     }
 
     /// The next token as a number below a limit.
     #[inline(always)]
-    #[tactic(auto, unfolding(crate::specs::Next::below_at))]
     pub fn below(self, limit: u64) -> Result<(Number, Tokens<'a>), Flaw>
         ensures value { Gives seen result (below_at limit (cursor self.entry)) }
         ensures bound { IfOk result (λ n. n.0.value < limit) }
     {
-        let (number, tokens) = self.number()?;
-        if number.value < limit {
-            Ok((number, tokens))
-        } else {
-            Err(Flaw {
-                column: number.column,
-                kind: FaultKind::OutOfRange,
-            })
-        }
+        let (number, read) = Tokens::read_below(self.code, self.read, limit)?;
+        let tokens = Tokens {
+            code: self.code,
+            read,
+        };
+        Ok((number, tokens))
     }
 
     /// Takes the next token, which must be this word.

@@ -127,7 +127,7 @@ impl<'a> Tokens<'a> {
     }
 
     /// The first token behind so many octets of a line's code as a number, and how many octets were read with it.
-    #[inline(always)]
+    #[inline(never)]
     fn read_number(code: &'a [u8], read: usize) -> Result<(Number, usize), Flaw>
         requires within { read ≤ length code.now }
         requires fits { length code.now < 2 ^ 32 - 1 }
@@ -150,54 +150,8 @@ impl<'a> Tokens<'a> {
         Ok((Number { column, value }, start + len))
     }
 
-    /// The same, where the number is to be one from `low` to `high`.
-    #[inline(never)]
-    #[tactic(auto, unfolding(crate::specs::Next::between_at))]
-    fn read_between(
-        code: &'a [u8],
-        read: usize,
-        low: u32,
-        high: u32,
-    ) -> Result<(Number, usize), Flaw>
-        requires within { read ≤ length code.now }
-        requires fits { length code.now < 2 ^ 32 - 1 }
-        ensures value { Gives (λ x. (x.0, cursor_at x.1 code.now)) result (between_at low high (cursor_at read code.now)) }
-        ensures range { IfOk result (λ x. x.0.value ≤ high) }
-        ensures bound { IfOk result (λ x. x.1 ≤ length code.now) }
-    {
-        let (number, read) = Tokens::read_number(code, read)?;
-        if u64::from(low) <= number.value && number.value <= u64::from(high) {
-            Ok((number, read))
-        } else {
-            Err(Flaw {
-                column: number.column,
-                kind: FaultKind::OutOfRange,
-            })
-        }
-    }
-
-    /// The same, where the number is to be one below a limit.
-    #[inline(never)]
-    #[tactic(auto, unfolding(crate::specs::Next::below_at))]
-    fn read_below(code: &'a [u8], read: usize, limit: u64) -> Result<(Number, usize), Flaw>
-        requires within { read ≤ length code.now }
-        requires fits { length code.now < 2 ^ 32 - 1 }
-        ensures value { Gives (λ x. (x.0, cursor_at x.1 code.now)) result (below_at limit (cursor_at read code.now)) }
-        ensures range { IfOk result (λ x. x.0.value < limit) }
-        ensures bound { IfOk result (λ x. x.1 ≤ length code.now) }
-    {
-        let (number, read) = Tokens::read_number(code, read)?;
-        if number.value < limit {
-            Ok((number, read))
-        } else {
-            Err(Flaw {
-                column: number.column,
-                kind: FaultKind::OutOfRange,
-            })
-        }
-    }
-
     /// The next token as a number.
+    #[inline(always)]
     pub fn number(self) -> Result<(Number, Tokens<'a>), Flaw>
         ensures { Gives seen result (number_at (cursor self.entry)) }
     {
@@ -211,30 +165,38 @@ impl<'a> Tokens<'a> {
 
     /// The next token as a number from `low` to `high`.
     #[inline(always)]
+    #[tactic(auto, unfolding(crate::specs::Next::between_at))]
     pub fn between(self, low: u32, high: u32) -> Result<(Number, Tokens<'a>), Flaw>
         ensures value { Gives seen result (between_at low high (cursor self.entry)) }
         ensures bound { IfOk result (λ n. n.0.value ≤ high) }
     {
-        let (number, read) = Tokens::read_between(self.code, self.read, low, high)?;
-        let tokens = Tokens {
-            code: self.code,
-            read,
-        };
-        Ok((number, tokens))
+        let (number, tokens) = self.number()?;
+        if u64::from(low) <= number.value && number.value <= u64::from(high) {
+            Ok((number, tokens))
+        } else {
+            Err(Flaw {
+                column: number.column,
+                kind: FaultKind::OutOfRange,
+            })
+        }
     }
 
     /// The next token as a number below a limit.
     #[inline(always)]
+    #[tactic(auto, unfolding(crate::specs::Next::below_at))]
     pub fn below(self, limit: u64) -> Result<(Number, Tokens<'a>), Flaw>
         ensures value { Gives seen result (below_at limit (cursor self.entry)) }
         ensures bound { IfOk result (λ n. n.0.value < limit) }
     {
-        let (number, read) = Tokens::read_below(self.code, self.read, limit)?;
-        let tokens = Tokens {
-            code: self.code,
-            read,
-        };
-        Ok((number, tokens))
+        let (number, tokens) = self.number()?;
+        if number.value < limit {
+            Ok((number, tokens))
+        } else {
+            Err(Flaw {
+                column: number.column,
+                kind: FaultKind::OutOfRange,
+            })
+        }
     }
 
     /// Takes the next token, which must be this word.

@@ -18,7 +18,7 @@ use Rattle.display_backend.specs.declared.waiting.Waiting.{Waiting}
 use Rattle.display_backend.specs.Service.{Lines, makes_for, table}
 use Rattle.display_backend.specs.Verdict.{is_accepted}
 use Rattle.backend_core.specs.Drawn.{Drawing, Came, Wrote, Sheet, TakesLast, came_by, came_if, creates, drawings_next, no_sheet, sheet_next, word_at}
-use Rattle.backend_core.specs.Kinds.{first_snapshot, machine}
+use Rattle.backend_core.specs.Nature.{display_nature, first_snapshot, machine}
 use Rattle.backend_core.specs.Pictures.{Past, event_after, past_next}
 use Rattle.backend_core.proofs.Answers.{run_parts}
 use Rattle.page_directory.proofs.WalkAlong.{all_weaker}
@@ -167,7 +167,7 @@ module _ (site : Site) where
   passed_drawn p ds ns (Hears news) are = are
   passed_drawn p ds ns Begins are = are
 
-  happens_drawn : (x : Sheet) (m k : Snapshot (Rows Lines Waiting)) (e : Happening Event) → HappensTo true (machine site) m e k → IsSheet x m → AreDrawn (past_next x.past e).replies (drawings_next x.past e x.drawings) k.names
+  happens_drawn : (x : Sheet) (m k : Snapshot (Rows Lines Waiting)) (e : Happening Event) → HappensTo true (machine display_nature site) m e k → IsSheet x m → AreDrawn (past_next x.past e).replies (drawings_next x.past e x.drawings) k.names
   happens_drawn x m k (Row e words) h is = moved_drawn x.past x.drawings m k e words is.now is.drawn h.names
   happens_drawn x m k (Meanwhile e) h is =
       subst (λ ns. AreDrawn (event_after x.past e).replies x.drawings ns) (sym h.names) (passed_drawn x.past x.drawings m.names e is.drawn)
@@ -177,19 +177,19 @@ module _ (site : Site) where
   happens_drawn x m k (Gone number) h is = drawn_lost x.past.replies number x.drawings m.names k.names is.drawn h.1
   happens_drawn x m k (Draw s) h is = drawn_wrote x.past.replies x.drawings s m.names k.names is.drawn h.1
 
-  run_sheet : (x : Sheet) (m n : Snapshot (Rows Lines Waiting)) (es : List (Happening Event)) → IsRun (HappensTo true (machine site)) m es n → IsSheet x m → IsSheet (after sheet_next x es) n
+  run_sheet : (x : Sheet) (m n : Snapshot (Rows Lines Waiting)) (es : List (Happening Event)) → IsRun (HappensTo true (machine display_nature site)) m es n → IsSheet x m → IsSheet (after sheet_next x es) n
   run_sheet x m n [] run is = subst (λ k. IsSheet x k) run is
   run_sheet x m n (e ∷ es) run is =
       run_sheet (sheet_next x e) run.0 n es run.2 (record { now = happens_now site x.past m run.0 e run.1 is.now; drawn = happens_drawn x m run.0 e run.1 is })
 
-  nothing_drawn : IsSheet no_sheet first_snapshot
+  nothing_drawn : IsSheet no_sheet (first_snapshot display_nature)
   nothing_drawn = record { now = nothing_now site; drawn = record { below = tt; apart = tt; words = tt } }
 
-  pub display_takes : (es : List (Happening Event)) (end : Snapshot (Rows Lines Waiting)) → IsRun (HappensTo true (machine site)) first_snapshot es end → TakesLast es
+  pub display_takes : (es : List (Happening Event)) (end : Snapshot (Rows Lines Waiting)) → IsRun (HappensTo true (machine display_nature site)) (first_snapshot display_nature) es end → TakesLast es
   display_takes es end run before later s split =
-      let whole = subst (λ (hs : List (Happening Event)). IsRun (HappensTo true (machine site)) first_snapshot hs end) split run in
-      let parts = run_parts (HappensTo true (machine site)) first_snapshot end before (Touches (Took s) ∷ later) whole in
-      let sheet = run_sheet no_sheet first_snapshot parts.0 before parts.1 nothing_drawn in
+      let whole = subst (λ (hs : List (Happening Event)). IsRun (HappensTo true (machine display_nature site)) (first_snapshot display_nature) hs end) split run in
+      let parts = run_parts (HappensTo true (machine display_nature site)) (first_snapshot display_nature) end before (Touches (Took s) ∷ later) whole in
+      let sheet = run_sheet no_sheet (first_snapshot display_nature) parts.0 before parts.1 nothing_drawn in
       let has = parts.2.1.word in
       let names : AllByRecursion (IsDrawn (after sheet_next no_sheet before).drawings) (has.before ++ record { number = s.number; words = has.words } ∷ has.behind) =
       subst (λ ns. AllByRecursion (IsDrawn (after sheet_next no_sheet before).drawings) ns) has.live sheet.drawn.words in

@@ -1,8 +1,8 @@
 mod HeldThroughout
 mod Hosts
-mod Keeps
+pub mod Keeps
 mod Declared
 mod Lists
 mod Names
 mod Serviced
-mod Streams
+pub mod Streams

@@ -4,6 +4,7 @@ mod flips;
 mod hosts;
 mod pictures;
 mod running;
+mod sounds;
 
 use super::*;
 use pv_words::{Access, DomId, Entry, Frame, JOURNAL_LIMIT, Place};

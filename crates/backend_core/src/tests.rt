@@ -232,7 +232,10 @@ fn a_sound_device_opens_and_closes(rt: HostRuntime) -> Result<(), Fail> {
         assert_eq!(rt; answer(&mut device, e), None);
     }
     let not_connected = Some(Err(HostRefusal::NotConnected));
-    assert_eq!(rt; answer(&mut device, HostEvent::Tick(1, 1_048_576)), not_connected);
+    assert_eq!(rt;
+        answer(&mut device, HostEvent::Tick(1, 1_048_576)),
+        not_connected
+    );
     device.bus(State::Initialised, &nodes_of_two());
     assert!(rt; steps_to(&mut device, &mut words, Said::State(State::Connected)));
     assert_eq!(rt; device.held(), 4);

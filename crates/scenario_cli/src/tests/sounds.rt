@@ -99,7 +99,10 @@ fn a_stream_is_closed_once(rt: HostRuntime) -> Result<(), Fail> {
         ],
     )?;
     expect_sound(alloc, &rt, &outcome, lines.as_str())?;
-    assert_eq!(rt; accesses(&outcome.journal, DevId(2)), 11 + 17 + 8 + 18 + 3 + 17 + 1 + 18 + 16 + 18 + 3);
+    assert_eq!(rt;
+        accesses(&outcome.journal, DevId(2)),
+        11 + 17 + 8 + 18 + 3 + 17 + 1 + 18 + 16 + 18 + 3
+    );
     Ok(())
 }
 
@@ -110,9 +113,24 @@ fn a_page_is_mapped_as_its_stream_needs_it(rt: HostRuntime) -> Result<(), Fail> 
     let shut = "putg 1 3 flags 5\nserve 2\nend 1 3 1\nbus 2 5\nserve 2\nend 1 3 1\n";
     let ended = "bus 2 front 5\nclosed 2 asked 5\nbus 2 back 6\n";
     for (streams, more, opened, last) in [
-        ("p", "serve 2\nend 1 3 1\n", "reply 2 0 1 0 notify\ngrant 1 3 busy 9\n", ""),
-        ("c", "serve 2\nend 1 3 1\n", "reply 2 0 1 0 notify\ngrant 1 3 busy 25\n", ""),
-        ("p", shut, "reply 2 0 1 0 notify\ngrant 1 3 busy 13\n", "grant 1 3 ended\n"),
+        (
+            "p",
+            "serve 2\nend 1 3 1\n",
+            "reply 2 0 1 0 notify\ngrant 1 3 busy 9\n",
+            "",
+        ),
+        (
+            "c",
+            "serve 2\nend 1 3 1\n",
+            "reply 2 0 1 0 notify\ngrant 1 3 busy 25\n",
+            "",
+        ),
+        (
+            "p",
+            shut,
+            "reply 2 0 1 0 notify\ngrant 1 3 busy 13\n",
+            "grant 1 3 ended\n",
+        ),
         (
             "c",
             shut,
@@ -161,7 +179,11 @@ fn a_tick_has_its_line(rt: HostRuntime) -> Result<(), Fail> {
     };
     let script = b"domain 1 wild 2 2\nsound 16 1 c p\ntick 16 1 5\n";
     let outcome = run_trial(rt.alloc(), trial, script)?;
-    expect_played(&rt, &outcome, b"host 16 tick 1 5\nrefused 16 notconnected\n");
+    expect_played(
+        &rt,
+        &outcome,
+        b"host 16 tick 1 5\nrefused 16 notconnected\n",
+    );
     Ok(())
 }
 

@@ -20,7 +20,7 @@ use Rattle.device_service.specs.Nodes.{Ringed, Ringless}
 use Rattle.device_service.specs.Parts.{answer_of as parts_answer, look_of, take_of}
 use Rattle.device_service.specs.Rows.{Hand}
 use Rattle.device_service.specs.Service.{Deed, Raises, Runs, Service}
-use Rattle.device_service.specs.Work.{Answered, End, Idles, Left, Looks, Renewed, Round, Saw, Sleeps, Slept, Took, Work, answer_of, choice, close, decides, decides_by, device, does_event, entered, in_round, looks_at, raises_if, said_at, serves_by, settled, sleep_all, takes_from, with_action, with_closing, with_hand, with_kept, with_left, with_owed, with_rings, with_state, with_waiting}
+use Rattle.device_service.specs.Work.{Answered, End, Idles, Left, Looks, Renewed, Round, Saw, Sleeps, Slept, Took, Work, answer_of, choice, close, decides, decides_by, device, does_event, entered, in_round, looks_at, raises_if, said_at, serves_by, settled, sleep_all, takes_from, with_action, with_closing, with_group, with_hand, with_kept, with_left, with_owed, with_rings, with_state, with_waiting}
 use Rattle.device_service.proofs.Deeds.{begins_as, comes_goes, may_as, may_mapped}
 
 positive : (n : ℕ) → 0 < n → (m : ℕ) × (n ≡ suc m)
@@ -116,8 +116,13 @@ module _ {X A V : Type 0} (s : Service X A V) (site : Site) where
       quiet_is : with_hand s site w h ≡ with_rings s w s.kind
       quiet_is = ap (with_hand s site w) none ∙ ap (with_waiting s w) (none_first w.waiting nobody)
 
-      pub ringless_is : s.kind ≡ Ringless → with_hand s site w h ≡ Rest w
-      ringless_is e = quiet_is ∙ ap (with_rings s w) e
+      -- without a ring, and where no group is due
+      pub ringless_is : s.kind ≡ Ringless → w.full ≡ false → s.groups.due w.service ≡ None → with_hand s site w h ≡ Rest w
+      ringless_is e f due =
+          quiet_is
+          ∙ (ap (with_rings s w) e
+          ∙ (ap (λ (b : Bool). with_group s w b (s.groups.due w.service)) f
+          ∙ (ap (with_group s w false) due ∙ ap (λ (b : Bool). Rest (record w { full = b })) (sym f))))
 
       rings_is : s.kind ≡ Ringed → with_hand s site w h ≡ with_left s w w.left
       rings_is e = quiet_is ∙ ap (with_rings s w) e
@@ -204,8 +209,8 @@ module _ {X A V : Type 0} (s : Service X A V) (site : Site) where
     waiting_busy v e = serves_busy w v (slice_get w.parts (s.at v)) ∙ order_busy (with_hand s site w h) _ (waiting_is w h none v e)
 
     module _ (nobody : slice_get w.waiting 0 ≡ None) where
-      pub ringless_busy : s.kind ≡ Ringless → false ≡ not (rests_next (with_hand s site w h))
-      ringless_busy e = order_busy (with_hand s site w h) (Rest w) (ringless_is w h none nobody e)
+      pub ringless_busy : s.kind ≡ Ringless → w.full ≡ false → s.groups.due w.service ≡ None → false ≡ not (rests_next (with_hand s site w h))
+      ringless_busy e f due = order_busy (with_hand s site w h) (Rest w) (ringless_is w h none nobody e f due)
 
       pub left_busy : s.kind ≡ Ringed → 0 < w.left → true ≡ not (rests_next (with_hand s site w h))
       left_busy e l =

@@ -31,7 +31,7 @@ use Rattle.device_service.specs.Activity.{StandsAs, is_leaving, is_working, may_
 use Rattle.device_service.specs.Parts.{Rests, doing_of, held_of, is_open, joined_of}
 use Rattle.device_service.specs.Service.{Service}
 use Rattle.device_service.specs.Stand.{known_in, leaving_plan, stand_at}
-use Rattle.device_service.specs.Work.{Work, End, Answered, Denied, Done, Lacked, Left, Met, Own, Raised, Renewed, Saw, Shut, Slept, Took, all_pages, device, leaving, entered, first_work, said_at, settled, shut}
+use Rattle.device_service.specs.Work.{Work, End, Answered, Denied, Done, Lacked, Left, Met, Own, Raised, Grouped, Renewed, Saw, Shut, Slept, Took, all_pages, device, leaving, entered, first_work, said_at, settled, shut}
 use Rattle.device_service.proofs.PartsLaws.{held_bare, held_open, joined_none}
 
 -- between two activities the parts rest
@@ -248,6 +248,7 @@ module _ {X A V : Type 0} (s : Service X A V) where
     closes_told Left why h = absurd h
     closes_told Renewed why h = absurd h
     closes_told (Raised part e p) why h = absurd h
+    closes_told (Grouped n p) why h = absurd h
 
     -- a step that goes out is one that begins
     pub comes_out : (p : Plan (End A V)) (access : Option Access) (event : Option Said) (new : Stand (Work X V) (End A V)) → GoesOut s site w p access event new → Comes s site w p access event new

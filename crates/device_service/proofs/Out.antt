@@ -17,7 +17,7 @@ use Rattle.device_service.specs.Dropping.{MayDrop}
 use Rattle.device_service.specs.Goes.{Begins, Closes, GoesOut}
 use Rattle.device_service.specs.Service.{Service}
 use Rattle.device_service.specs.Stand.{known_in, leaving_plan, stand_at, stand_in, stand_of, stuck, why_of, work_of}
-use Rattle.device_service.specs.Work.{Answered, Denied, Done, End, Lacked, Left, Met, Own, Raised, Renewed, Saw, Shut, Slept, Took, Work, choice, device, leaving, said_at, settled, shut}
+use Rattle.device_service.specs.Work.{Answered, Denied, Done, End, Lacked, Left, Met, Own, Raised, Grouped, Renewed, Saw, Shut, Slept, Took, Work, choice, device, leaving, said_at, settled, shut}
 
 module _ {X A V : Type 0} (s : Service X A V) (site : Site) where
   -- a step that begins what the order of work gives next
@@ -49,6 +49,7 @@ module _ {X A V : Type 0} (s : Service X A V) (site : Site) where
   why_is Left why h = absurd h
   why_is Renewed why h = absurd h
   why_is (Raised part e p) why h = absurd h
+  why_is (Grouped n p) why h = absurd h
 
   end_in : {B : Type 0} (x y : B) → Finished x ≡ Finished y → x ≡ y
   end_in x y e = cc

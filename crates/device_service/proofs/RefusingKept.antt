@@ -1,11 +1,18 @@
 -- The least service keeps its laws.
-use Rattle.std.proofs.Common.{ℕ, ◌≤◌, length, Option, Some, None, is_some, refl, ap}
+use Rattle.std.proofs.Common.{◌≡◌, ℕ, ◌≤◌, length, List, Option, Some, None, is_some, refl, ap}
 use Rattle.std.proofs.lemmas.Bool.{true≢false, false≢true}
 use Rattle.std.proofs.Math.Nat.{le-add_left}
 use Rattle.pv_words.specs.Plan.{Want, Note, Plain, Begins, Frames, Undoes, Ends, Takes, Puts, IsUntouched}
 use Rattle.device_service.specs.Claims.{KeepsLaws}
 use Rattle.device_service.specs.Laws.{IsRaise, IsTouching}
 use Rattle.device_service.specs.Refusing.{facts, refused, refusing, reply_to, shows_none}
+
+-- and no group is published
+none_due : (x : Option ℕ) (g : List (List ℕ)) → refusing.groups.due x ≡ Some g → ⊥
+none_due x g e = cc
+
+none_way : (x : Option ℕ) (g : List (List ℕ)) → refusing.groups.way x ≡ Some g → ⊥
+none_way x g e = cc
 
 short : (x : Option ℕ) → length (reply_to x) ≤ 16
 short None = le-add_left 16 0
@@ -66,6 +73,10 @@ keeps_laws frames grants dom parts =
       put_told = λ x e part m told q has i n. absurd (none_raised x e part i);
       full_told = λ x e part m told q has i n. absurd (none_raised x e part i);
       full_ends = λ x o q owes. refl;
+      chooses = λ x g q has due. absurd (none_due x g due);
+      chooses_shows = λ x g m q has due n. absurd (none_due x g due);
+      publishes = λ x g q has way. absurd (none_way x g way);
+      publishes_shows = λ x g m q has way n. absurd (none_way x g way);
       meets_plain = λ x want note u. u;
       meets = λ x m want note q n u. meets x m want note u;
     }

@@ -44,7 +44,7 @@ module _ {X A V Y M : Type 0} (D : Lawful X A V Y M) where
   open D use {s, t, r, known, frames, grants, dom, parts, l}
 
   -- a reason that is kept is due, as the words show that were found last
-  kept_due : (w : Work X V) (k : Carried Learned) (why : Reason) → w.kept ≡ Some why → IsKept w why → Tells s w k → IsDue D w k.own.found why
+  kept_due : (w : Work X V) (k : Carried Learned) (why : Reason) → w.kept ≡ Some why → IsKept t.kind w why → Tells s w k → IsDue D w k.own.found why
   kept_due w k (reason.Overrun prod rsp) has is e = (is.0, e.1 (reason.Overrun prod rsp) has, is.1)
   kept_due w k (reason.BadCons prod cons) has is e = (is.0, e.1 (reason.BadCons prod cons) has, is.1)
   kept_due w k (reason.Asked b) has is e = absurd is

@@ -10,7 +10,8 @@ use Rattle.link_core.specs.Activities.{Joined}
 use Rattle.device_core.specs.Told.{told_by}
 use Rattle.device_service.specs.Claims.{Tells}
 use Rattle.link_core.specs.Raise.{limit}
-use Rattle.device_service.specs.Reading.{Naming, Shows, all_gone, begins_by, begins_close, begins_event, begins_hand, begins_of, begins_owed, begins_part, begins_pays, begins_raise, begins_ready, begins_serve, begins_state, begins_waiting, begins_with, names_of, numbers, told_of}
+use Rattle.device_service.specs.Reading.{Naming, Shows, all_gone, begins_by, begins_close, begins_event, begins_group, begins_hand, begins_of, begins_owed, begins_page, begins_part, begins_pays, begins_publish, begins_raise, begins_ready, begins_rings, begins_serve, begins_state, begins_waiting, begins_with, names_of, numbers, told_of}
+use Rattle.device_service.specs.Nodes.{Kind, Ringed, Ringless}
 use Rattle.device_service.specs.Rows.{Hand, Table}
 use Rattle.device_service.specs.Service.{Deed, Owed, Raises, Runs, Service}
 use Rattle.device_service.specs.Work.{Work, part_of}
@@ -36,8 +37,25 @@ module _ {X A V Y M : Type 0} (s : Service X A V) (t : Table Y V) (r : Shows X Y
   none_serve e None = refl
   none_serve e (Some j) = none_event (s.event w.service e) j
 
+  none_publish : (b : Bool) → told_by told_of (begins_publish s t r w n b) ≡ []
+  none_publish true = refl
+  none_publish false = none_closing
+
+  none_page : (x : Option Joined) → told_by told_of (begins_page s t r w n x) ≡ []
+  none_page None = refl
+  none_page (Some j) = none_publish (nat_lt j.prod limit)
+
+  none_group : (b : Bool) (x : Option (List (List ℕ))) → told_by told_of (begins_group s t r w n b x) ≡ []
+  none_group false (Some g) = none_page (slice_get w.parts 0)
+  none_group false None = refl
+  none_group true x = refl
+
+  none_rings : (k : Kind) → told_by told_of (begins_rings s t r w n k) ≡ []
+  none_rings Ringed = refl
+  none_rings Ringless = none_group w.full (s.groups.due w.service)
+
   none_waiting : (es : List V) → told_by told_of (begins_waiting s t r w n es) ≡ []
-  none_waiting [] = refl
+  none_waiting [] = none_rings s.kind
   none_waiting (e ∷ es) = none_serve e (slice_get w.parts (s.at e))
 
   none_ready : (b : Bool) → told_by told_of (begins_ready s t r w n b) ≡ []

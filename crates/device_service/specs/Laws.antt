@@ -213,7 +213,26 @@ pub record Laws {X A V Y M : Type 0} (s : Service X A V) (t : Table Y V) (r : Sh
       → known.Named x m → IsTold t site e (r.rows x m) told (said.Full part) (r.rows (s.after_full x e) m)
   -- one that is owed and finds no room is owed no longer, so that the order of work goes on
   pub full_ends : (x : X) (o : Owed) → known.Sane x → s.owes x ≡ Some o → s.owes (s.after_full x None) ≡ None
-  -- 11. words of names: what touches none may be done, and what touches one is a word of a live name
+  -- 11. a group that is published: it is chosen, and then told, or finds no room
+  pub chooses :
+      (x : X) (g : List (List ℕ)) → known.Sane x → known.Has false x → s.groups.due x ≡ Some g
+      → known.Sane (s.groups.chosen x) × known.Has false (s.groups.chosen x) × (s.pages (s.groups.chosen x) ≡ s.pages x)
+      × (s.groups.way (s.groups.chosen x) ≡ Some g)
+  pub chooses_shows :
+      (x : X) (g : List (List ℕ)) (m : M) → known.Sane x → known.Has false x → s.groups.due x ≡ Some g → known.Named x m
+      → known.Named (s.groups.chosen x) m × t.Chooses (r.rows x m) (r.rows (s.groups.chosen x) m)
+      × (r.names (s.groups.chosen x) m ≡ r.names x m) × SameNumbers r x (s.groups.chosen x) m
+  pub publishes :
+      (x : X) (g : List (List ℕ)) → known.Sane x → known.Has false x → s.groups.way x ≡ Some g
+      → (known.Sane (s.groups.told x) × known.Has false (s.groups.told x) × (s.pages (s.groups.told x) ≡ s.pages x))
+      × (known.Sane (s.groups.untold x) × known.Has false (s.groups.untold x) × (s.pages (s.groups.untold x) ≡ s.pages x))
+  pub publishes_shows :
+      (x : X) (g : List (List ℕ)) (m : M) → known.Sane x → known.Has false x → s.groups.way x ≡ Some g → known.Named x m
+      → (known.Named (s.groups.told x) m × t.Publishes (r.rows x m) (said.Published (length g)) (r.rows (s.groups.told x) m)
+      × (r.names (s.groups.told x) m ≡ r.names x m))
+      × (known.Named (s.groups.untold x) m × t.Publishes (r.rows x m) (said.Full 0) (r.rows (s.groups.untold x) m)
+      × (r.names (s.groups.untold x) m ≡ r.names x m))
+  -- 12. words of names: what touches none may be done, and what touches one is a word of a live name
   pub meets_plain : (x : X) (want : Want) (note : Note) → IsUntouched note → known.Meets x want note
   pub meets :
       (x : X) (m : M) (want : Want) (note : Note) → known.Sane x → known.Named x m → known.Meets x want note

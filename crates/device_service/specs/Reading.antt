@@ -14,7 +14,8 @@ use Rattle.device_core.specs.Order.{Own, Spoke, Heard}
 use Rattle.device_core.specs.Site.{Site}
 use Rattle.link_core.specs.Activities.{Joined}
 use Rattle.link_core.specs.Raise.{limit}
-use Rattle.device_service.specs.Rows.{Table, Rows, Hand, Event, Says, Hears, Begins, Moves, makes, owes}
+use Rattle.device_service.specs.Nodes.{Kind, Ringed, Ringless}
+use Rattle.device_service.specs.Rows.{Table, Rows, Hand, Event, Says, Hears, Begins, Chooses, Moves, makes, owes}
 use Rattle.device_service.specs.Service.{Service, Owed, Deed, Runs, Raises}
 use Rattle.device_service.specs.Work.{Work, bus_of, End, Took, Answered, Met, Left, Renewed, part_of}
 
@@ -43,6 +44,7 @@ abbrev pub told_of : Event → Option Own
 told_of (Says what taken f) = Some (Spoke what)
 told_of (Hears news) = Some (Heard news)
 told_of Begins = None
+told_of Chooses = None
 
 -- the names of these numbers are gone
 abbrev pub all_gone : List ℕ → List (Happening Event)
@@ -82,8 +84,8 @@ module _ {X A V Y M : Type 0} (s : Service X A V) (t : Table Y V) (r : Shows X Y
   made_at w (Answered notified) = made_by w w.hand
   made_at w other = []
 
-  -- What a beginning is to the machine: a Connect that begins is something that happens to its rows; where a Close begins, all names
-  -- are gone, and where an activity of the request in hand does, those that the service tells.
+  -- What a beginning is to the machine: a Connect that begins is something that happens to its rows, and so is a Publish; where a
+  -- Close begins, all names are gone, and where an activity of the request in hand does, those that the service tells.
   abbrev pub begins_ready : Work X V → Naming M → Bool → List (Happening Event)
   begins_ready w n true = []
   begins_ready w n false = all_gone (r.goes w.service n.service)
@@ -104,8 +106,25 @@ module _ {X A V Y M : Type 0} (s : Service X A V) (t : Table Y V) (r : Shows X Y
   begins_serve w n e None = []
   begins_serve w n e (Some j) = begins_event w n (s.event w.service e) j
 
+  -- and so does a Publish there
+  abbrev pub begins_publish : Work X V → Naming M → Bool → List (Happening Event)
+  begins_publish w n true = Meanwhile Chooses ∷ []
+  begins_publish w n false = begins_close w n
+
+  abbrev pub begins_page : Work X V → Naming M → Option Joined → List (Happening Event)
+  begins_page w n None = []
+  begins_page w n (Some j) = begins_publish w n (nat_lt j.prod limit)
+
+  abbrev pub begins_group : Work X V → Naming M → Bool → Option (List (List ℕ)) → List (Happening Event)
+  begins_group w n false (Some g) = begins_page w n (slice_get w.parts 0)
+  begins_group w n full due = []
+
+  abbrev pub begins_rings : Work X V → Naming M → Kind → List (Happening Event)
+  begins_rings w n Ringed = []
+  begins_rings w n Ringless = begins_group w n w.full (s.groups.due w.service)
+
   abbrev pub begins_waiting : Work X V → Naming M → List V → List (Happening Event)
-  begins_waiting w n [] = []
+  begins_waiting w n [] = begins_rings w n s.kind
   begins_waiting w n (e ∷ es) = begins_serve w n e (slice_get w.parts (s.at e))
 
   abbrev pub begins_part : Work X V → Naming M → Option Joined → List (Happening Event)

@@ -7,7 +7,7 @@ use Rattle.device_service.specs.Laws.{Facts}
 use Rattle.device_service.specs.Nodes.{Ringed}
 use Rattle.device_service.specs.Reading.{Shows}
 use Rattle.device_service.specs.Rows.{Table}
-use Rattle.device_service.specs.Service.{Service, Works, Runs}
+use Rattle.device_service.specs.Service.{Service, Works, Runs, no_groups}
 
 abbrev pub not_supported : ℤ
 not_supported = negsuc 94
@@ -38,6 +38,7 @@ refusing =
       put = λ x e. said.Blank 0;
       after_put = λ x e. x;
       after_full = λ x e. x;
+      groups = no_groups;
       says = λ x a. None;
       after = λ x a. x;
       waits = λ e. None;
@@ -55,6 +56,8 @@ refused =
       Tells = λ site old told what new. ⊥;
       Serves = λ site old e told what new. ⊥;
       Pays = λ site old told what new. ⊥;
+      Chooses = λ old new. ⊥;
+      Publishes = λ old what new. ⊥;
       IsStatus = λ y status. status ≡ not_supported;
       replied = λ y n status. tt;
       makes = λ y status. false;

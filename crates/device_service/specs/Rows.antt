@@ -19,9 +19,9 @@ use Rattle.host_events.specs.Queue.{unless}
 use Rattle.device_core.specs.Order.{News, Sets, Hosts}
 use Rattle.device_core.specs.Site.{Site}
 use Rattle.device_core.specs.Touched.{Touch}
-use Rattle.device_service.specs.Nodes.{Kind, IsAskedFor, needs_of}
+use Rattle.device_service.specs.Nodes.{Kind, Ringed, Ringless, IsAskedFor, needs_of}
 pub use Rattle.device_service.specs.declared.round.Hand.{Hand}
-use Rattle.link_core.specs.Raise.{limit, slots}
+use Rattle.link_core.specs.Raise.{limit, event_layout, input_layout}
 
 -- the request of these words, by this part
 abbrev pub hand_in : ℕ → List ℕ → Hand
@@ -45,6 +45,9 @@ pub record Table (Y V : Type 0) : Type 1 where
   pub Tells : Site → Y → Evidence → Said → Y → Type 0
   pub Serves : Site → Y → V → Evidence → Said → Y → Type 0
   pub Pays : Site → Y → Evidence → Said → Y → Type 0
+  -- a Publish begins, and its group is chosen; what is said of that group at its end
+  pub Chooses : Y → Y → Type 0
+  pub Publishes : Y → Said → Y → Type 0
   -- a status that answers the request in hand, what the reply of this number makes of the rows, and whether it makes a name
   pub IsStatus : Y → ℤ → Type 0
   pub replied : Y → ℕ → ℤ → Y
@@ -63,11 +66,18 @@ pub record Rows (Y V : Type 0) : Type 0 where
   pub service : Y
 
 -- What happens to the machine: what the device says, with the words that it had taken, if they are a request's, and the words that
--- its accesses found last; a state of the frontend, while the nodes stand so, or an event of the host; and a Connect that begins.
+-- its accesses found last; a state of the frontend, while the nodes stand so, or an event of the host; a Connect that begins; and a
+-- Publish whose group is chosen.
 pub data Event : Type 0 where
   Says : Said → List ℕ → Found → Event
   Hears : News → Event
   Begins : Event
+  Chooses : Event
+
+-- how many events an event page has room for
+abbrev pub slots_in : Kind → ℕ
+slots_in Ringed = event_layout.slots
+slots_in Ringless = input_layout.slots
 
 -- A device's own causes to close a connection: the index that was found last is more than a ring, or an event page, apart from the
 -- device's own; or the device's own index of an event page is spent; or, in a Connect, the map of a node's reference was refused, as
@@ -75,7 +85,7 @@ pub data Event : Type 0 where
 abbrev pub IsOwnCause : Kind → Site → Bus → Found → Reason → Type 0
 IsOwnCause kind site bus f (reason.Overrun prod rsp) = (bus.connection.back ≡ state.Connected) × (f.word ≡ Some prod) × (32 < since rsp prod)
 IsOwnCause kind site bus f (reason.BadCons prod cons) =
-    (bus.connection.back ≡ state.Connected) × (f.word ≡ Some cons) × (slots < since cons prod)
+    (bus.connection.back ≡ state.Connected) × (f.word ≡ Some cons) × (slots_in kind < since cons prod)
 IsOwnCause kind site bus f (reason.Spent prod) = (bus.connection.back ≡ state.Connected) × (limit ≤ prod)
 IsOwnCause kind site bus f (reason.Refused why) =
     (bus.connecting ≡ true) × ((gref : ℕ) × IsAskedFor kind site bus.read gref × IsShown site.frames site.grants gref Write f why)
@@ -153,12 +163,34 @@ module _ {Y V : Type 0} (t : Table Y V) where
     pub pays : t.Pays site old.service told what service
     pub done : new ≡ record old { service = service }
 
+  -- a Publish begins where no request is in hand, and no event waits
+  pub record Chosen (old new : Rows Y V) : Type 0 where
+    pub serving : IsServing old
+    pub none : old.hand ≡ None
+    pub idle : old.waiting ≡ []
+    pub service : Y
+    pub chooses : t.Chooses old.service service
+    pub done : new ≡ record old { service = service }
+
+  -- its group is put, or finds no room
+  pub record Published (old : Rows Y V) (what : Said) (new : Rows Y V) : Type 0 where
+    pub serving : IsServing old
+    pub none : old.hand ≡ None
+    pub service : Y
+    pub publishes : t.Publishes old.service what service
+    pub done : new ≡ record old { service = service }
+
+  -- what a service says
+  abbrev pub SaysOwn : Site → Rows Y V → Evidence → Said → Rows Y V → Type 0
+  SaysOwn site old told what new =
+      Own site old told what new ⊎ (Served site old told what new ⊎ (Paid site old told what new ⊎ Published old what new))
+
   abbrev pub Tells : Site → Rows Y V → Evidence → Said → List ℕ → Rows Y V → Type 0
   Tells site old told (said.Request part id op) taken new = Requests site old part id op taken new
   Tells site old told (said.Replied part id status notified) taken new = Replies old part id status new
   Tells site old told (said.Closed why) taken new = Closes site old told.found why new
   Tells site old told (said.State b) taken new = Enters site old b new
-  Tells site old told other taken new = Own site old told other new ⊎ (Served site old told other new ⊎ Paid site old told other new)
+  Tells site old told other taken new = SaysOwn site old told other new
 
   abbrev pub Moves : Site → Rows Y V → List Touch → Event → Rows Y V → Type 0
   Moves site old touched (Says what taken f) new = Tells site old (record { touched = touched; found = f }) what taken new
@@ -166,6 +198,7 @@ module _ {Y V : Type 0} (t : Table Y V) where
   Moves site old touched (Hears (Hosts e)) new =
       new ≡ record old { waiting = unless (t.refusal old.bus.connection.back old.waiting e) old.waiting (t.waits e) }
   Moves site old touched Begins new = MayConnect old.bus × (new ≡ record old { bus = bus_begun old.bus })
+  Moves site old touched Chooses new = Chosen old new
 
   -- the number of the name that something makes: that of the reply
   abbrev pub makes : Rows Y V → Event → Option ℕ

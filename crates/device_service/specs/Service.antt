@@ -1,6 +1,6 @@
 -- What a device's service is to its order of work: X is what the service knows, A how an activity of its own ends, and V an event
 -- of its host that waits.
-use Rattle.std.specs.Prelude.{◌≡◌, ℕ, ℤ, Bool, List, Option}
+use Rattle.std.specs.Prelude.{◌≡◌, ℕ, ℤ, Bool, List, Option, None}
 use Rattle.pv_words.specs.declared.device.HostEvent.{HostEvent}
 use Rattle.pv_words.specs.declared.device.HostRefusal.{HostRefusal}
 use Rattle.pv_words.specs.declared.device.NodeValue.{NodeValue}
@@ -29,6 +29,20 @@ pub data Deed (A : Type 0) : Type 0 where
   Runs : Plan A → Deed A
   Raises : (ℕ → List ℕ) → Deed A
 
+-- What a service without a ring publishes: groups of events, each a list of its words. No group is due while one is under way.
+pub record Groups (X : Type 0) : Type 0 where
+  -- the group that is to be published next, and the one that is under way
+  pub due : X → Option (List (List ℕ))
+  pub way : X → Option (List (List ℕ))
+  -- a Publish begins, of the group that is due; the one under way is told; it found no room
+  pub chosen : X → X
+  pub told : X → X
+  pub untold : X → X
+
+-- a service with rings publishes none
+abbrev pub no_groups : {X : Type 0} → Groups X
+no_groups = record { due = λ x. None; way = λ x. None; chosen = λ x. x; told = λ x. x; untold = λ x. x }
+
 pub record Service (X A V : Type 0) : Type 0 where
   pub kind : Kind
   -- What it knows once a state is taken, by what it knew and the nodes that the last Connect read: no page is held, and no request is
@@ -55,6 +69,8 @@ pub record Service (X A V : Type 0) : Type 0 where
   pub put : X → Option V → Said
   pub after_put : X → Option V → X
   pub after_full : X → Option V → X
+  -- the groups of events that it publishes
+  pub groups : Groups X
   -- what is said at the end of an activity of the service, and what it then knows
   pub says : X → A → Option Said
   pub after : X → A → X

@@ -82,6 +82,7 @@ module _ {S E : Type 0} {g : Ghosts S E} where
         at = d.at;
         left = d.left;
         round = d.round;
+        full = false;
         waiting = d.waiting;
         service = known_in g.service.stripped (is_leaving d.activity) (g.knows d.service);
       }

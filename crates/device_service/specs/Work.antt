@@ -1,5 +1,6 @@
 -- The order of work of a device, whatever its service.
-use Rattle.std.specs.Prelude.{ℕ, zero, suc, ◌+◌, ◌-◌, nat_lt, Bool, true, false, List, [], ◌∷◌, ◌++◌, Option, Some, None, Result, Ok, Err, slice_get, slice_set, if◌then◌else◌}
+use Rattle.std.specs.Prelude.{ℕ, zero, suc, ◌+◌, ◌-◌, nat_lt, Bool, true, false, List, [], ◌∷◌, ◌++◌, length, Option, Some, None, Result, Ok, Err, slice_get, slice_set, if◌then◌else◌}
+use Rattle.std.specs.List.{flat_map}
 use Rattle.pv_words.specs.declared.device.HostEvent.{HostEvent}
 use Rattle.pv_words.specs.declared.device.HostRefusal.{HostRefusal}
 use Rattle.pv_words.specs.declared.device.NodeValue.{NodeValue}
@@ -29,7 +30,8 @@ use Rattle.xenbus_states.specs.Needs.{Problem, first_fault}
 use Rattle.device_service.specs.Nodes.{Kind, Ringed, Ringless, Refs, needs_of, refs_from}
 use Rattle.link_core.specs.declared.link.Put.{Put}
 use Rattle.link_core.specs.declared.link.Put.TheVariants as put
-use Rattle.link_core.specs.Raise.{put_plan, limit}
+use Rattle.link_core.specs.Link.{published_of}
+use Rattle.link_core.specs.Raise.{put_plan, put_events, input_layout, limit}
 use Rattle.device_service.specs.Rows.{Hand, hand_in}
 pub use Rattle.device_service.specs.declared.round.Round.{Round}
 pub use Rattle.device_service.specs.declared.round.Round.TheVariants.{Looks, Sleeps, Idles}
@@ -53,6 +55,8 @@ pub record Work (X V : Type 0) : Type 0 where
   pub at : ℕ
   pub left : ℕ
   pub round : Round
+  -- a Publish found no room since the device last rested
+  pub full : Bool
   -- the host's events that wait
   pub waiting : List V
   -- what its service knows
@@ -82,6 +86,8 @@ pub data End (A V : Type 0) : Type 0 where
   Renewed : End A V
   -- an event of this part: of a waiting one, or one that was owed
   Raised : ℕ → Option V → Put → End A V
+  -- a group of so many events
+  Grouped : ℕ → Put → End A V
 
 -- the page of a part's ring
 abbrev pub ring_hold : Hold → Option Hold → Hold
@@ -143,10 +149,19 @@ abbrev pub counted : List Joined → ℕ → Option Joined → List Joined
 counted parts part None = parts
 counted parts part (Some j) = slice_set parts part (record j { rsp = next_index j.rsp })
 
--- the part has one event more
+-- the part has so many events more, or one
+abbrev pub with_events : ℕ → List Joined → ℕ → Option Joined → List Joined
+with_events n parts part None = parts
+with_events n parts part (Some j) = slice_set parts part (published_of n j)
+
 abbrev pub with_event : List Joined → ℕ → Option Joined → List Joined
-with_event parts part None = parts
-with_event parts part (Some j) = slice_set parts part (record j { prod = next_index j.prod })
+with_event parts part x = with_events 1 parts part x
+
+-- what is said at a Publish's end
+abbrev pub group_said : ℕ → Put → Option Said
+group_said n put.Done = Some (said.Published n)
+group_said n put.Full = Some (said.Full 0)
+group_said n other = None
 
 -- the events that wait once this one is done, or one that was owed
 abbrev pub waits_after : {V : Type 0} → Option V → List V → List V
@@ -188,10 +203,24 @@ module _ {X A V : Type 0} (s : Service X A V) where
   with_left w (suc n) = takes_from w (slice_get w.parts w.at)
   with_left w zero = in_round w w.round
 
-  -- a device without a ring has no request, and nothing to sleep on
+  -- Publish, where in_prod isn't spent
+  abbrev pub publishes_if : Work X V → List (List ℕ) → Joined → Bool → Order (Work X V) (End A V)
+  publishes_if w g j true = Act (record w { service = s.groups.chosen w.service }) (mapped (Grouped (length g)) (put_events input_layout (page_at j.event) j.prod (length g) (flat_map (λ e. e) g)))
+  publishes_if w g j false = close w (reason.Spent j.prod)
+
+  abbrev pub publishes_at : Work X V → List (List ℕ) → Option Joined → Order (Work X V) (End A V)
+  publishes_at w g None = nothing w
+  publishes_at w g (Some j) = publishes_if w g j (nat_lt j.prod limit)
+
+  -- the group that is due, unless one found no room since the device last rested
+  abbrev pub with_group : Work X V → Bool → Option (List (List ℕ)) → Order (Work X V) (End A V)
+  with_group w false (Some g) = publishes_at w g (slice_get w.parts 0)
+  with_group w full due = Rest (record w { full = false })
+
+  -- a device without a ring has no request, and nothing to sleep on: it publishes in its one page
   abbrev pub with_rings : Work X V → Kind → Order (Work X V) (End A V)
   with_rings w Ringed = with_left w w.left
-  with_rings w Ringless = Rest w
+  with_rings w Ringless = with_group w w.full (s.groups.due w.service)
 
   -- Answer
   abbrev pub answer_of : X → Joined → Plan (End A V)
@@ -270,7 +299,7 @@ module _ {X A V : Type 0} (s : Service X A V) where
   -- raised; the frontend's ending state closes the connection; a closed backend whose frontend started anew waits again; one that
   -- waits for a ready frontend connects; one that isn't connected rests; a request in hand leads to what its service does for it,
   -- and then is answered; the oldest of the host's events that wait is done; a request that is left of the last Look is taken;
-  -- then the round goes on.
+  -- then the round goes on. A device without a ring publishes in place of the last two.
   unfoldable pub choice : Site → Work X V → Order (Work X V) (End A V)
   choice site w = with_closing site w w.closing
 
@@ -295,13 +324,20 @@ module _ {X A V : Type 0} (s : Service X A V) where
   -- the backend's state is this, in which its service has no request or page yet, or no longer, and no event waits
   abbrev pub entered : Work X V → State → Work X V
   entered w b =
-      record w { connection = moved_to w.connection b; connecting = false; closing = false; hand = None; waiting = []; service = s.begun w.service w.read }
+      record w { connection = moved_to w.connection b; connecting = false; closing = false; hand = None; full = false; waiting = []; service = s.begun w.service w.read }
 
   abbrev pub after_raise : Work X V → ℕ → Option V → Put → Work X V
   after_raise w part e put.Done = record w { parts = with_event w.parts part (slice_get w.parts part); waiting = waits_after e w.waiting; service = s.after_put w.service e }
   after_raise w part e put.Full = record w { waiting = waits_after e w.waiting; service = s.after_full w.service e }
   after_raise w part e (put.BadCons prod cons) = record w { kept = Some (reason.BadCons prod cons) }
   after_raise w part e (put.Spent prod) = record w { kept = Some (reason.Spent prod) }
+
+  -- Where in_cons is false, the group stays under way until the connection is closed for it.
+  abbrev pub after_group : Work X V → ℕ → Put → Work X V
+  after_group w n put.Done = record w { parts = with_events n w.parts 0 (slice_get w.parts 0); service = s.groups.told w.service }
+  after_group w n put.Full = record w { full = true; service = s.groups.untold w.service }
+  after_group w n (put.BadCons prod cons) = record w { kept = Some (reason.BadCons prod cons) }
+  after_group w n (put.Spent prod) = record w { kept = Some (reason.Spent prod) }
 
   abbrev pub raise_said : Work X V → ℕ → Option V → Put → Option Said
   raise_said w part e put.Done = Some (s.put w.service e)
@@ -323,6 +359,7 @@ module _ {X A V : Type 0} (s : Service X A V) where
   settled site w Left = entered w state.Closed
   settled site w Renewed = entered w state.InitWait
   settled site w (Raised part e p) = after_raise w part e p
+  settled site w (Grouped n p) = after_group w n p
 
   abbrev pub replied_in : Work X V → Option Hand → Bool → Option Said
   replied_in w None notified = None
@@ -343,6 +380,7 @@ module _ {X A V : Type 0} (s : Service X A V) where
   said_at w Left = Some (said.State state.Closed)
   said_at w Renewed = Some (said.State state.InitWait)
   said_at w (Raised part e p) = raise_said w part e p
+  said_at w (Grouped n p) = group_said n p
 
   -- why an event of the host is refused, if it is
   abbrev pub refused_at : Work X V → HostEvent → Option HostRefusal
@@ -359,7 +397,7 @@ module _ {X A V : Type 0} (s : Service X A V) where
 -- a device that is declared, whose service knows this: it waits for its frontend
 abbrev pub first_work : {X V : Type 0} → X → Work X V
 first_work x =
-    record { connection = first_connection; seen = no_nodes; read = no_nodes; connecting = false; closing = false; parts = []; kept = None; hand = None; at = 0; left = 0; round = Looks 0 false; waiting = []; service = x }
+    record { connection = first_connection; seen = no_nodes; read = no_nodes; connecting = false; closing = false; parts = []; kept = None; hand = None; at = 0; left = 0; round = Looks 0 false; full = false; waiting = []; service = x }
 
 abbrev pub first_station : {X A V : Type 0} → X → Station (Work X V) (End A V)
 first_station x = at_stand (Between (first_work x))

@@ -1,6 +1,6 @@
 //! What a service gives, and owes.
 
-ghost use Rattle.std.specs.Prelude.{◌≡◌, ◌<◌, ◌==◌, ℕ, Bool, List, [], Option, Some, false, length, slice_get, true};
+ghost use Rattle.std.specs.Prelude.{◌≡◌, ◌<◌, ◌==◌, ℕ, Bool, List, [], None, Option, Some, false, length, slice_get, true};
 ghost use Rattle.pv_words.specs.declared.device.HostEvent.{HostEvent};
 ghost use Rattle.pv_words.specs.declared.device.NodeValue.{NodeValue};
 ghost use Rattle.pv_words.specs.declared.device.State.{State};
@@ -81,6 +81,9 @@ pub trait Serve {
 
     /// A reply has sixteen words.
     ghost whole_replies: { (x : Known) → length (service.reply x) ≡ 16 };
+
+    /// It publishes no group.
+    ghost ungrouped: { (x : Known) → service.groups.due x ≡ None };
 
     /// An event of the host is refused where the backend isn't connected, or else 64 wait.
     ghost refuses: { (b : State) (es : List Self.Event) (e : HostEvent) → service.refusal b es e ≡ refusal_of b es };

@@ -8,13 +8,14 @@ use Rattle.ring_words.specs.Ring.{next_index, looked_of, slot_of, since}
 use Rattle.link_core.specs.declared.link.Put.{Put}
 use Rattle.link_core.specs.declared.link.Put.TheVariants as put
 use Rattle.link_core.specs.declared.link.event.Layout.{Layout}
+use Rattle.link_core.specs.Link.{published_of}
 use Rattle.link_core.specs.Raise.{IsInPage, event_place, publish_events, put_events, unless_barred, word_at}
 use Rattle.std.proofs.lemmas.Bool.Decides.{nat_tests}
 use Rattle.link_core.specs.Activities.{Joined, page_at, stores, slot_place, pages_of, hold_list, look_plan, take_plan, answer_plan}
 use Rattle.link_core.specs.Activities as link
 use Rattle.link_core.proofs.PlanFits.{fits_loads, fits_stores}
 use Rattle.link_core.proofs.Slots.{in_page}
-use Rattle.device_service.specs.Work.{ring_hold, ring_page, all_pages, sleep_all, sleeps_on, counted, with_event}
+use Rattle.device_service.specs.Work.{ring_hold, ring_page, all_pages, sleep_all, sleeps_on, counted, with_events}
 use Rattle.device_service.proofs.Soundness.Plans.{Fit, IsOwn, AllOwn, own_in, own_behind, may_load, may_store}
 use Rattle.device_service.proofs.Soundness.Same.{IsIn, in_left, in_right}
 
@@ -51,14 +52,14 @@ set_pages (x ∷ js) zero i j e same =
     let is : x ≡ i = cc in ap (λ y. y ++ all_pages js) (same ∙ ap (λ (y : Joined). pages_of y) (sym is))
 set_pages (x ∷ js) (suc k) i j e same = ap (λ y. pages_of x ++ y) (set_pages js k i j e same)
 
--- a part that has one event more has its pages still
-pub evented_pages : (js : List Joined) (k : ℕ) (x : Option Joined) → slice_get js k ≡ x → all_pages (with_event js k x) ≡ all_pages js
-evented_pages js k None e = refl
-evented_pages js k (Some j) e = set_pages js k j (record j { prod = next_index j.prod }) e refl
+-- a part that has more events has its pages still
+pub evented_pages : (n : ℕ) (js : List Joined) (k : ℕ) (x : Option Joined) → slice_get js k ≡ x → all_pages (with_events n js k x) ≡ all_pages js
+evented_pages n js k None e = refl
+evented_pages n js k (Some j) e = set_pages js k j (published_of n j) e refl
 
-pub evented_length : (js : List Joined) (k : ℕ) (x : Option Joined) → length (with_event js k x) ≡ length js
-evented_length js k None = refl
-evented_length js k (Some j) = length-set js k (record j { prod = next_index j.prod })
+pub evented_length : (n : ℕ) (js : List Joined) (k : ℕ) (x : Option Joined) → length (with_events n js k x) ≡ length js
+evented_length n js k None = refl
+evented_length n js k (Some j) = length-set js k (published_of n j)
 
 -- one part more
 pub pages_last : (js : List Joined) (j : Joined) → all_pages (js ++ j ∷ []) ≡ all_pages js ++ pages_of j
@@ -70,9 +71,9 @@ pub counted_none : (js : List Joined) (k : ℕ) (x : Option Joined) → js ≡ [
 counted_none js k None e = e
 counted_none js k (Some j) e = ap (λ (is : List Joined). slice_set is k (record j { rsp = next_index j.rsp })) e
 
-pub evented_none : (js : List Joined) (k : ℕ) (x : Option Joined) → js ≡ [] → with_event js k x ≡ []
-evented_none js k None e = e
-evented_none js k (Some j) e = ap (λ (is : List Joined). slice_set is k (record j { prod = next_index j.prod })) e
+pub evented_none : (n : ℕ) (js : List Joined) (k : ℕ) (x : Option Joined) → js ≡ [] → with_events n js k x ≡ []
+evented_none n js k None e = e
+evented_none n js k (Some j) e = ap (λ (is : List Joined). slice_set is k (published_of n j)) e
 
 -- a part that counts a reply has its pages still
 pub counted_pages : (js : List Joined) (k : ℕ) (x : Option Joined) → slice_get js k ≡ x → all_pages (counted js k x) ≡ all_pages js

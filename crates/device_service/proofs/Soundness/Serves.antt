@@ -1,5 +1,6 @@
 -- What a connected device chooses to do begins as it should: the request in hand, an event that waits or is owed, and the round.
 use Rattle.std.proofs.Common.{◌≡◌, inl, inr, ℕ, zero, suc, ◌<◌, ◌≤◌, nat_lt, Bool, true, false, List, [], ◌∷◌, ◌++◌, Option, Some, None, is_some, refl, sym, ◌∙◌, ap, subst, arith, length, slice_get}
+use Rattle.std.specs.List.{flat_map}
 use Rattle.std.proofs.lemmas.Bool.Decides.{nat_tests}
 use Rattle.std.proofs.lemmas.Option.{slice_get_within}
 use Rattle.pv_words.specs.declared.device.Reason.TheVariants as reason
@@ -18,24 +19,30 @@ use Rattle.link_core.specs.Activities.{Joined, look_plan, take_plan}
 use Rattle.link_core.proofs.Shown.{found_any, looks_show, take_none}
 use Rattle.device_core.specs.Learned.{Learned, learning}
 use Rattle.device_core.specs.Machine.{Snapshot}
-use Rattle.device_core.specs.Names.{Name, all_drawn, is_worded}
+use Rattle.device_core.specs.Names.{Name, Sight, all_drawn, is_worded}
 use Rattle.device_core.specs.Order.{Offers}
-use Rattle.device_core.specs.Touched.{Carried, carrying}
+use Rattle.device_core.specs.Touched.{Carried, Touch, carrying}
 use Rattle.device_service.specs.Laws.{AreHeld, Leads, WantsFor}
 use Rattle.device_service.specs.Nodes.{Kind, Ringed, Ringless}
 use Rattle.link_core.specs.declared.link.Put.{Put}
 use Rattle.link_core.specs.declared.link.Put.TheVariants as put
-use Rattle.link_core.specs.Raise.{event_layout, put_plan, limit}
-use Rattle.device_service.specs.Reading.{all_gone, rows_of, begins_event, begins_part, begins_raise, begins_ready, begins_serve, begins_waiting, begins_hand}
-use Rattle.device_service.specs.Rows.{Hand, Rows}
+use Rattle.link_core.specs.Raise.{event_layout, input_layout, put_events, put_plan, limit}
+use Rattle.device_service.specs.Reading.{Naming, all_gone, rows_of, begins_event, begins_group, begins_page, begins_part, begins_publish, begins_raise, begins_ready, begins_rings, begins_serve, begins_waiting, begins_hand}
+use Rattle.device_service.specs.Rows.{Hand, Rows, slots_in}
 use Rattle.device_service.specs.Service.{Job, Works, Starves, Deed, Runs, Raises}
-use Rattle.device_service.specs.Work.{Work, Round, Looks, Sleeps, Idles, End, Saw, Took, Own, Done, Slept, Raised, all_pages, sleep_all, ring_page, with_event, raises_if, does_event, answer_of, looks_at, in_round, takes_from, with_left, with_rings, does, decides, decides_by, part_of, serves_by, with_waiting, with_hand, after_look, after_sleep, after_raise, settled}
+use Rattle.device_service.specs.Work.{Work, Round, Looks, Sleeps, Idles, End, Saw, Took, Own, Done, Slept, Raised, Grouped, all_pages, sleep_all, ring_page, with_event, with_events, raises_if, does_event, answer_of, looks_at, in_round, takes_from, with_left, publishes_if, publishes_at, with_group, with_rings, does, decides, decides_by, part_of, serves_by, with_waiting, with_hand, after_look, after_sleep, after_raise, after_group, settled}
 use Rattle.device_service.proofs.Soundness.Begins.{BeginsSo, RunsTo, answer_fits, begins_leaving, begins_nothing, chosen, lost_run, mapped_fits, opened_at, page_held, ring_held, ring_own, run_to, same_work, shown_of, touched_of, unkept_found}
 use Rattle.device_service.proofs.Soundness.Found.{put_shows, sleeps_none}
 use Rattle.device_service.proofs.Soundness.Parts.{event_in, evented_pages, fits_look, fits_take, fits_sleeps, fits_put}
 use Rattle.device_service.proofs.Soundness.Plans.{own_in}
 use Rattle.device_service.proofs.Soundness.Settles.{found_index, no_reason}
-use Rattle.device_service.proofs.Soundness.Work.{Lawful, held_pages, KeptFound, IsFoundIn, Tells, IsServing, site, learned, IsSane, IsRaising, EndsWell, EndsSo, EndsFoundSo, look_pages, sleep_pages}
+use Rattle.device_service.proofs.Soundness.Tells.{numbers_same}
+use Rattle.device_service.proofs.Soundness.Work.{Lawful, held_pages, KeptFound, IsFoundIn, Tells, IsServing, site, learned, IsNamed, IsSane, IsRaising, IsPublishing, EndsWell, EndsSo, EndsFoundSo, look_pages, sleep_pages}
+
+-- more than the slots of displif.h and sndif.h are more than those of any page
+many_slots : (kind : Kind) (n : ℕ) → event_layout.slots < n → slots_in kind < n
+many_slots Ringed n h = h
+many_slots Ringless n h = omega arith
 
 module _ {X A V Y M : Type 0} (D : Lawful X A V Y M) where
   open D use {s, t, r, known, frames, grants, dom, parts, l}
@@ -56,10 +63,19 @@ module _ {X A V Y M : Type 0} (D : Lawful X A V Y M) where
   pub raise_pages : (w : Work X V) (part : ℕ) (e : Option V) (p : Put) → IsSane D w → IsRaising D w part e → held_pages s (after_raise s w part e p) ≡ held_pages s w
   raise_pages w part e put.Done q i =
       let k = (l.raises w.service e part q.sane i.has i.raise).0 in
-      ap (λ hs. hs ++ all_pages (with_event w.parts part (slice_get w.parts part))) k.2 ∙ ap (λ hs. s.pages w.service ++ hs) (evented_pages w.parts part (slice_get w.parts part) refl)
+      ap (λ hs. hs ++ all_pages (with_event w.parts part (slice_get w.parts part))) k.2 ∙ ap (λ hs. s.pages w.service ++ hs) (evented_pages 1 w.parts part (slice_get w.parts part) refl)
   raise_pages w part e put.Full q i = ap (λ hs. hs ++ all_pages w.parts) (l.raises w.service e part q.sane i.has i.raise).1.2
   raise_pages w part e (put.BadCons prod cons) q i = refl
   raise_pages w part e (put.Spent prod) q i = refl
+
+  -- and those after a Publish
+  pub group_pages : (w : Work X V) (n : ℕ) (p : Put) → IsSane D w → IsPublishing D w n → held_pages s (after_group s w n p) ≡ held_pages s w
+  group_pages w n put.Done q i =
+      let k = (l.publishes w.service i.group q.sane i.has i.way).0 in
+      ap (λ hs. hs ++ all_pages (with_events n w.parts 0 (slice_get w.parts 0))) k.2 ∙ ap (λ hs. s.pages w.service ++ hs) (evented_pages n w.parts 0 (slice_get w.parts 0) refl)
+  group_pages w n put.Full q i = ap (λ hs. hs ++ all_pages w.parts) (l.publishes w.service i.group q.sane i.has i.way).1.2
+  group_pages w n (put.BadCons prod cons) q i = refl
+  group_pages w n (put.Spent prod) q i = refl
 
   module _ (w v : Work X V) (p : Plan (End A V)) (q : IsSane D w) (none : w.kept ≡ None) where
     begins_look : (k : ℕ) (x : Option Joined) → IsServing w → slice_get w.parts k ≡ x → Offers (looks_at s w x) v p → BeginsSo D w v p (λ n. [])
@@ -108,9 +124,78 @@ module _ {X A V Y M : Type 0} (D : Lawful X A V Y M) where
     begins_left zero serving empty o = begins_round w.round serving o
     begins_left (suc n) serving empty o = begins_take (slice_get w.parts w.at) serving empty refl o
 
-    begins_rings : (kind : Kind) → IsServing w → w.hand ≡ None → Offers (with_rings s w kind) v p → BeginsSo D w v p (λ n. [])
-    begins_rings Ringed serving empty o = begins_left w.left serving empty o
-    begins_rings Ringless serving empty o = absurd o
+    -- a group is put
+    module _ (g : List (List ℕ)) (j : Joined) (serving : IsServing w) (empty : w.hand ≡ None) (idle : w.waiting ≡ []) (ringless : s.kind ≡ Ringless) (due : s.groups.due w.service ≡ Some g) (at : slice_get w.parts 0 ≡ Some j) where
+      abbrev publishing : Work X V
+      publishing = record w { service = s.groups.chosen w.service }
+
+      publishing_sane : IsSane D publishing
+      publishing_sane =
+          let c = l.chooses w.service g q.sane (has_none 0 j empty at) due in
+          record {
+            own = q.own;
+            whole = q.whole;
+            sane = c.0;
+            opened = inr (serving, subst (λ (z : Option Hand). known.Has (is_some z) (s.groups.chosen w.service)) (sym empty) c.1);
+            kept = q.kept;
+          }
+
+      is_publishing : IsPublishing D publishing (length g)
+      is_publishing =
+          let c = l.chooses w.service g q.sane (has_none 0 j empty at) due in
+          record { serving = serving; none = empty; has = c.1; group = g; way = c.3; many = refl }
+
+      few_slots : (n : ℕ) → input_layout.slots < n → slots_in t.kind < n
+      few_slots n h = subst (λ k. slots_in k < n) (sym ringless ∙ l.kind_is) h
+
+      publishing_runs : (n : Naming M) (sight : Sight) (ts : List Touch) → IsNamed D w n → IsNamed D publishing n × RunsTo D sight (shown_of D w n sight ts) (begins_publish s t r w n true) (shown_of D publishing n sight ts)
+      publishing_runs n sight ts named =
+          let b = l.chooses_shows w.service g n.service q.sane (has_none 0 j empty at) due named in (
+            b.0,
+            (
+              shown_of D publishing n sight ts,
+              record {
+                free = refl;
+                move = record { serving = serving; none = empty; idle = idle; service = r.rows (s.groups.chosen w.service) n.service; chooses = b.1; done = refl };
+                names = ap (all_drawn sight) b.2;
+                touched = numbers_same (λ key. r.number (s.groups.chosen w.service) n.service key) (λ key. r.number w.service n.service key) b.3 ts;
+                owes = refl;
+              },
+              refl,
+            ),
+          )
+
+      begins_putting : (b : Bool) → nat_lt j.prod limit ≡ b → Offers (publishes_if s w g j b) v p → BeginsSo D w v p (λ n. begins_publish s t r w n b)
+      unfolding settled
+      begins_putting true is o =
+          let many = length g in
+          let words = flat_map (λ e. e) g in
+          let plan = put_events input_layout (link.page_at j.event) j.prod many words in
+          let own = own_in frames grants dom j.event (all_pages w.parts) q.own (event_in w.parts 0 j at) in
+          let same = (l.chooses w.service g q.sane (has_none 0 j empty at) due).2 in
+          let there : held_pages s publishing ≡ held_pages s w = ap (λ hs. hs ++ all_pages w.parts) same in
+          let fits = λ (c : Carried Learned) (x : Tells s w c). mapped_fits D publishing c (λ y. Grouped many y) plan x.0.0
+          (fits_put frames grants dom c.own.holds.held input_layout (omega arith, omega arith, omega arith) j.event own (page_held D w c.own.holds j.event x.0 (event_in w.parts 0 j at)) (λ z y. EndsSo D publishing z (Grouped many y)) j.prod many words
+          ((refl, subst (λ y. AreSame c.own.holds.held y) (sym (group_pages publishing many put.Done publishing_sane is_publishing ∙ there)) x.0.1), (is_publishing, tt))
+          ((refl, subst (λ y. AreSame c.own.holds.held y) (sym (group_pages publishing many put.Full publishing_sane is_publishing ∙ there)) x.0.1), (is_publishing, tt))
+          (λ cons bad. ((refl, subst (λ y. AreSame c.own.holds.held y) (sym there) x.0.1), (is_publishing, few_slots _ bad))))
+          (put_shows (λ f y. EndsFoundSo D publishing f (Grouped many y)) (λ f. ((λ why h. absurd (no_reason w.kept why none h)), λ ts. tt)) (λ f. ((λ why h. absurd (no_reason w.kept why none h)), λ ts. tt)) input_layout (link.page_at j.event) j.prod many words c.own.found
+          (λ f cons word bad. ((λ why h. let same : reason.BadCons j.prod cons ≡ why = cc in subst (λ z. IsFoundIn f z) same word), λ ts. word))) in
+          chosen D w v publishing p (mapped (λ y. Grouped many y) plan) (λ n. begins_publish s t r w n true) (publishing_sane, fits, publishing_runs) o
+      begins_putting false is o = begins_leaving D w v p q (reason.Spent j.prod) (λ k x. (serving.0, grind (arith, nat_tests, is))) serving.1 o
+
+    begins_publishing : (g : List (List ℕ)) (x : Option Joined) → IsServing w → w.hand ≡ None → w.waiting ≡ [] → s.kind ≡ Ringless → s.groups.due w.service ≡ Some g → slice_get w.parts 0 ≡ x → Offers (publishes_at s w g x) v p → BeginsSo D w v p (λ n. begins_page s t r w n x)
+    begins_publishing g None serving empty idle ringless due at o = begins_nothing D w v p q serving o
+    begins_publishing g (Some j) serving empty idle ringless due at o = begins_putting g j serving empty idle ringless due at (nat_lt j.prod limit) refl o
+
+    begins_grouping : (b : Bool) (x : Option (List (List ℕ))) → IsServing w → w.hand ≡ None → w.waiting ≡ [] → s.kind ≡ Ringless → s.groups.due w.service ≡ x → Offers (with_group s w b x) v p → BeginsSo D w v p (λ n. begins_group s t r w n b x)
+    begins_grouping false (Some g) serving empty idle ringless due o = begins_publishing g (slice_get w.parts 0) serving empty idle ringless due refl o
+    begins_grouping false None serving empty idle ringless due o = absurd o
+    begins_grouping true x serving empty idle ringless due o = absurd o
+
+    begins_ringing : (kind : Kind) → IsServing w → w.hand ≡ None → w.waiting ≡ [] → s.kind ≡ kind → Offers (with_rings s w kind) v p → BeginsSo D w v p (λ n. begins_rings s t r w n kind)
+    begins_ringing Ringed serving empty idle is o = begins_left w.left serving empty o
+    begins_ringing Ringless serving empty idle is o = begins_grouping w.full (s.groups.due w.service) serving empty idle is refl o
 
     -- the activity of the request in hand
     module _ (h : Hand) (serving : IsServing w) (has : w.hand ≡ Some h) (come : known.Has true w.service) where
@@ -176,7 +261,7 @@ module _ {X A V Y M : Type 0} (D : Lawful X A V Y M) where
         (fits_put frames grants dom c.own.holds.held event_layout (omega arith, omega arith, omega arith) j.event own (page_held D w c.own.holds j.event x.0 (event_in w.parts part j at)) (λ z y. EndsSo D w z (Raised part e y)) j.prod 1 (words j.prod)
         ((refl, subst (λ y. AreSame c.own.holds.held y) (sym (raise_pages w part e put.Done q i)) x.0.1), (i, tt))
         ((refl, subst (λ y. AreSame c.own.holds.held y) (sym (raise_pages w part e put.Full q i)) x.0.1), (i, tt))
-        (λ cons bad. ((refl, x.0.1), (i, bad))))
+        (λ cons bad. ((refl, x.0.1), (i, many_slots t.kind _ bad))))
         (put_shows (λ f y. EndsFoundSo D w f (Raised part e y)) (λ f. ((λ why h. absurd (no_reason w.kept why none h)), λ ts. tt)) (λ f. ((λ why h. absurd (no_reason w.kept why none h)), λ ts. tt)) event_layout (link.page_at j.event) j.prod 1 (words j.prod) c.own.found
         (λ f cons word bad. ((λ why h. let same : reason.BadCons j.prod cons ≡ why = cc in subst (λ z. IsFoundIn f z) same word), λ ts. word))) in
         chosen D w v w p (mapped (λ y. Raised part e y) plan) (λ n. []) (same_work D w v p q (mapped (λ y. Raised part e y) plan) fits) o
@@ -200,7 +285,7 @@ module _ {X A V Y M : Type 0} (D : Lawful X A V Y M) where
     begins_serving x xs (Some j) serving empty is at o = begins_deed x xs (s.event w.service x) j serving empty is at refl o
 
     begins_wait : (xs : List V) → IsServing w → w.hand ≡ None → w.waiting ≡ xs → Offers (with_waiting s w xs) v p → BeginsSo D w v p (λ n. begins_waiting s t r w n xs)
-    begins_wait [] serving empty is o = begins_rings s.kind serving empty o
+    begins_wait [] serving empty is o = begins_ringing s.kind serving empty is refl o
     begins_wait (x ∷ xs) serving empty is o = begins_serving x xs (slice_get w.parts (s.at x)) serving empty is refl o
 
     pub begins_with_hand : (x : Option Hand) → IsServing w → w.hand ≡ x → Offers (with_hand s (site D) w x) v p → BeginsSo D w v p (λ n. begins_hand s t r w n x)

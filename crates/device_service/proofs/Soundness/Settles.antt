@@ -26,11 +26,11 @@ use Rattle.link_core.specs.Raise.{limit}
 use Rattle.device_service.specs.Reading.{Naming}
 use Rattle.device_service.specs.Rows.{Hand}
 use Rattle.device_service.specs.Service.{Service, Job, Works, Starves, Owed, Deed, Runs, Raises}
-use Rattle.device_service.specs.Work.{Work, Round, Looks, Sleeps, Idles, End, Saw, Took, Own, Done, Answered, Slept, Met, Denied, Lacked, Shut, Left, Renewed, Raised, all_pages, raises_if, does_event, pays, with_owed, looks_at, in_round, takes_from, with_left, with_rings, does, decides, decides_by, part_of, serves_by, with_waiting, with_hand, with_state, with_action, with_kept, with_closing, choice, device, after_look, after_sleep, after_answer, after_raise, shut, entered, settled}
+use Rattle.device_service.specs.Work.{Work, Round, Looks, Sleeps, Idles, End, Saw, Took, Own, Done, Answered, Slept, Met, Denied, Lacked, Shut, Left, Renewed, Raised, Grouped, all_pages, raises_if, does_event, pays, with_owed, looks_at, in_round, takes_from, with_left, publishes_if, publishes_at, with_group, with_rings, does, decides, decides_by, part_of, serves_by, with_waiting, with_hand, with_state, with_action, with_kept, with_closing, choice, device, after_look, after_sleep, after_answer, after_raise, after_group, shut, entered, settled}
 use Rattle.xenbus_states.proofs.Actions.{closed_apart}
 use Rattle.device_service.proofs.Soundness.Parts.{counted_pages, counted_length, counted_none, evented_pages, evented_length, evented_none}
 use Rattle.device_service.proofs.Soundness.Plans.{AllOwn}
-use Rattle.device_service.proofs.Soundness.Work.{Lawful, Tells, IsServing, IsKept, IsPut, site, learned, IsNamed, IsBare, IsSane, IsRaising, EndsWell, bare_unless}
+use Rattle.device_service.proofs.Soundness.Work.{Lawful, Tells, IsServing, IsKept, IsPut, site, learned, IsNamed, IsBare, IsSane, IsRaising, IsPublishing, EndsWell, bare_unless}
 
 -- an overrun is true
 found_in : (b c : Bool) (ready prod rsp x y : ℕ) → (c ≡ false → 32 < ready) → cond b looked.Nothing (cond c (looked.Ready ready) (looked.Overrun prod rsp)) ≡ looked.Overrun x y → (x ≡ prod) × ((y ≡ rsp) × (32 < ready))
@@ -74,7 +74,7 @@ module _ {X A V Y M : Type 0} (D : Lawful X A V Y M) where
         sane = q.sane;
         opened = q.opened;
         kept = λ why h. let same : reason.Overrun x y ≡ why = cc in
-            subst (λ z. IsKept w z × (w.closing ≡ false)) same ((serving.0, overrun_found rsp prod x y e), serving.1);
+            subst (λ z. IsKept t.kind w z × (w.closing ≡ false)) same ((serving.0, overrun_found rsp prod x y e), serving.1);
       }
 
   shut_sane : (w : Work X V) → IsSane D w → s.pages w.service ≡ [] → IsSane D (shut s w)
@@ -116,12 +116,12 @@ module _ {X A V Y M : Type 0} (D : Lawful X A V Y M) where
       let b = l.served w.service e.1.0 k.own.found k.touched a q.sane e.0.2 e.1.3 in
       record { own = q.own; whole = q.whole; sane = b.0; opened = inr (e.0.0, subst (λ (x : Option Hand). known.Has (is_some x) (s.after w.service a)) (sym e.0.1) b.1); kept = q.kept }
 
-  raise_sane : (w : Work X V) (part : ℕ) (e : Option V) (p : Put) → IsSane D w → IsRaising D w part e → IsPut p → IsSane D (after_raise s w part e p)
+  raise_sane : (w : Work X V) (part : ℕ) (e : Option V) (p : Put) → IsSane D w → IsRaising D w part e → IsPut t.kind p → IsSane D (after_raise s w part e p)
   raise_sane w part e put.Done q i put =
       let k = (l.raises w.service e part q.sane i.has i.raise).0 in
       record {
-        own = subst (λ hs. AllOwn frames grants dom hs) (sym (evented_pages w.parts part (slice_get w.parts part) refl)) q.own;
-        whole = elim q.whole [ inl none ↦ inl (evented_none w.parts part (slice_get w.parts part) none) | inr all ↦ inr (evented_length w.parts part (slice_get w.parts part) ∙ all) ];
+        own = subst (λ hs. AllOwn frames grants dom hs) (sym (evented_pages 1 w.parts part (slice_get w.parts part) refl)) q.own;
+        whole = elim q.whole [ inl none ↦ inl (evented_none 1 w.parts part (slice_get w.parts part) none) | inr all ↦ inr (evented_length 1 w.parts part (slice_get w.parts part) ∙ all) ];
         sane = k.0;
         opened = inr (i.serving, subst (λ (x : Option Hand). known.Has (is_some x) (s.after_put w.service e)) (sym i.none) k.1);
         kept = q.kept;
@@ -137,7 +137,31 @@ module _ {X A V Y M : Type 0} (D : Lawful X A V Y M) where
         sane = q.sane;
         opened = q.opened;
         kept = λ why h. let same : reason.BadCons prod cons ≡ why = cc in
-            subst (λ z. IsKept w z × (w.closing ≡ false)) same ((i.serving.0, put), i.serving.1);
+            subst (λ z. IsKept t.kind w z × (w.closing ≡ false)) same ((i.serving.0, put), i.serving.1);
+      }
+
+  group_sane : (w : Work X V) (n : ℕ) (p : Put) → IsSane D w → IsPublishing D w n → IsPut t.kind p → IsSane D (after_group s w n p)
+  group_sane w n put.Done q i put =
+      let k = (l.publishes w.service i.group q.sane i.has i.way).0 in
+      record {
+        own = subst (λ hs. AllOwn frames grants dom hs) (sym (evented_pages n w.parts 0 (slice_get w.parts 0) refl)) q.own;
+        whole = elim q.whole [ inl none ↦ inl (evented_none n w.parts 0 (slice_get w.parts 0) none) | inr all ↦ inr (evented_length n w.parts 0 (slice_get w.parts 0) ∙ all) ];
+        sane = k.0;
+        opened = inr (i.serving, subst (λ (x : Option Hand). known.Has (is_some x) (s.groups.told w.service)) (sym i.none) k.1);
+        kept = q.kept;
+      }
+  group_sane w n put.Full q i put =
+      let k = (l.publishes w.service i.group q.sane i.has i.way).1 in
+      record { own = q.own; whole = q.whole; sane = k.0; opened = inr (i.serving, subst (λ (x : Option Hand). known.Has (is_some x) (s.groups.untold w.service)) (sym i.none) k.1); kept = q.kept }
+  group_sane w n (put.Spent prod) q i found = absurd found
+  group_sane w n (put.BadCons prod cons) q i put =
+      record {
+        own = q.own;
+        whole = q.whole;
+        sane = q.sane;
+        opened = q.opened;
+        kept = λ why h. let same : reason.BadCons prod cons ≡ why = cc in
+            subst (λ z. IsKept t.kind w z × (w.closing ≡ false)) same ((i.serving.0, put), i.serving.1);
       }
 
   -- a state in which the service has nothing
@@ -181,15 +205,16 @@ module _ {X A V Y M : Type 0} (D : Lawful X A V Y M) where
   settles w (Shut why) k q e = shut_sane w q e.0.1
   settles w Left k q e = left_sane w q e.0
   settles w (Raised part x p) k q e = raise_sane w part x p q e.0.0 e.0.1
+  settles w (Grouped n p) k q e = group_sane w n p q e.0.0 e.0.1
   settles w Renewed k q e = renewed_sane w q e.0.1 e.0.3
 
--- a device that rests keeps all but its place in the round
+-- a device that rests keeps all but its place in the round, and that there was no room
 abbrev IsPaused : {X V : Type 0} → Work X V → Work X V → Type 0
-IsPaused w v = (x : Round) × (record w { round = x } ≡ v)
+IsPaused w v = (x : Round) × (b : Bool) × (record w { round = x; full = b } ≡ v)
 
 module _ {X A V : Type 0} (s : Service X A V) (w v : Work X V) where
   paused : ◌≡◌ {A = Order (Work X V) (End A V)} (Rest w) (Rest v) → IsPaused w v
-  paused e = let same : w ≡ v = cc in (w.round, same)
+  paused e = let same : w ≡ v = cc in (w.round, w.full, same)
 
   rests_look : (x : Option Joined) → looks_at s w x ≡ Rest v → IsPaused w v
   rests_look None e = let wrong : ⊥ = cc in absurd wrong
@@ -198,7 +223,7 @@ module _ {X A V : Type 0} (s : Service X A V) (w v : Work X V) where
   rests_round : (x : Round) → in_round s w x ≡ Rest v → IsPaused w v
   rests_round (Looks part served) e = rests_look (slice_get w.parts part) e
   rests_round Sleeps e = let wrong : ⊥ = cc in absurd wrong
-  rests_round Idles e = let same : record w { round = Looks 0 false } ≡ v = cc in (Looks 0 false, same)
+  rests_round Idles e = let same : record w { round = Looks 0 false } ≡ v = cc in (Looks 0 false, w.full, same)
 
   rests_take : (x : Option Joined) → takes_from s w x ≡ Rest v → IsPaused w v
   rests_take None e = let wrong : ⊥ = cc in absurd wrong
@@ -208,9 +233,25 @@ module _ {X A V : Type 0} (s : Service X A V) (w v : Work X V) where
   rests_left zero e = rests_round w.round e
   rests_left (suc n) e = rests_take (slice_get w.parts w.at) e
 
+  rests_publishing : (g : List (List ℕ)) (j : Joined) (b : Bool) → publishes_if s w g j b ≡ Rest v → IsPaused w v
+  rests_publishing g j true e = let wrong : ⊥ = cc in absurd wrong
+  rests_publishing g j false e = let wrong : ⊥ = cc in absurd wrong
+
+  rests_page : (g : List (List ℕ)) (x : Option Joined) → publishes_at s w g x ≡ Rest v → IsPaused w v
+  rests_page g None e = let wrong : ⊥ = cc in absurd wrong
+  rests_page g (Some j) e = rests_publishing g j (nat_lt j.prod limit) e
+
+  emptied : ◌≡◌ {A = Order (Work X V) (End A V)} (Rest (record w { full = false })) (Rest v) → IsPaused w v
+  emptied e = let same : record w { full = false } ≡ v = cc in (w.round, false, same)
+
+  rests_group : (b : Bool) (x : Option (List (List ℕ))) → with_group s w b x ≡ Rest v → IsPaused w v
+  rests_group false (Some g) e = rests_page g (slice_get w.parts 0) e
+  rests_group false None e = emptied e
+  rests_group true x e = emptied e
+
   rests_rings : (k : Kind) → with_rings s w k ≡ Rest v → IsPaused w v
   rests_rings Ringed e = rests_left w.left e
-  rests_rings Ringless e = paused e
+  rests_rings Ringless e = rests_group w.full (s.groups.due w.service) e
 
   rests_raise : (x : Option V) (part : ℕ) (words : ℕ → List ℕ) (j : Joined) (b : Bool) → raises_if s w x part words j b ≡ Rest v → IsPaused w v
   rests_raise x part words j true e = let wrong : ⊥ = cc in absurd wrong
@@ -285,5 +326,5 @@ module _ {X A V Y M : Type 0} (D : Lawful X A V Y M) where
   pub rests : (w v : Work X V) → IsSane D w → choice s (site D) w ≡ Rest v → RestsAs w v
   rests w v q e =
       let same = pauses s w v (site D) e in
-      subst (λ x. RestsAs w x) same.1
+      subst (λ x. RestsAs w x) same.2
       (record { own = q.own; whole = q.whole; sane = q.sane; opened = q.opened; kept = q.kept }, (λ k h. (h, (λ n named. (named, record { rows = refl; names = refl; numbers = refl })))))

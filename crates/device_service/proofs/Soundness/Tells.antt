@@ -26,9 +26,9 @@ use Rattle.device_service.specs.Reading.{Naming, rows_of, names_of, unnamed, nam
 use Rattle.device_service.specs.Rows.{Table, Rows, Hand, Evidence, Says, Enters, hand_in, makes}
 use Rattle.device_service.specs.Rows as rows
 use Rattle.xenbus_states.specs.Bus.{bus_closed}
-use Rattle.device_service.specs.Work.{Work, bus_of, End, Saw, Took, Own, Done, Answered, Slept, Met, Denied, Lacked, Shut, Left, Renewed, Raised, waits_after, with_event, after_look, after_sleep, after_answer, after_raise, shut, entered, settled, replied_in, raise_said, said_at, device}
+use Rattle.device_service.specs.Work.{Work, bus_of, End, Saw, Took, Own, Done, Answered, Slept, Met, Denied, Lacked, Shut, Left, Renewed, Raised, Grouped, waits_after, with_event, with_events, after_look, after_sleep, after_answer, after_raise, after_group, shut, entered, settled, replied_in, raise_said, group_said, said_at, device}
 use Rattle.xenbus_states.proofs.Actions.{renews_from, closed_apart}
-use Rattle.device_service.proofs.Soundness.Work.{Lawful, site, learned, IsNamed, IsDue, IsSane, IsShut, IsRaising, EndsWell, bare_unless}
+use Rattle.device_service.proofs.Soundness.Work.{Lawful, site, learned, IsNamed, IsDue, IsSane, IsShut, IsRaising, IsPublishing, EndsWell, bare_unless}
 
 same_said : (a b : Said) → Some a ≡ Some b → a ≡ b
 same_said a b e = cc
@@ -43,7 +43,7 @@ numbers_same f g e [] = refl
 numbers_same f g e (x ∷ xs) = ap (λ y. y ∷ map (numbered f) xs) (one_same f g e x) ∙ ap (λ ys. numbered g x ∷ ys) (numbers_same f g e xs)
 
 module _ {Y V : Type 0} (t : Table Y V) (of : Site) (old new : Rows Y V) (told : Evidence) where
-  pub own_moves : (what : Said) → IsOfService what → rows.Own t of old told what new ⊎ (rows.Served t of old told what new ⊎ rows.Paid t of old told what new) → rows.Tells t of old told what [] new
+  pub own_moves : (what : Said) → IsOfService what → rows.SaysOwn t of old told what new → rows.Tells t of old told what [] new
   own_moves (said.State b) i h = absurd i
   own_moves (said.Request part id op) i h = absurd i
   own_moves (said.Denied why) i h = h
@@ -101,6 +101,12 @@ module _ {X A V Y M : Type 0} (D : Lawful X A V Y M) where
   raise_keeps w n ts part e (put.BadCons prod cons) named f = (named, record { rows = refl; names = refl; numbers = refl })
   raise_keeps w n ts part e (put.Spent prod) named f = (named, record { rows = refl; names = refl; numbers = refl })
 
+  group_keeps : (w : Work X V) (n : Naming M) (ts : List Touch) (k : ℕ) (p : Put) → IsNamed D w n → group_said k p ≡ None → Keeps w (after_group s w k p) n ts
+  group_keeps w n ts k put.Done named f = let wrong : ⊥ = cc in absurd wrong
+  group_keeps w n ts k put.Full named f = let wrong : ⊥ = cc in absurd wrong
+  group_keeps w n ts k (put.BadCons prod cons) named f = (named, record { rows = refl; names = refl; numbers = refl })
+  group_keeps w n ts k (put.Spent prod) named f = (named, record { rows = refl; names = refl; numbers = refl })
+
   always_replies : (w : Work X V) (x : Option Hand) (b : Bool) (h : Hand) → x ≡ Some h → replied_in s w x b ≡ None → ⊥
   always_replies w None b h e n = cc
   always_replies w (Some k) b h e n = cc
@@ -119,6 +125,7 @@ module _ {X A V Y M : Type 0} (D : Lawful X A V Y M) where
   quiet w (Shut why) k n q e named f = let wrong : ⊥ = cc in absurd wrong
   quiet w Left k n q e named f = let wrong : ⊥ = cc in absurd wrong
   quiet w (Raised part x p) k n q e named f = raise_keeps w n k.touched part x p named f
+  quiet w (Grouped m p) k n q e named f = group_keeps w n k.touched m p named f
   quiet w Renewed k n q e named f = let wrong : ⊥ = cc in absurd wrong
 
   -- what is said is a move of the machine
@@ -184,8 +191,8 @@ module _ {X A V Y M : Type 0} (D : Lawful X A V Y M) where
   abbrev raised_to : Work X V → Option V → X → List Joined → Work X V
   raised_to w e y js = record w { parts = js; waiting = waits_after e w.waiting; service = y }
 
-  tells_event : (w : Work X V) (k : Carried Learned) (part : ℕ) (e : Option V) (y : X) (js : List Joined) (n : Naming M) (what : Said) → IsRaising D w part e → IsTold t (site D) e (r.rows w.service n.service) (told_by w k n) what (r.rows y n.service) → rows.Own t (site D) (row w n) (told_by w k n) what (row (raised_to w e y js) n) ⊎ (rows.Served t (site D) (row w n) (told_by w k n) what (row (raised_to w e y js) n) ⊎ rows.Paid t (site D) (row w n) (told_by w k n) what (row (raised_to w e y js) n))
-  tells_event w k part None y js n what i told = inr (inr (record { serving = i.serving; none = i.none; service = r.rows y n.service; pays = told; done = refl }))
+  tells_event : (w : Work X V) (k : Carried Learned) (part : ℕ) (e : Option V) (y : X) (js : List Joined) (n : Naming M) (what : Said) → IsRaising D w part e → IsTold t (site D) e (r.rows w.service n.service) (told_by w k n) what (r.rows y n.service) → rows.SaysOwn t (site D) (row w n) (told_by w k n) what (row (raised_to w e y js) n)
+  tells_event w k part None y js n what i told = inr (inr (inl (record { serving = i.serving; none = i.none; service = r.rows y n.service; pays = told; done = refl })))
   tells_event w k part (Some e) y js n what i told =
       inr (inl (record { serving = i.serving; none = i.none; event = e; later = i.oldest.0; oldest = i.oldest.1; service = r.rows y n.service; serves = told; done = ap (λ (xs : List V). let x : Rows Y V = record (row w n) { waiting = behind xs; service = r.rows y n.service } in x) i.oldest.1 }))
 
@@ -204,6 +211,20 @@ module _ {X A V Y M : Type 0} (D : Lawful X A V Y M) where
       (shows.0, record { move = tells_event w k part e (s.after_full w.service e) w.parts n (said.Full part) i b; names = λ sight. ap (all_drawn sight) shows.1 })
   tells_raise w k part e (put.BadCons prod cons) n what q i named f = let wrong : ⊥ = cc in absurd wrong
   tells_raise w k part e (put.Spent prod) n what q i named f = let wrong : ⊥ = cc in absurd wrong
+
+  -- what is said of a group that is put, or finds no room
+  tells_group : (w : Work X V) (k : Carried Learned) (m : ℕ) (p : Put) (n : Naming M) (what : Said) → IsSane D w → IsPublishing D w m → IsNamed D w n → group_said m p ≡ Some what → TellsSo w k n what [] [] (after_group s w m p) n
+  tells_group w k m put.Done n what q i named f =
+      let b = (l.publishes_shows w.service i.group n.service q.sane i.has i.way named).0 in
+      let says = subst (λ (x : ℕ). t.Publishes (r.rows w.service n.service) (said.Published x) (r.rows (s.groups.told w.service) n.service)) i.many b.1 in
+      tells_as w k n (said.Published m) what [] [] (after_group s w m put.Done) n f
+      (b.0, record { move = inr (inr (inr (record { serving = i.serving; none = i.none; service = r.rows (s.groups.told w.service) n.service; publishes = says; done = refl }))); names = λ sight. ap (all_drawn sight) b.2 })
+  tells_group w k m put.Full n what q i named f =
+      let b = (l.publishes_shows w.service i.group n.service q.sane i.has i.way named).1 in
+      tells_as w k n (said.Full 0) what [] [] (after_group s w m put.Full) n f
+      (b.0, record { move = inr (inr (inr (record { serving = i.serving; none = i.none; service = r.rows (s.groups.untold w.service) n.service; publishes = b.1; done = refl }))); names = λ sight. ap (all_drawn sight) b.2 })
+  tells_group w k m (put.BadCons prod cons) n what q i named f = let wrong : ⊥ = cc in absurd wrong
+  tells_group w k m (put.Spent prod) n what q i named f = let wrong : ⊥ = cc in absurd wrong
 
   tells_reply : (w : Work X V) (k : Carried Learned) (h : Hand) (b : Bool) (n : Naming M) → IsSane D w → EndsWell D w k (Answered b) → w.hand ≡ Some h → IsNamed D w n → TellsSo w k n (said.Replied h.part h.id (s.status w.service) b) [] (made_by s t r w (Some h)) (after_answer s w (Some h)) (named_by s t r w (Some h) n)
   tells_reply w k h b n q e has named =
@@ -262,5 +283,6 @@ module _ {X A V Y M : Type 0} (D : Lawful X A V Y M) where
   tells w Left k what n q e named f =
       tells_state w (entered s w state.Closed) k n state.Closed what (e.0, entered_rows w n state.Closed named) refl (bare_unless D w q (λ serving. true≢false (sym e.0 ∙ serving.1))).1 named f
   tells w (Raised part x p) k what n q e named f = tells_raise w k part x p n what q e.0.0 named f
+  tells w (Grouped m p) k what n q e named f = tells_group w k m p n what q e.0.0 named f
   tells w Renewed k what n q e named f =
       tells_state w (entered s w state.InitWait) k n state.InitWait what ((e.0.0, renews_from w.connection e.0.1 e.0.2), entered_rows w n state.InitWait named) refl (bare_unless D w q (λ serving. closed_apart w.connection.back e.0.1 serving.0)).1 named f

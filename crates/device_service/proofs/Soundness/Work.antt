@@ -29,11 +29,10 @@ use Rattle.device_service.specs.Laws.{Facts, Laws, AreHeld, IsRaise}
 use Rattle.device_service.specs.Nodes.{Kind, needs_of}
 use Rattle.link_core.specs.declared.link.Put.{Put}
 use Rattle.link_core.specs.declared.link.Put.TheVariants as put
-use Rattle.link_core.specs.Raise.{slots}
 use Rattle.device_service.specs.Reading.{Naming, Shows, reading, rows_of}
-use Rattle.device_service.specs.Rows.{Table, Rows, Hand, Event, Hears, IsOwnCause, IsReason, owes}
+use Rattle.device_service.specs.Rows.{Table, Rows, Hand, Event, Hears, IsOwnCause, IsReason, owes, slots_in}
 use Rattle.device_service.specs.Service.{Service}
-use Rattle.device_service.specs.Work.{Work, bus_of, End, Saw, Took, Own, Done, Answered, Slept, Met, Denied, Lacked, Shut, Left, Renewed, Raised, all_pages, after_look, after_sleep, after_answer, after_raise, device, refused_at, replied_in, raise_said, said_at, settled, told}
+use Rattle.device_service.specs.Work.{Work, bus_of, End, Saw, Took, Own, Done, Answered, Slept, Met, Denied, Lacked, Shut, Left, Renewed, Raised, Grouped, all_pages, after_look, after_sleep, after_answer, after_raise, after_group, device, refused_at, replied_in, raise_said, group_said, said_at, settled, told}
 use Rattle.device_service.proofs.Soundness.Plans.{AllOwn}
 
 -- a service of a device of this domain, how it is read, and that it keeps its laws
@@ -75,10 +74,10 @@ abbrev pub HasHand : {X V : Type 0} → Work X V → Type 0
 HasHand w = (h : Hand) × (w.hand ≡ Some h)
 
 -- a reason that is kept: the two indices are more than a ring, or an event page, apart
-abbrev pub IsKept : {X V : Type 0} → Work X V → Reason → Type 0
-IsKept w (reason.Overrun prod rsp) = (w.connection.back ≡ state.Connected) × (32 < since rsp prod)
-IsKept w (reason.BadCons prod cons) = (w.connection.back ≡ state.Connected) × (slots < since cons prod)
-IsKept w other = ⊥
+abbrev pub IsKept : {X V : Type 0} → Kind → Work X V → Reason → Type 0
+IsKept kind w (reason.Overrun prod rsp) = (w.connection.back ≡ state.Connected) × (32 < since rsp prod)
+IsKept kind w (reason.BadCons prod cons) = (w.connection.back ≡ state.Connected) × (slots_in kind < since cons prod)
+IsKept kind w other = ⊥
 
 -- all parts are there, or none
 abbrev pub HasParts : {X V : Type 0} → ℕ → Work X V → Type 0
@@ -89,11 +88,11 @@ IsOldest None vs = Unit {0}
 IsOldest (Some e) vs = (later : List _) × (vs ≡ e ∷ later)
 
 -- an index that is false is more than an event page away
-abbrev pub IsPut : Put → Type 0
-IsPut put.Done = Unit {0}
-IsPut put.Full = Unit {0}
-IsPut (put.BadCons prod cons) = slots < since cons prod
-IsPut (put.Spent prod) = ⊥
+abbrev pub IsPut : Kind → Put → Type 0
+IsPut kind put.Done = Unit {0}
+IsPut kind put.Full = Unit {0}
+IsPut kind (put.BadCons prod cons) = slots_in kind < since cons prod
+IsPut kind (put.Spent prod) = ⊥
 
 abbrev pub PutFound : Found → Put → Type 0
 PutFound f (put.BadCons prod cons) = f.word ≡ Some cons
@@ -144,7 +143,7 @@ module _ {X A V Y M : Type 0} (D : Lawful X A V Y M) where
     pub whole : HasParts parts w
     pub sane : known.Sane w.service
     pub opened : IsBare w ⊎ (IsServing w × known.Has (is_some w.hand) w.service)
-    pub kept : (why : Reason) → w.kept ≡ Some why → IsKept w why × (w.closing ≡ false)
+    pub kept : (why : Reason) → w.kept ≡ Some why → IsKept t.kind w why × (w.closing ≡ false)
 
   pub bare_unless : (w : Work X V) → IsSane w → (IsServing w → ⊥) → IsBare w
   bare_unless w q apart = elim q.opened [ inl bare ↦ bare | inr o ↦ absurd (apart o.0) ]
@@ -161,6 +160,15 @@ module _ {X A V Y M : Type 0} (D : Lawful X A V Y M) where
     pub raise : IsRaise s w.service e part
     pub oldest : IsOldest e w.waiting
 
+  -- a group of so many events is put
+  pub record IsPublishing (w : Work X V) (n : ℕ) : Type 0 where
+    pub serving : IsServing w
+    pub none : w.hand ≡ None
+    pub has : known.Has false w.service
+    pub group : List (List ℕ)
+    pub way : s.groups.way w.service ≡ Some group
+    pub many : length group ≡ n
+
   -- how an activity ends, of the work in which it was chosen
   abbrev pub EndsHeld : Work X V → End A V → Type 0
   EndsHeld w (Saw x) = IsServing w × ((rsp : ℕ) × (prod : ℕ) × (x ≡ looked_of rsp prod))
@@ -176,7 +184,8 @@ module _ {X A V Y M : Type 0} (D : Lawful X A V Y M) where
   EndsHeld w (Shut why) = IsShut w
   EndsHeld w Left = w.closing ≡ true
   EndsHeld w Renewed = (w.closing ≡ false) × (w.connection.back ≡ state.Closed) × (w.connection.again ≡ true) × (w.kept ≡ None)
-  EndsHeld w (Raised part e p) = IsRaising w part e × IsPut p
+  EndsHeld w (Raised part e p) = IsRaising w part e × IsPut t.kind p
+  EndsHeld w (Grouped n p) = IsPublishing w n × IsPut t.kind p
 
   -- the oldest event that waits is done
   abbrev pub IsDone : Work X V → Found → List Touch → A → Type 0
@@ -190,6 +199,7 @@ module _ {X A V Y M : Type 0} (D : Lawful X A V Y M) where
   EndsFound w f ts (Lacked problem) = IsDue w f (reason.Node problem.part problem.key problem.fault)
   EndsFound w f ts (Shut why) = IsDue w f why
   EndsFound w f ts (Raised part e p) = PutFound f p
+  EndsFound w f ts (Grouped n p) = PutFound f p
   EndsFound w f ts other = Unit {0}
 
   abbrev pub EndsWell : Work X V → Carried Learned → End A V → Type 0
@@ -242,6 +252,12 @@ module _ {X A V Y M : Type 0} (D : Lawful X A V Y M) where
     raise_now part e (put.BadCons prod cons) = refl
     raise_now part e (put.Spent prod) = refl
 
+    group_now : (n : ℕ) (p : Put) → held_pages s (after_group s now n p) ≡ held_pages s (after_group s w n p)
+    group_now n put.Done = refl
+    group_now n put.Full = refl
+    group_now n (put.BadCons prod cons) = refl
+    group_now n (put.Spent prod) = refl
+
     pages_now : (o : End A V) → held_pages s (settled s site now o) ≡ held_pages s (settled s site w o)
     unfolding settled
     pages_now (Saw x) = look_now x
@@ -255,6 +271,7 @@ module _ {X A V Y M : Type 0} (D : Lawful X A V Y M) where
     pages_now (Lacked problem) = refl
     pages_now (Shut why) = refl
     pages_now (Raised part e p) = raise_now part e p
+    pages_now (Grouped n p) = group_now n p
     pages_now Left = refl
     pages_now Renewed = refl
 
@@ -282,6 +299,10 @@ module _ {X A V Y M : Type 0} (D : Lawful X A V Y M) where
     kept_now (Raised part e put.Full) = refl
     kept_now (Raised part e (put.BadCons prod cons)) = refl
     kept_now (Raised part e (put.Spent prod)) = refl
+    kept_now (Grouped n put.Done) = refl
+    kept_now (Grouped n put.Full) = refl
+    kept_now (Grouped n (put.BadCons prod cons)) = refl
+    kept_now (Grouped n (put.Spent prod)) = refl
     kept_now Left = refl
     kept_now Renewed = refl
 
@@ -313,6 +334,7 @@ module _ {X A V Y M : Type 0} (D : Lawful X A V Y M) where
     said_now (Lacked problem) = refl
     said_now (Shut why) = refl
     said_now (Raised part e p) = said_raise part e p
+    said_now (Grouped n p) = refl
     said_now Left = refl
     said_now Renewed = refl
 
@@ -320,7 +342,7 @@ module _ {X A V Y M : Type 0} (D : Lawful X A V Y M) where
       serving_now : IsServing w → IsServing now
       serving_now q = (h.back ∙ q.0, q.1)
 
-      is_kept_now : (why : Reason) → IsKept w why → IsKept now why
+      is_kept_now : (why : Reason) → IsKept t.kind w why → IsKept t.kind now why
       is_kept_now (reason.Overrun prod rsp) q = (h.back ∙ q.0, q.1)
       is_kept_now (reason.BadCons prod cons) q = (h.back ∙ q.0, q.1)
       is_kept_now (reason.Asked b) q = absurd q
@@ -345,6 +367,9 @@ module _ {X A V Y M : Type 0} (D : Lawful X A V Y M) where
       raising_now : (part : ℕ) (e : Option V) → IsRaising w part e → IsRaising now part e
       raising_now part e q = record { serving = serving_now q.serving; none = q.none; has = q.has; raise = q.raise; oldest = oldest_now e q.oldest }
 
+      publishing_now : (n : ℕ) → IsPublishing w n → IsPublishing now n
+      publishing_now n q = record { serving = serving_now q.serving; none = q.none; has = q.has; group = q.group; way = q.way; many = q.many }
+
       held_now : (o : End A V) → EndsHeld w o → EndsHeld now o
       held_now (Saw x) q = (serving_now q.0, q.1)
       held_now (Took words) q = (serving_now q.0, q.1, q.2, q.3)
@@ -357,6 +382,7 @@ module _ {X A V Y M : Type 0} (D : Lawful X A V Y M) where
       held_now (Lacked problem) q = q
       held_now (Shut why) q = q
       held_now (Raised part e p) q = (raising_now part e q.0, q.1)
+      held_now (Grouped n p) q = (publishing_now n q.0, q.1)
       held_now Left q = q
       held_now Renewed q = (q.0, h.back ∙ q.1, h.again q.2, q.3)
 
@@ -372,6 +398,7 @@ module _ {X A V Y M : Type 0} (D : Lawful X A V Y M) where
       found_now f ts (Lacked problem) q = h.due f (reason.Node problem.part problem.key problem.fault) q
       found_now f ts (Shut why) q = h.due f why q
       found_now f ts (Raised part e p) q = q
+      found_now f ts (Grouped n p) q = q
       found_now f ts Left q = tt
       found_now f ts Renewed q = tt
 

@@ -20,7 +20,7 @@ returns-then-not-is_ringed g c = λ site.
     let s = g.S.Serve.service in
     let none = none_in d.hand (sym c.is_some.ensures ∙ c.if-is_some.false) in
     let nobody = sym c.oldest.ensures ∙ none_in c.oldest.result (sym c.is_some-2.ensures ∙ c.if-is_some-2.false) in
-    ringless_busy s site (work_of d) d.hand none nobody (sym c.is_ringed.ensures ∙ ap kind_in c.if-not-is_ringed.true)
+    ringless_busy s site (work_of d) d.hand none nobody (sym c.is_ringed.ensures ∙ ap kind_in c.if-not-is_ringed.true) refl (g.S.Serve.ungrouped (work_of d).service)
 
 pub returns-then-self-gt0 : goal.returns-then-self-gt0
 unfolding work_of

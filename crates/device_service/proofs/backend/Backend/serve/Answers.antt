@@ -102,7 +102,7 @@ returns-then-not-is_ringed-clause-begins g c =
     let site : Site = site_of (g.W.Words.frames_of c.args.words.now) (g.W.Words.grants_of c.args.words.now) (dom_of d) (parts_of d) in
     let none = c.in_default.is in
     let nobody = sym c.oldest.ensures ∙ c.in_default-oldest.is in
-    let is = ringless_is s site w d.hand none nobody (sym c.is_ringed.ensures ∙ ap kind_in c.if-not-is_ringed.true) in
+    let is = ringless_is s site w d.hand none nobody (sym c.is_ringed.ensures ∙ ap kind_in c.if-not-is_ringed.true) refl (g.S.Serve.ungrouped w.service) in
     begins_rest s site (with_hand s site w d.hand) w c.idle.result.access c.idle.result.said _ is c.idle.ensures.access c.idle.ensures.said (between_as site d c.requires.between)
 
 pub take-requires-clause-may : goal.take-requires-clause-may

@@ -105,12 +105,12 @@ module _ {X A V : Type 0} (s : Service X A V) (site : Site) where
   went_still w (Make want note more) u = (refl, refl)
 
   -- all parts are connected
-  pub met_as : (w : Work X V) (js : List Joined) (k : Connection) (es : List V) (y : X) → k ≡ moved_to w.connection state.Connected → es ≡ [] → y ≡ s.begun w.service w.read → record w { connection = k; connecting = false; closing = false; parts = js; kept = None; hand = None; left = 0; round = Looks 0 false; waiting = es; service = y } ≡ settled s site w (Met js)
+  pub met_as : (w : Work X V) (js : List Joined) (k : Connection) (es : List V) (y : X) → k ≡ moved_to w.connection state.Connected → es ≡ [] → y ≡ s.begun w.service w.read → record w { connection = k; connecting = false; closing = false; parts = js; kept = None; hand = None; left = 0; round = Looks 0 false; full = false; waiting = es; service = y } ≡ settled s site w (Met js)
   unfolding settled
   met_as w js k es y e f h =
-      ap (λ (x : Connection). record w { connection = x; connecting = false; closing = false; parts = js; kept = None; hand = None; left = 0; round = Looks 0 false; waiting = es; service = y }) e
-      ∙ (ap (λ xs. record w { connection = moved_to w.connection state.Connected; connecting = false; closing = false; parts = js; kept = None; hand = None; left = 0; round = Looks 0 false; waiting = xs; service = y }) f
-      ∙ ap (λ x. record w { connection = moved_to w.connection state.Connected; connecting = false; closing = false; parts = js; kept = None; hand = None; left = 0; round = Looks 0 false; waiting = []; service = x }) h)
+      ap (λ (x : Connection). record w { connection = x; connecting = false; closing = false; parts = js; kept = None; hand = None; left = 0; round = Looks 0 false; full = false; waiting = es; service = y }) e
+      ∙ (ap (λ xs. record w { connection = moved_to w.connection state.Connected; connecting = false; closing = false; parts = js; kept = None; hand = None; left = 0; round = Looks 0 false; full = false; waiting = xs; service = y }) f
+      ∙ ap (λ x. record w { connection = moved_to w.connection state.Connected; connecting = false; closing = false; parts = js; kept = None; hand = None; left = 0; round = Looks 0 false; full = false; waiting = []; service = x }) h)
 
   -- a step of a Connect that goes on
   still_connects : (w v : Work X V) (p q : Plan Outcome) (access : Option Access) → v ≡ w → Leads p access None q → GoesOut s site w (mapped connected p) access None (stand_at v (mapped connected q))

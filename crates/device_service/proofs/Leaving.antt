@@ -77,11 +77,11 @@ module _ {X A V : Type 0} (s : Service X A V) where
       ∙ ap (λ (x : X). record w { connecting = false; closing = true; parts = []; kept = None; hand = None; service = x }) f
 
   -- a state is taken
-  pub entered_as : (w : Work X V) (b : State) (k : Connection) (es : List V) (y : X) → k ≡ moved_to w.connection b → es ≡ [] → y ≡ s.begun w.service w.read → record w { connection = k; connecting = false; closing = false; hand = None; waiting = es; service = y } ≡ entered s w b
+  pub entered_as : (w : Work X V) (b : State) (k : Connection) (es : List V) (y : X) → k ≡ moved_to w.connection b → es ≡ [] → y ≡ s.begun w.service w.read → record w { connection = k; connecting = false; closing = false; hand = None; full = false; waiting = es; service = y } ≡ entered s w b
   entered_as w b k es y e f h =
-      ap (λ (x : Connection). record w { connection = x; connecting = false; closing = false; hand = None; waiting = es; service = y }) e
-      ∙ (ap (λ xs. record w { connection = moved_to w.connection b; connecting = false; closing = false; hand = None; waiting = xs; service = y }) f
-      ∙ ap (λ (x : X). record w { connection = moved_to w.connection b; connecting = false; closing = false; hand = None; waiting = []; service = x }) h)
+      ap (λ (x : Connection). record w { connection = x; connecting = false; closing = false; hand = None; full = false; waiting = es; service = y }) e
+      ∙ (ap (λ xs. record w { connection = moved_to w.connection b; connecting = false; closing = false; hand = None; full = false; waiting = xs; service = y }) f
+      ∙ ap (λ (x : X). record w { connection = moved_to w.connection b; connecting = false; closing = false; hand = None; full = false; waiting = []; service = x }) h)
 
 -- a backend that takes a state rests as it did
 pub rests_entered : (a : Activity) (opened opened' : Bool) (d : Doing) (at : ℕ) (hand : Option Hand) → a ≡ activity.Between → opened ≡ false → opened' ≡ false → StandsAs a opened d at hand → d ≡ resting opened'

@@ -1,4 +1,4 @@
-use Rattle.std.proofs.Common.{ap, sym, ◌∙◌}
+use Rattle.std.proofs.Common.{ap, refl, sym, ◌∙◌}
 use Rattle.device_service.specs.Nodes.{kind_in}
 use Rattle.device_service.specs.Stand.{work_of}
 use Rattle.device_service.proofs.Choices.{left_busy, none_in, ringless_busy, round_looks, round_rests, round_sleeps, some_in, waiting_busy}

@@ -14,7 +14,7 @@ use Rattle.device_core.specs.Site.{Site}
 use Rattle.device_core.specs.Touched.{Touch}
 use Rattle.device_service.specs.declared.round.Hand.{Hand}
 use Rattle.device_service.specs.Reading.{told_of}
-use Rattle.device_service.specs.Rows.{Enters, Event, Evidence, IsServing, Moves, Own, Paid, Rows, Says, Hears, Begins, Served, Table, Tells, makes, owes}
+use Rattle.device_service.specs.Rows.{Enters, Event, Evidence, IsServing, Moves, Rows, Says, SaysOwn, Hears, Begins, Chooses, Table, Tells, makes, owes}
 use Rattle.backend_core.specs.Answered.{Accepted, IsAnswer, IsAnsweredBy, IsAnsweredIn}
 
 -- a run in two parts
@@ -50,10 +50,16 @@ pub record Settles {Y V : Type 0} (t : Table Y V) (site : Site) : Type 1 where
   pub tells : (old new : Y) (told : Evidence) (what : Said) → t.Tells site old told what new → Fine old → Fine new
   pub serves : (old new : Y) (e : V) (told : Evidence) (what : Said) → t.Serves site old e told what new → Fine old → Fine new
   pub pays : (old new : Y) (told : Evidence) (what : Said) → t.Pays site old told what new → Fine old → Fine new
+  pub chooses : (old new : Y) → t.Chooses old new → Fine old → Fine new
+  pub publishes : (old new : Y) (what : Said) → t.Publishes old what new → Fine old → Fine new
   pub tells_same : (old a b : Y) (told : Evidence) (what : Said) → t.Tells site old told what a → t.Tells site old told what b → a ≡ b
   pub serves_same : (old a b : Y) (e : V) (told : Evidence) (what : Said) → t.Serves site old e told what a → t.Serves site old e told what b → a ≡ b
   pub pays_same : (old a b : Y) (told : Evidence) (what : Said) → t.Pays site old told what a → t.Pays site old told what b → a ≡ b
+  pub chooses_same : (old a b : Y) → t.Chooses old a → t.Chooses old b → a ≡ b
+  pub publishes_same : (old a b : Y) (what : Said) → t.Publishes old what a → t.Publishes old what b → a ≡ b
   pub apart : (old a b : Y) (e : V) (told : Evidence) (what : Said) → t.Serves site old e told what a → t.Pays site old told what b → ⊥
+  pub published_apart : (old a b : Y) (e : V) (told : Evidence) (what : Said) → t.Serves site old e told what a → t.Publishes old what b → ⊥
+  pub paid_apart : (old a b : Y) (told : Evidence) (what : Said) → t.Pays site old told what a → t.Publishes old what b → ⊥
   pub IsAccepted : (maps denied : Bool) → Y → Type 0
   pub stays : (old new : Y) (told : Evidence) (what : Said) (maps denied : Bool) → t.Tells site old told what new → IsAccepted maps denied old → IsAccepted maps (denied_by what denied) new
   pub answers : (y : Y) (maps denied : Bool) (status : ℤ) → Fine y → IsAccepted maps denied y → t.IsStatus y status → IsAnswer denied maps status
@@ -79,17 +85,19 @@ module _ {Y V : Type 0} (t : Table Y V) (site : Site) (law : Settles t site) whe
   calm_as : (old new : Rows Y V) → new ≡ old → IsCalm old → IsCalm new
   calm_as old new e c = subst (λ (r : Rows Y V). IsCalm r) (sym e) c
 
-  -- what is said of the request in hand, of an event that waited, or of one that was owed
+  -- what is said of the request in hand, of an event that waited, of one that was owed, or of a group
   abbrev IsOwn : Rows Y V → Evidence → Said → Rows Y V → Type 0
-  IsOwn old told what new = Own t site old told what new ⊎ (Served t site old told what new ⊎ Paid t site old told what new)
+  IsOwn old told what new = SaysOwn t site old told what new
 
   own_calm : (old new : Rows Y V) (told : Evidence) (what : Said) → IsOwn old told what new → IsCalm old → IsCalm new
   own_calm old new told what (inl x) c =
       calm_as (record old { service = x.service }) new x.done (record { served = c.served; waits = c.waits; fine = law.tells old.service x.service told what x.tells c.fine })
   own_calm old new told what (inr (inl x)) c =
       calm_as (record old { waiting = x.later; service = x.service }) new x.done (record { served = c.served; waits = c.waits; fine = law.serves old.service x.service x.event told what x.serves c.fine })
-  own_calm old new told what (inr (inr x)) c =
+  own_calm old new told what (inr (inr (inl x))) c =
       calm_as (record old { service = x.service }) new x.done (record { served = c.served; waits = c.waits; fine = law.pays old.service x.service told what x.pays c.fine })
+  own_calm old new told what (inr (inr (inr x))) c =
+      calm_as (record old { service = x.service }) new x.done (record { served = c.served; waits = c.waits; fine = law.publishes old.service x.service what x.publishes c.fine })
 
   says_calm : (old new : Rows Y V) (told : Evidence) (what : Said) (words : List ℕ) → Tells t site old told what words new → IsCalm old → IsCalm new
   says_calm old new told (said.Request part id op) words x c =
@@ -110,6 +118,8 @@ module _ {Y V : Type 0} (t : Table Y V) (site : Site) (law : Settles t site) whe
       subst (λ (r : Rows Y V). IsCalm r) (sym x) (record { served = c.served; waits = c.waits; fine = c.fine })
   moves_calm old new touched Begins x c =
       subst (λ (r : Rows Y V). IsCalm r) (sym x.1) (record { served = c.served; waits = λ w. connects_from old.bus.connection.back old.bus.connection x.0.1; fine = c.fine })
+  moves_calm old new touched Chooses x c =
+      calm_as (record old { service = x.service }) new x.done (record { served = c.served; waits = c.waits; fine = law.chooses old.service x.service x.chooses c.fine })
 
   happens_calm : (m k : Snapshot (Rows Y V)) (e : Happening Event) → HappensTo true machine m e k → IsCalm m.rows → IsCalm k.rows
   happens_calm m k (Row e words) x c = moves_calm m.rows k.rows m.touched e x.move c
@@ -135,14 +145,22 @@ module _ {Y V : Type 0} (t : Table Y V) (site : Site) (law : Settles t site) whe
       x.done
       ∙ (ap (λ es. let r : Rows Y V = record old { waiting = es; service = x.service } in r) later
       ∙ (ap (λ z. let r : Rows Y V = record old { waiting = y.later; service = z } in r) service ∙ sym y.done))
-  own_same old a b told what (inr (inr x)) (inr (inr y)) =
+  own_same old a b told what (inr (inr (inl x))) (inr (inr (inl y))) =
       x.done ∙ (ap (λ z. let r : Rows Y V = record old { service = z } in r) (law.pays_same old.service x.service y.service told what x.pays y.pays) ∙ sym y.done)
+  own_same old a b told what (inr (inr (inr x))) (inr (inr (inr y))) =
+      x.done ∙ (ap (λ z. let r : Rows Y V = record old { service = z } in r) (law.publishes_same old.service x.service y.service what x.publishes y.publishes) ∙ sym y.done)
   own_same old a b told what (inl x) (inr (inl y)) = none_some x.hand (sym y.none ∙ x.in_hand)
-  own_same old a b told what (inl x) (inr (inr y)) = none_some x.hand (sym y.none ∙ x.in_hand)
+  own_same old a b told what (inl x) (inr (inr (inl y))) = none_some x.hand (sym y.none ∙ x.in_hand)
+  own_same old a b told what (inl x) (inr (inr (inr y))) = none_some x.hand (sym y.none ∙ x.in_hand)
   own_same old a b told what (inr (inl x)) (inl y) = none_some y.hand (sym x.none ∙ y.in_hand)
-  own_same old a b told what (inr (inr x)) (inl y) = none_some y.hand (sym x.none ∙ y.in_hand)
-  own_same old a b told what (inr (inl x)) (inr (inr y)) = absurd (law.apart old.service x.service y.service x.event told what x.serves y.pays)
-  own_same old a b told what (inr (inr x)) (inr (inl y)) = absurd (law.apart old.service y.service x.service y.event told what y.serves x.pays)
+  own_same old a b told what (inr (inr (inl x))) (inl y) = none_some y.hand (sym x.none ∙ y.in_hand)
+  own_same old a b told what (inr (inr (inr x))) (inl y) = none_some y.hand (sym x.none ∙ y.in_hand)
+  own_same old a b told what (inr (inl x)) (inr (inr (inl y))) = absurd (law.apart old.service x.service y.service x.event told what x.serves y.pays)
+  own_same old a b told what (inr (inr (inl x))) (inr (inl y)) = absurd (law.apart old.service y.service x.service y.event told what y.serves x.pays)
+  own_same old a b told what (inr (inl x)) (inr (inr (inr y))) = absurd (law.published_apart old.service x.service y.service x.event told what x.serves y.publishes)
+  own_same old a b told what (inr (inr (inr x))) (inr (inl y)) = absurd (law.published_apart old.service y.service x.service y.event told what y.serves x.publishes)
+  own_same old a b told what (inr (inr (inl x))) (inr (inr (inr y))) = absurd (law.paid_apart old.service x.service y.service told what x.pays y.publishes)
+  own_same old a b told what (inr (inr (inr x))) (inr (inr (inl y))) = absurd (law.paid_apart old.service y.service x.service told what y.pays x.publishes)
 
   says_same : (old a b : Rows Y V) (told : Evidence) (what : Said) (words : List ℕ) → Tells t site old told what words a → Tells t site old told what words b → a ≡ b
   says_same old a b told (said.Request part id op) words x y = x.taken ∙ sym y.taken
@@ -156,6 +174,8 @@ module _ {Y V : Type 0} (t : Table Y V) (site : Site) (law : Settles t site) whe
   moves_same old a b touched (Hears (Sets front nodes)) x y = x ∙ sym y
   moves_same old a b touched (Hears (Hosts e)) x y = x ∙ sym y
   moves_same old a b touched Begins x y = x.1 ∙ sym y.1
+  moves_same old a b touched Chooses x y =
+      x.done ∙ (ap (λ z. let r : Rows Y V = record old { service = z } in r) (law.chooses_same old.service x.service y.service x.chooses y.chooses) ∙ sym y.done)
 
   -- the same rows, and the same words that were taken and put
   abbrev AreAlike : Snapshot (Rows Y V) → Snapshot (Rows Y V) → Type 0
@@ -210,7 +230,8 @@ module _ {Y V : Type 0} (t : Table Y V) (site : Site) (law : Settles t site) whe
   own_stays old new told what h maps denied i (inl x) =
       subst (λ (r : Rows Y V). IsInHand r h maps (denied_by what denied)) (sym x.done) (record { hand = i.hand; accepted = law.stays old.service x.service told what maps denied x.tells i.accepted })
   own_stays old new told what h maps denied i (inr (inl x)) = none_some h (sym x.none ∙ i.hand)
-  own_stays old new told what h maps denied i (inr (inr x)) = none_some h (sym x.none ∙ i.hand)
+  own_stays old new told what h maps denied i (inr (inr (inl x))) = none_some h (sym x.none ∙ i.hand)
+  own_stays old new told what h maps denied i (inr (inr (inr x))) = none_some h (sym x.none ∙ i.hand)
 
   -- what one event makes of it
   told_by : (old new : Rows Y V) (told : Evidence) (what : Said) (words : List ℕ) (h : Hand) (maps denied : Bool) (es : List (Happening Event)) → IsCalm old → IsInHand old h maps denied → Tells t site old told what words new → ((now : Bool) → IsInHand new h maps now → WillBe h maps es now) → IsAnsweredBy (accepted_by h maps) denied (told_of (Says what words told.found)) (WillBe h maps es)
@@ -235,6 +256,7 @@ module _ {Y V : Type 0} (t : Table Y V) (site : Site) (law : Settles t site) whe
       later denied (stays_in old new h maps denied (ap (λ (r : Rows Y V). r.hand) x) (ap (λ (r : Rows Y V). r.service) x) i)
   answered_by Begins old new touched h maps denied es c i x later =
       later denied (stays_in old new h maps denied (ap (λ (r : Rows Y V). r.hand) x.1) (ap (λ (r : Rows Y V). r.service) x.1) i)
+  answered_by Chooses old new touched h maps denied es c i x later = none_some h (sym x.none ∙ i.hand)
 
   in_hand_as : (old new : Rows Y V) (h : Hand) (maps denied : Bool) → new ≡ old → IsInHand old h maps denied → IsInHand new h maps denied
   in_hand_as old new h maps denied e i = subst (λ (r : Rows Y V). IsInHand r h maps denied) (sym e) i

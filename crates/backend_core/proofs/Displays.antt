@@ -87,10 +87,16 @@ module _ (site : Site) where
         tells = tells_fine;
         serves = serves_fine;
         pays = λ old new told what x f. absurd x;
+        chooses = λ old new x f. absurd x;
+        publishes = λ old new what x f. absurd x;
         tells_same = tells_same;
         serves_same = serves_same;
         pays_same = λ old a b told what x y. absurd x;
+        chooses_same = λ old a b x y. absurd x;
+        publishes_same = λ old a b what x y. absurd x;
         apart = λ old a b e told what x y. y;
+        published_apart = λ old a b e told what x y. y;
+        paid_apart = λ old a b told what x y. y;
         IsAccepted = HasAccepted;
         stays = stays;
         answers = answers;
@@ -110,4 +116,5 @@ module _ (site : Site) where
           served : (v : Waiting) (s : Lines) → Serves site x.old.service v told (said.Denied why) s → ⊥
           served (waiting.Blank part) s d = d
           served (waiting.Show part) s d = d
-      by_rows (inr (inr y)) = absurd y.pays
+      by_rows (inr (inr (inl y))) = absurd y.pays
+      by_rows (inr (inr (inr y))) = absurd y.publishes

@@ -11,7 +11,7 @@ use Rattle.device_core.specs.Names.{Drawn, Stroke, Loses, Redraws, with_name}
 use Rattle.device_core.specs.Order.{Sets, Hosts}
 use Rattle.device_core.specs.Site.{Site}
 use Rattle.device_core.specs.Touched.{Touch, stroke_of}
-use Rattle.device_service.specs.Rows.{Event, Evidence, Moves, Rows, Says, Hears, Begins, Table, Tells, made_if, makes, owes}
+use Rattle.device_service.specs.Rows.{Event, Evidence, Moves, Rows, Says, Hears, Begins, Chooses, Table, Tells, made_if, makes, owes}
 use Rattle.backend_core.specs.AfterGone.{NothingAfterGone, name_of}
 use Rattle.backend_core.proofs.Answers.{none_some, run_parts}
 
@@ -136,13 +136,15 @@ module _ {Y V : Type 0} (t : Table Y V) (site : Site) where
   says_made old new told (said.State b) words f x = no_more new.replies old.replies (ap replies_of x.1)
   says_made old new told other words f (inl x) = no_more new.replies old.replies (ap replies_of x.done)
   says_made old new told other words f (inr (inl x)) = no_more new.replies old.replies (ap replies_of x.done)
-  says_made old new told other words f (inr (inr x)) = no_more new.replies old.replies (ap replies_of x.done)
+  says_made old new told other words f (inr (inr (inl x))) = no_more new.replies old.replies (ap replies_of x.done)
+  says_made old new told other words f (inr (inr (inr x))) = no_more new.replies old.replies (ap replies_of x.done)
 
   moves_made : (old new : Rows Y V) (touched : List Touch) (e : Event) → Moves t site old touched e new → IsMade (makes t old e) old.replies new.replies
   moves_made old new touched (Says what words f) x = says_made old new (record { touched = touched; found = f }) what words f x
   moves_made old new touched (Hears (Sets front nodes)) x = no_more new.replies old.replies (ap replies_of x)
   moves_made old new touched (Hears (Hosts e)) x = no_more new.replies old.replies (ap replies_of x)
   moves_made old new touched Begins x = no_more new.replies old.replies (ap replies_of x.1)
+  moves_made old new touched Chooses x = no_more new.replies old.replies (ap replies_of x.done)
 
   abbrev Counts : ℕ → Snapshot (Rows Y V) → Snapshot (Rows Y V) → Type 0
   Counts n m k = AreCounted n m.names k.names m.rows.replies k.rows.replies

@@ -72,10 +72,16 @@ module _ (site : Site) where
         tells = tells_fine;
         serves = λ old new e told what x f. subst IsFine (sym x.1) f;
         pays = λ old new told what x f. absurd x;
+        chooses = λ old new x f. absurd x;
+        publishes = λ old new what x f. absurd x;
         tells_same = tells_same;
         serves_same = λ old a b e told what x y. x.1 ∙ sym y.1;
         pays_same = λ old a b told what x y. absurd x;
+        chooses_same = λ old a b x y. absurd x;
+        publishes_same = λ old a b what x y. absurd x;
         apart = λ old a b e told what x y. y;
+        published_apart = λ old a b e told what x y. y;
+        paid_apart = λ old a b told what x y. y;
         IsAccepted = HasAccepted;
         stays = stays;
         answers = answers;
@@ -95,4 +101,5 @@ module _ (site : Site) where
       by_rows : SaysBy table site x.old told (said.Denied why) x.taken x.new → (first : ℕ) × (mode : Mode) × walk.IsReason site.frames site.grants first mode f why
       by_rows (inl y) = (y.tells.params.gref_directory, mode_at x.old.service.streams y.tells.demand.part, y.tells.reason)
       by_rows (inr (inl y)) = absurd (no_denial x.old.service.streams y.event why y.serves.0)
-      by_rows (inr (inr y)) = absurd y.pays
+      by_rows (inr (inr (inl y))) = absurd y.pays
+      by_rows (inr (inr (inr y))) = absurd y.publishes

@@ -12,7 +12,7 @@ use Rattle.device_core.specs.Machine.{Happening, Row, Meanwhile, Refuses, Gone, 
 use Rattle.device_core.specs.Names.{Drawn, Loses, Redraws, Stroke, with_name}
 use Rattle.device_core.specs.Site.{Site}
 use Rattle.device_core.specs.Touched.{Took}
-use Rattle.device_service.specs.Rows.{Event, Rows, Says, Hears, Begins, made_if, makes}
+use Rattle.device_service.specs.Rows.{Event, Rows, Says, Hears, Begins, Chooses, made_if, makes}
 use Rattle.device_service.proofs.Lists.{get_set, get_set_other}
 use Rattle.display_backend.specs.declared.waiting.Waiting.{Waiting}
 use Rattle.display_backend.specs.Service.{Lines, makes_for, table}
@@ -155,6 +155,7 @@ module _ (site : Site) where
   moved_drawn p ds m k (Says other taken f) words now are is = subst (λ ns. AreDrawn p.replies ds ns) (sym is) are
   moved_drawn p ds m k (Hears news) words now are is = subst (λ ns. AreDrawn p.replies ds ns) (sym is) are
   moved_drawn p ds m k Begins words now are is = subst (λ ns. AreDrawn p.replies ds ns) (sym is) are
+  moved_drawn p ds m k Chooses words now are is = subst (λ ns. AreDrawn p.replies ds ns) (sym is) are
 
   -- no name comes meanwhile
   passed_drawn : (p : Past) (ds : List Drawing) (ns : List Drawn) (e : Event) → AreDrawn p.replies ds ns → AreDrawn (event_after p e).replies ds ns
@@ -166,6 +167,7 @@ module _ (site : Site) where
   passed_drawn p ds ns (Says other taken f) are = are
   passed_drawn p ds ns (Hears news) are = are
   passed_drawn p ds ns Begins are = are
+  passed_drawn p ds ns Chooses are = are
 
   happens_drawn : (x : Sheet) (m k : Snapshot (Rows Lines Waiting)) (e : Happening Event) → HappensTo true (machine display_nature site) m e k → IsSheet x m → AreDrawn (past_next x.past e).replies (drawings_next x.past e x.drawings) k.names
   happens_drawn x m k (Row e words) h is = moved_drawn x.past x.drawings m k e words is.now is.drawn h.names

@@ -22,7 +22,7 @@ use Rattle.device_core.specs.Machine.{Happening, Row, Meanwhile, Refuses, Gone, 
 use Rattle.device_core.specs.Order.{Sets, Hosts}
 use Rattle.device_core.specs.Site.{Site}
 use Rattle.device_core.specs.Touched.{Touch}
-use Rattle.device_service.specs.Rows.{Event, Evidence, Moves, Own, Paid, Rows, Says, Hears, Begins, Served, Tells as SaysBy}
+use Rattle.device_service.specs.Rows.{Event, Evidence, Moves, Rows, Says, SaysOwn, Hears, Begins, Chooses, Tells as SaysBy}
 use Rattle.display_backend.specs.declared.waiting.Waiting.{Waiting}
 use Rattle.display_backend.specs.declared.waiting.Waiting.TheVariants as waiting
 use Rattle.display_backend.specs.Picture.{AreShown, number_under, source_at, source_by, source_in, source_of}
@@ -91,7 +91,7 @@ module _ (site : Site) where
 
   -- nothing of these is the beginning or the end of a request
   abbrev IsOwn : Rows Lines Waiting → Evidence → Said → Rows Lines Waiting → Type 0
-  IsOwn old told what new = Own table site old told what new ⊎ (Served table site old told what new ⊎ Paid table site old told what new)
+  IsOwn old told what new = SaysOwn table site old told what new
 
   abbrev Keeps : Said → Type 0
   Keeps what = (p : Past) (words : List ℕ) → (said_after p what words).replies ≡ p.replies
@@ -103,7 +103,8 @@ module _ (site : Site) where
   own_past p old new told what words keeps (inr (inl x)) was =
       subst (λ r. IsPast (said_after p what words) r) (sym x.done)
       (record { replies = keeps p words ∙ was.replies; told = served_told p old.service x.service x.event told what words x.serves was.told })
-  own_past p old new told what words keeps (inr (inr x)) was = absurd x.pays
+  own_past p old new told what words keeps (inr (inr (inl x))) was = absurd x.pays
+  own_past p old new told what words keeps (inr (inr (inr x))) was = absurd x.publishes
 
   says_past : (p : Past) (old new : Rows Lines Waiting) (told : Evidence) (what : Said) (words : List ℕ) → SaysBy table site old told what words new → IsPast p old → IsPast (said_after p what words) new
   says_past p old new told (said.Request part id op) words x was =
@@ -126,6 +127,7 @@ module _ (site : Site) where
   moves_past p old new touched (Hears (Sets front nodes)) x was = subst (λ r. IsPast p r) (sym x) (record { replies = was.replies; told = was.told })
   moves_past p old new touched (Hears (Hosts e)) x was = subst (λ r. IsPast p r) (sym x) (record { replies = was.replies; told = was.told })
   moves_past p old new touched Begins x was = subst (λ r. IsPast p r) (sym x.1) (record { replies = was.replies; told = was.told })
+  moves_past p old new touched Chooses x was = absurd x.chooses
 
   -- the words that were taken and put stay, whatever is said
   said_keeps : (p : Past) (what : Said) (words : List ℕ) → (said_after p what words).touched ≡ p.touched
@@ -140,6 +142,7 @@ module _ (site : Site) where
   event_keeps p (Says what words f) = said_keeps p what words
   event_keeps p (Hears news) = refl
   event_keeps p Begins = refl
+  event_keeps p Chooses = refl
 
   -- so it is after each thing that happens
   pub record IsNow (p : Past) (m : Snapshot (Rows Lines Waiting)) : Type 0 where

@@ -41,7 +41,7 @@ use Rattle.page_directory.specs.Progress.{is_accepted, is_denied, status_in, rea
 use Rattle.device_core.specs.Site.{Site}
 use Rattle.device_service.specs.Mapping.{denied_by}
 use Rattle.device_service.specs.Nodes.{Ringed}
-use Rattle.device_service.specs.Service.{Deed, Job, Works, Starves, Runs, Raises, Service}
+use Rattle.device_service.specs.Service.{Deed, Job, Works, Starves, Runs, Raises, Service, no_groups}
 use Rattle.device_service.specs.Rows.{Table, Evidence}
 use Rattle.device_service.specs.Reading.{Shows}
 
@@ -186,6 +186,7 @@ display =
       put = put_for;
       after_put = flipped_for;
       after_full = λ x e. x;
+      groups = no_groups;
       says = λ x a. says_at a;
       after = after_end;
       waits = waiting_of;
@@ -260,6 +261,8 @@ table =
       Tells = Tells;
       Serves = Serves;
       Pays = λ site old told what new. ⊥;
+      Chooses = λ old new. ⊥;
+      Publishes = λ old what new. ⊥;
       IsStatus = IsAnswer;
       replied = λ y n status. replied_for y y.request n status;
       makes = λ y status. makes_for y.request status;

@@ -537,6 +537,10 @@ module _ (frames grants : ℕ → ℕ) (dom parts : ℕ) where
         put_told = λ x e part m told s h i named. absurd (never x e part i);
         full_told = λ x e part m told s h i named. absurd (never x e part i);
         full_ends = λ x o s owes. refl;
+        chooses = λ x g s h due. let wrong : ⊥ = cc in absurd wrong;
+        chooses_shows = λ x g m s h due named. let wrong : ⊥ = cc in absurd wrong;
+        publishes = λ x g s h way. let wrong : ⊥ = cc in absurd wrong;
+        publishes_shows = λ x g m s h way named. let wrong : ⊥ = cc in absurd wrong;
         meets_plain = λ x want note u. u;
         meets = λ x m want note s named u. meets x m want note u;
       }

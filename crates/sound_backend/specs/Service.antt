@@ -24,7 +24,7 @@ use Rattle.device_service.specs.Mapping.{denied_by}
 use Rattle.device_service.specs.Nodes.{Ringed}
 use Rattle.device_service.specs.Reading.{Shows}
 use Rattle.device_service.specs.Rows.{Table, Evidence}
-use Rattle.device_service.specs.Service.{Job, Works, Starves, Runs, Service}
+use Rattle.device_service.specs.Service.{Job, Works, Starves, Runs, Service, no_groups}
 use Rattle.sound_backend.specs.declared.course.Demand.{Demand}
 use Rattle.page_directory.specs.declared.progress.Progress.{Progress}
 use Rattle.page_directory.specs.declared.progress.Progress.TheVariants as progress
@@ -153,6 +153,7 @@ sound =
       put = λ x e. said.Full 0;
       after_put = λ x e. x;
       after_full = λ x e. x;
+      groups = no_groups;
       says = says_at;
       after = after_end;
       waits = waiting_of;
@@ -206,6 +207,8 @@ table =
       Tells = Tells;
       Serves = Serves;
       Pays = λ site old told what new. ⊥;
+      Chooses = λ old new. ⊥;
+      Publishes = λ old what new. ⊥;
       IsStatus = IsAnswer;
       replied = λ y n status. replied_for y y.demand status;
       makes = λ y status. makes_for y.demand status;

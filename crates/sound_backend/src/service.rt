@@ -253,6 +253,8 @@ impl Serve for Service {
 
     ghost whole_replies = { whole_replies };
 
+    ghost ungrouped = { λ x. refl };
+
     ghost refuses = { λ b es e. refl };
 
     fn keeps_laws() {}

@@ -1,5 +1,5 @@
 -- The pages of the parts are held along each activity of a connected device.
-use Rattle.std.proofs.Common.{◌≡◌, inl, inr, ℕ, zero, suc, ◌+◌, ◌*◌, ◌%◌, ◌<◌, ◌≤◌, ◌==◌, nat_lt, Bool, true, false, cond, List, [], ◌∷◌, ◌++◌, Option, Some, None, refl, sym, ◌∙◌, ap, subst, arith, length, append_assoc, append-nil, slice_get, slice_set, set, length-set}
+use Rattle.std.proofs.Common.{◌≡◌, inl, inr, ℕ, zero, suc, ◌+◌, ◌*◌, ◌%◌, ◌<◌, ◌≤◌, ◌==◌, nat_lt, Bool, true, false, cond, List, [], ◌∷◌, ◌++◌, Option, Some, None, refl, sym, ◌∙◌, ap, subst, arith, length, append_assoc, append-nil, slice_get, slice_set, set, length-set, ◌^◌}
 use Rattle.pv_words.specs.declared.grant.Hold.{Hold}
 use Rattle.pv_words.specs.Held.{Holds, IsProper, holding, holds_of}
 use Rattle.pv_words.specs.Plan.{Plan, Finished}
@@ -109,7 +109,7 @@ module _ (frames grants : ℕ → ℕ) (dom : ℕ) (held : List Hold) where
     puts_so Q prod cons n words false false a b c =
         fits_stores (IsProper frames grants dom) (holding frames) Q (holds_of held) (event_place layout (page_at event) prod) (publish_events (page_at event) prod n) (length words)
         (λ i v small. may_store frames grants dom event held (word_at layout prod i) v own at (in_page layout fits prod i))
-        (λ i v. refl) (may_store frames grants dom event held 1 _ own at (omega arith), λ v. a) 0 words (omega arith)
+        (λ i v. refl) (may_store frames grants dom event held 1 ((prod + n) % 2 ^ 32) own at (omega arith), λ v. a) 0 words (omega arith)
 
     pub fits_put : (Q : Holds → Put → Type 0) (prod n : ℕ) (words : List ℕ) → Q (holds_of held) put.Done → Q (holds_of held) put.Full → ((cons : ℕ) → layout.slots < since cons prod → Q (holds_of held) (put.BadCons prod cons)) → Fit frames grants dom Q (holds_of held) (put_events layout (page_at event) prod n words)
     fits_put Q prod n words a b c =

@@ -8,9 +8,9 @@ use super::{EVENT_LIMIT, IN_CONS, IN_PROD, Link, Put, Stage};
 use event_ring::{EventRing, Room};
 use pv_words::{Access, Place, Turn, Words};
 
-// How events stand in their page: in so many slots from this word on, each of so many words.
+/// How events stand in their page: in so many slots from this word on, each of so many words.
 #[derive(Clone, Copy)]
-struct Layout {
+pub struct Layout {
     slots: u32,
     first: u16,
     size: u16,

@@ -3,9 +3,8 @@
 ghost use Rattle.std.specs.Prelude.{◌≡◌};
 ghost use Rattle.sound_backend.specs.Verdict.{checked, refused};
 
-use pcm_params::Answer;
+use pcm_params::{Answer, NO_RANGES};
 use pcm_stream::StreamRefusal;
-use snd_wire::NO_RANGES;
 
 // The statuses of an operation that isn't known, where memory was wanting, and where a page was denied.
 pub(crate) const EOPNOTSUPP: i32 = -95;

@@ -260,7 +260,8 @@ module _ (site : Site) where
   says_shows p old new told part pixels mark (inl x) small was same = absurd x.tells
   says_shows p old new told part pixels mark (inr (inl x)) small was same =
       served_shows p old.service x.service x.event told part pixels mark x.serves small was.told same
-  says_shows p old new told part pixels mark (inr (inr x)) small was same = absurd x.pays
+  says_shows p old new told part pixels mark (inr (inr (inl x))) small was same = absurd x.pays
+  says_shows p old new told part pixels mark (inr (inr (inr x))) small was same = absurd x.publishes
 
   pub display_names : (es : List (Happening Event)) (end : Snapshot (Rows Lines Waiting)) → IsRun (HappensTo true (machine display_nature site)) (first_snapshot display_nature) es end → ShowsNamed es
   display_names es end run before later part pixels mark taken drawn found split small =

@@ -1,6 +1,8 @@
 -- Accepted requests are answered: a law of the machine of every device whose service's rows settle them.
-use Rattle.std.proofs.Common.{◌≡◌, ◌⊎◌, inl, inr, ℕ, ℤ, Bool, true, false, List, [], ◌∷◌, ◌++◌, Some, None, refl, sym, subst, ◌∙◌, ap}
+use Rattle.std.proofs.Common.{◌≡◌, ◌⊎◌, inl, inr, ℕ, ℤ, Bool, true, false, List, [], ◌∷◌, ◌++◌, Option, Some, None, refl, sym, subst, ◌∙◌, ap}
 use Rattle.std.proofs.lemmas.Option.{same_Some}
+use Rattle.pv_words.specs.declared.device.HostEvent.{HostEvent}
+use Rattle.pv_words.specs.declared.device.HostRefusal.{HostRefusal}
 use Rattle.pv_words.specs.declared.device.NodeValue.{NodeValue}
 use Rattle.pv_words.specs.declared.device.Said.{Said}
 use Rattle.pv_words.specs.declared.device.Said.TheVariants as said
@@ -14,7 +16,7 @@ use Rattle.device_core.specs.Site.{Site}
 use Rattle.device_core.specs.Touched.{Touch}
 use Rattle.device_service.specs.declared.round.Hand.{Hand}
 use Rattle.device_service.specs.Reading.{told_of}
-use Rattle.device_service.specs.Rows.{Enters, Event, Evidence, IsServing, Moves, Rows, Says, SaysOwn, Hears, Begins, Chooses, Table, Tells, makes, owes}
+use Rattle.device_service.specs.Rows.{Enters, Event, Evidence, IsServing, Moves, Rows, Says, SaysOwn, Hears, Begins, Chooses, Table, Tells, heard_unless, makes, owes, refuses}
 use Rattle.backend_core.specs.Answered.{Accepted, IsAnswer, IsAnsweredBy, IsAnsweredIn}
 
 -- a run in two parts
@@ -52,6 +54,7 @@ pub record Settles {Y V : Type 0} (t : Table Y V) (site : Site) : Type 1 where
   pub pays : (old new : Y) (told : Evidence) (what : Said) → t.Pays site old told what new → Fine old → Fine new
   pub chooses : (old new : Y) → t.Chooses old new → Fine old → Fine new
   pub publishes : (old new : Y) (what : Said) → t.Publishes old what new → Fine old → Fine new
+  pub hears : (y : Y) (e : HostEvent) → Fine y → Fine (t.hears y e)
   pub tells_same : (old a b : Y) (told : Evidence) (what : Said) → t.Tells site old told what a → t.Tells site old told what b → a ≡ b
   pub serves_same : (old a b : Y) (e : V) (told : Evidence) (what : Said) → t.Serves site old e told what a → t.Serves site old e told what b → a ≡ b
   pub pays_same : (old a b : Y) (told : Evidence) (what : Said) → t.Pays site old told what a → t.Pays site old told what b → a ≡ b
@@ -62,6 +65,7 @@ pub record Settles {Y V : Type 0} (t : Table Y V) (site : Site) : Type 1 where
   pub paid_apart : (old a b : Y) (told : Evidence) (what : Said) → t.Pays site old told what a → t.Publishes old what b → ⊥
   pub IsAccepted : (maps denied : Bool) → Y → Type 0
   pub stays : (old new : Y) (told : Evidence) (what : Said) (maps denied : Bool) → t.Tells site old told what new → IsAccepted maps denied old → IsAccepted maps (denied_by what denied) new
+  pub hears_stays : (y : Y) (e : HostEvent) (maps denied : Bool) → IsAccepted maps denied y → IsAccepted maps denied (t.hears y e)
   pub answers : (y : Y) (maps denied : Bool) (status : ℤ) → Fine y → IsAccepted maps denied y → t.IsStatus y status → IsAnswer denied maps status
 
 module _ {Y V : Type 0} (t : Table Y V) (site : Site) (law : Settles t site) where
@@ -110,12 +114,17 @@ module _ {Y V : Type 0} (t : Table Y V) (site : Site) (law : Settles t site) whe
       subst (λ (r : Rows Y V). IsCalm r) (sym x.1) (bare_calm _ refl refl (law.begun old.service old.bus.read c.fine))
   says_calm old new told other words x c = own_calm old new told other x c
 
+  -- so it is where an event of the host was heard, unless it was refused
+  hosted_fine : (why : Option HostRefusal) (y : Y) (e : HostEvent) → law.Fine y → law.Fine (heard_unless why y (t.hears y e))
+  hosted_fine None y e f = law.hears y e f
+  hosted_fine (Some why) y e f = f
+
   moves_calm : (old new : Rows Y V) (touched : List Touch) (e : Event) → Moves t site old touched e new → IsCalm old → IsCalm new
   moves_calm old new touched (Says what words f) x c = says_calm old new (record { touched = touched; found = f }) what words x c
   moves_calm old new touched (Hears (Sets front nodes)) x c =
       subst (λ (r : Rows Y V). IsCalm r) (sym x) (record { served = c.served; waits = c.waits; fine = c.fine })
   moves_calm old new touched (Hears (Hosts e)) x c =
-      subst (λ (r : Rows Y V). IsCalm r) (sym x) (record { served = c.served; waits = c.waits; fine = c.fine })
+      subst (λ (r : Rows Y V). IsCalm r) (sym x) (record { served = c.served; waits = c.waits; fine = hosted_fine (refuses t old e) old.service e c.fine })
   moves_calm old new touched Begins x c =
       subst (λ (r : Rows Y V). IsCalm r) (sym x.1) (record { served = c.served; waits = λ w. connects_from old.bus.connection.back old.bus.connection x.0.1; fine = c.fine })
   moves_calm old new touched Chooses x c =
@@ -226,6 +235,10 @@ module _ {Y V : Type 0} (t : Table Y V) (site : Site) (law : Settles t site) whe
   stays_in : (old new : Rows Y V) (h : Hand) (maps denied : Bool) → new.hand ≡ old.hand → new.service ≡ old.service → IsInHand old h maps denied → IsInHand new h maps denied
   stays_in old new h maps denied e s i = record { hand = e ∙ i.hand; accepted = subst (λ (y : Y). law.IsAccepted maps denied y) (sym s) i.accepted }
 
+  hosted_stays : (why : Option HostRefusal) (y : Y) (e : HostEvent) (maps denied : Bool) → law.IsAccepted maps denied y → law.IsAccepted maps denied (heard_unless why y (t.hears y e))
+  hosted_stays None y e maps denied a = law.hears_stays y e maps denied a
+  hosted_stays (Some why) y e maps denied a = a
+
   own_stays : (old new : Rows Y V) (told : Evidence) (what : Said) (h : Hand) (maps denied : Bool) → IsInHand old h maps denied → IsOwn old told what new → IsInHand new h maps (denied_by what denied)
   own_stays old new told what h maps denied i (inl x) =
       subst (λ (r : Rows Y V). IsInHand r h maps (denied_by what denied)) (sym x.done) (record { hand = i.hand; accepted = law.stays old.service x.service told what maps denied x.tells i.accepted })
@@ -253,7 +266,7 @@ module _ {Y V : Type 0} (t : Table Y V) (site : Site) (law : Settles t site) whe
   answered_by (Hears (Sets front nodes)) old new touched h maps denied es c i x later =
       later denied (stays_in old new h maps denied (ap (λ (r : Rows Y V). r.hand) x) (ap (λ (r : Rows Y V). r.service) x) i)
   answered_by (Hears (Hosts e)) old new touched h maps denied es c i x later =
-      later denied (stays_in old new h maps denied (ap (λ (r : Rows Y V). r.hand) x) (ap (λ (r : Rows Y V). r.service) x) i)
+      later denied (subst (λ (r : Rows Y V). IsInHand r h maps denied) (sym x) (record { hand = i.hand; accepted = hosted_stays (refuses t old e) old.service e maps denied i.accepted }))
   answered_by Begins old new touched h maps denied es c i x later =
       later denied (stays_in old new h maps denied (ap (λ (r : Rows Y V). r.hand) x.1) (ap (λ (r : Rows Y V). r.service) x.1) i)
   answered_by Chooses old new touched h maps denied es c i x later = none_some h (sym x.none ∙ i.hand)

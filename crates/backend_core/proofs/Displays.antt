@@ -89,6 +89,7 @@ module _ (site : Site) where
         pays = λ old new told what x f. absurd x;
         chooses = λ old new x f. absurd x;
         publishes = λ old new what x f. absurd x;
+        hears = λ y e f. f;
         tells_same = tells_same;
         serves_same = serves_same;
         pays_same = λ old a b told what x y. absurd x;
@@ -99,6 +100,7 @@ module _ (site : Site) where
         paid_apart = λ old a b told what x y. y;
         IsAccepted = HasAccepted;
         stays = stays;
+        hears_stays = λ y e maps denied a. a;
         answers = answers;
       }
 

@@ -22,7 +22,8 @@ use Rattle.device_core.specs.Machine.{Happening, Row, Meanwhile, Refuses, Gone, 
 use Rattle.device_core.specs.Order.{Sets, Hosts}
 use Rattle.device_core.specs.Site.{Site}
 use Rattle.device_core.specs.Touched.{Touch}
-use Rattle.device_service.specs.Rows.{Event, Evidence, Moves, Rows, Says, SaysOwn, Hears, Begins, Chooses, Tells as SaysBy}
+use Rattle.device_service.specs.Rows.{Event, Evidence, Moves, Rows, Says, SaysOwn, Hears, Begins, Chooses, Tells as SaysBy, refuses}
+use Rattle.device_service.proofs.Hearing.{unheard}
 use Rattle.display_backend.specs.declared.waiting.Waiting.{Waiting}
 use Rattle.display_backend.specs.declared.waiting.Waiting.TheVariants as waiting
 use Rattle.display_backend.specs.Picture.{AreShown, number_under, source_at, source_by, source_in, source_of}
@@ -125,7 +126,8 @@ module _ (site : Site) where
   moves_past : (p : Past) (old new : Rows Lines Waiting) (touched : List Touch) (e : Event) → Moves table site old touched e new → IsPast p old → IsPast (event_after p e) new
   moves_past p old new touched (Says what words f) x was = says_past p old new (record { touched = touched; found = f }) what words x was
   moves_past p old new touched (Hears (Sets front nodes)) x was = subst (λ r. IsPast p r) (sym x) (record { replies = was.replies; told = was.told })
-  moves_past p old new touched (Hears (Hosts e)) x was = subst (λ r. IsPast p r) (sym x) (record { replies = was.replies; told = was.told })
+  moves_past p old new touched (Hears (Hosts e)) x was =
+      subst (λ r. IsPast p r) (sym x) (record { replies = was.replies; told = subst (λ y. IsToldBy p y) (sym (unheard (refuses table old e) old.service old.service refl)) was.told })
   moves_past p old new touched Begins x was = subst (λ r. IsPast p r) (sym x.1) (record { replies = was.replies; told = was.told })
   moves_past p old new touched Chooses x was = absurd x.chooses
 

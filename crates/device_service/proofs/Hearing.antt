@@ -1,5 +1,5 @@
 -- What a backend hears, and which events of the host it refuses, wherever it stands.
-use Rattle.std.proofs.Common.{◌≡◌, ◌<◌, true, false, not, [], is_some, List, Some, Result, Ok, Err, OnErr, refl}
+use Rattle.std.proofs.Common.{◌≡◌, ◌<◌, true, false, not, [], is_some, List, Option, None, Some, Result, Ok, Err, OnErr, refl}
 use mathlib.Core.HLevel.{is_prop→PathP}
 use Rattle.std.proofs.Props.{props}
 use Rattle.device_service.specs.declared.round.Hand.{Hand}
@@ -9,6 +9,7 @@ use Rattle.device_service.specs.Nodes.{Ringed}
 use Rattle.device_service.specs.Parts as of_parts
 use Rattle.device_service.specs.Waits.{WaitAt}
 use Rattle.pv_words.specs.declared.device.HostEvent.{HostEvent}
+use Rattle.pv_words.specs.declared.device.HostRefusal.{HostRefusal}
 use Rattle.pv_words.specs.declared.device.HostRefusal.TheVariants.{NotConnected}
 use Rattle.pv_words.specs.declared.device.State.{State}
 use Rattle.pv_words.specs.declared.device.State.TheVariants as state
@@ -20,6 +21,7 @@ use Rattle.device_service.specs.declared.backend.Activity.{Activity}
 use Rattle.device_service.specs.declared.backend.Activity.TheVariants as activity
 use Rattle.device_service.specs.declared.backend.Backend.{Backend}
 use Rattle.device_service.specs.declared.serve.Serve.{Ghosts}
+use Rattle.device_service.specs.Rows.{heard_unless}
 use Rattle.device_service.specs.Service.{Service}
 use Rattle.device_service.specs.Raising.{raises_on}
 use Rattle.device_service.specs.Stand.{stand_at, stand_in, stand_of, work_of}
@@ -41,6 +43,11 @@ module _ {S E : Type 0} {g : Ghosts S E} where
   heard_in site d w activity.Answering news = refl
   heard_in site d w (activity.Raising part) news = refl
   heard_in site d w activity.Sleeping news = refl
+
+-- a service that hears of no event knows what it knew
+pub unheard : {X : Type 0} (why : Option HostRefusal) (x y : X) → y ≡ x → heard_unless why x y ≡ x
+unheard None x y e = e
+unheard (Some why) x y e = refl
 
 -- what holds at each refusal
 pub err_only : {A E : Type 0} (r : Result A E) (P : Type 0) → ((why : E) → r ≡ Err why → P) → OnErr r P

@@ -5,6 +5,7 @@ use Rattle.std.proofs.Math.Nat.{le-add_left}
 use Rattle.pv_words.specs.Plan.{Want, Note, Plain, Begins, Frames, Undoes, Ends, Takes, Puts, IsUntouched}
 use Rattle.device_service.specs.Claims.{KeepsLaws}
 use Rattle.device_service.specs.Laws.{IsRaise, IsTouching}
+use Rattle.device_service.proofs.Soundness.Work.{goes_as}
 use Rattle.device_service.specs.Refusing.{facts, refused, refusing, reply_to, shows_none}
 
 -- and no group is published
@@ -37,7 +38,7 @@ keeps_laws frames grants dom parts =
     record {
       kind_is = refl;
       waits_is = λ e. refl;
-      refusal_is = λ b vs e. refl;
+      refusal_is = λ x m b vs e. refl;
       pages_are = λ x q. tt;
       short = short;
       begun_sane = λ x nodes. (tt, refl, refl);
@@ -77,6 +78,8 @@ keeps_laws frames grants dom parts =
       chooses_shows = λ x g m q has due n. absurd (none_due x g due);
       publishes = λ x g q has way. absurd (none_way x g way);
       publishes_shows = λ x g m q has way n. absurd (none_way x g way);
+      hears = λ x e. goes_as refusing facts x;
+      hears_shows = λ x e m n. (tt, refl, refl, λ key. refl);
       meets_plain = λ x want note u. u;
       meets = λ x m want note q n u. meets x m want note u;
     }

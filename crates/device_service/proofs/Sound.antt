@@ -25,7 +25,7 @@ use Rattle.device_service.specs.Nodes.{Kind, needs_of, refs_from}
 use Rattle.link_core.specs.Raise.{limit}
 use Rattle.device_service.specs.Reading.{Naming, begins_by, begins_of, begins_owed, begins_pays, begins_state, begins_with, first_naming}
 use Rattle.device_service.specs.Service.{IsFresh, Owed}
-use Rattle.device_service.specs.Work.{Work, End, Left, Renewed, all_pages, beginning, choice, connect_all, device, entered, first_work, pays, settled, told, with_action, with_closing, with_kept, with_owed, with_state}
+use Rattle.device_service.specs.Work.{Work, End, Left, Renewed, all_pages, beginning, choice, connect_all, device, entered, first_work, pays, refused_at, settled, told, with_action, with_closing, with_kept, with_owed, with_state}
 use Rattle.xenbus_states.proofs.Actions.{connects_apart, closes_asked, renews_again, closed_apart}
 use Rattle.device_service.proofs.Soundness.Begins.{BeginsSo, begins_leaving, chosen, opened_at, plain_fits, same_work, shown_of}
 use Rattle.device_service.proofs.Soundness.Connect.{fits_all, found_all}
@@ -34,7 +34,7 @@ use Rattle.device_service.proofs.Soundness.Same.{none_same}
 use Rattle.device_service.proofs.Soundness.Serves.{begins_raising, begins_with_hand}
 use Rattle.device_service.proofs.Soundness.Settles.{no_reason, rests, settles}
 use Rattle.device_service.proofs.Soundness.Tells.{quiet, tells}
-use Rattle.device_service.proofs.Soundness.Work.{Lawful, held_pages, TellsHeld, IsKept, Tells, site, learned, IsNamed, IsBare, IsDue, IsSane, EndsSo, EndsWell, bare_unless, hears_move, hears_owed, hears_said, hears_sane, hears_told, hears_well}
+use Rattle.device_service.proofs.Soundness.Work.{Lawful, held_pages, TellsHeld, IsKept, Tells, site, learned, IsNamed, IsBare, IsDue, IsSane, EndsSo, EndsWell, bare_unless, goes_hosted, hears_move, hears_owed, hears_said, hears_sane, hears_told, hears_well}
 
 none_in : {A : Type 0} (x : Option A) → is_some x ≡ false → x ≡ None
 none_in None e = refl
@@ -134,7 +134,7 @@ module _ {X A V Y M : Type 0} (D : Lawful X A V Y M) where
 
   meets_heard : (w : Work X V) (news : News) (want : Want) (note : Note) → known.Meets w.service want note → known.Meets (told s w news).service want note
   meets_heard w (Sets front nodes) want note u = u
-  meets_heard w (Hosts e) want note u = u
+  meets_heard w (Hosts e) want note u = (goes_hosted D w.service e (refused_at s w e)).meets want note u
 
   -- an access lies where the device holds
   abbrev pub Lies : Learned → Want → Note → Type 0

@@ -1,5 +1,5 @@
 -- What a service owes to the order of work, of its own definitions alone.
-use Rattle.std.specs.Prelude.{◌≡◌, ℕ, ◌≤◌, Bool, true, false, List, [], ◌∷◌, ◌++◌, length, map, slice_get, Option, Some, None}
+use Rattle.std.specs.Prelude.{◌≡◌, ℕ, ℤ, ◌≤◌, Bool, true, false, List, [], ◌∷◌, ◌++◌, length, map, slice_get, Option, Some, None}
 use Rattle.pv_words.specs.declared.device.HostEvent.{HostEvent}
 use Rattle.pv_words.specs.declared.device.NodeValue.{NodeValue}
 use Rattle.pv_words.specs.declared.device.Said.{Said}
@@ -18,7 +18,7 @@ use Rattle.device_core.specs.Site.{Site}
 use Rattle.device_core.specs.Touched.{Carried, Touch, carrying, numbered}
 use Rattle.device_service.specs.Reading.{Shows}
 use Rattle.device_service.specs.Rows.{Table, Evidence, made_if}
-use Rattle.device_service.specs.Service.{Job, Works, Starves, Owed, Runs, Raises, Service}
+use Rattle.device_service.specs.Service.{Job, Works, Starves, Owed, Deed, Runs, Raises, Service}
 
 -- the request in hand leads to this activity, with what the service knows from its beginning on
 abbrev pub Leads : {X A : Type 0} → Job X A → X → Plan A → Type 0
@@ -106,11 +106,58 @@ pub record Facts (X A V M : Type 0) : Type 1 where
   pub EndsDone : V → X → Found → List Touch → A → Type 0
   pub Meets : X → Want → Note → Type 0
 
+-- What of a service counts where an activity ends: whether the request in hand is to be answered, and by which status; what is said, of
+-- its own activities and of events; and the pages that it holds then.
+pub record Ends (A V : Type 0) : Type 0 where
+  pub ready : Bool
+  pub status : ℤ
+  pub says : A → Option Said
+  pub put : Option V → Said
+  pub event : V → Deed A
+  pub owes : Option Owed
+  pub pages : List Hold
+  pub dropped : List Hold
+  pub answered : List Hold
+  pub after : A → List Hold
+  pub after_put : Option V → List Hold
+  pub after_full : Option V → List Hold
+  pub told : List Hold
+  pub untold : List Hold
+
+abbrev pub ends_of : {X A V : Type 0} → Service X A V → X → Ends A V
+ends_of s x =
+    record {
+      ready = s.ready x;
+      status = s.status x;
+      says = s.says x;
+      put = s.put x;
+      event = s.event x;
+      owes = s.owes x;
+      pages = s.pages x;
+      dropped = s.pages (s.dropped x);
+      answered = s.pages (s.answered x);
+      after = λ a. s.pages (s.after x a);
+      after_put = λ e. s.pages (s.after_put x e);
+      after_full = λ e. s.pages (s.after_full x e);
+      told = s.pages (s.groups.told x);
+      untold = s.pages (s.groups.untold x);
+    }
+
+-- An activity that is under way ends as well by what a service knows now as by what it knew before.
+pub record GoesOnAs {X A V M : Type 0} (s : Service X A V) (known : Facts X A V M) (old new : X) : Type 0 where
+  pub ends : ends_of s new ≡ ends_of s old
+  pub way : s.groups.way new ≡ s.groups.way old
+  pub sane : known.Sane old → known.Sane new
+  pub has : (b : Bool) → known.Has b old → known.Has b new
+  pub own : (f : Found) (ts : List Touch) (a : A) → known.EndsOwn old f ts a → known.EndsOwn new f ts a
+  pub done : (e : V) (f : Found) (ts : List Touch) (a : A) → known.EndsDone e old f ts a → known.EndsDone e new f ts a
+  pub meets : (want : Want) (note : Note) → known.Meets old want note → known.Meets new want note
+
 pub record Laws {X A V Y M : Type 0} (s : Service X A V) (t : Table Y V) (r : Shows X Y M) (known : Facts X A V M) (site : Site) (frames grants : ℕ → ℕ) : Type 0 where
   -- 1. its nodes and the host's events are those of the machine
   pub kind_is : s.kind ≡ t.kind
   pub waits_is : (e : HostEvent) → s.waits e ≡ t.waits e
-  pub refusal_is : (b : State) (vs : List V) (e : HostEvent) → s.refusal b vs e ≡ t.refusal b vs e
+  pub refusal_is : (x : X) (m : M) (b : State) (vs : List V) (e : HostEvent) → s.refusal x b vs e ≡ t.refusal (r.rows x m) b vs e
   -- 2. the pages are the domain's, and a reply has at most sixteen words
   pub pages_are : (x : X) → known.Sane x → AreOf (grants site.dom) site.dom (s.pages x)
   pub short : (x : X) → length (s.reply x) ≤ 16
@@ -232,7 +279,13 @@ pub record Laws {X A V Y M : Type 0} (s : Service X A V) (t : Table Y V) (r : Sh
       × (r.names (s.groups.told x) m ≡ r.names x m))
       × (known.Named (s.groups.untold x) m × t.Publishes (r.rows x m) (said.Full 0) (r.rows (s.groups.untold x) m)
       × (r.names (s.groups.untold x) m ≡ r.names x m))
-  -- 12. words of names: what touches none may be done, and what touches one is a word of a live name
+  -- 12. an event of the host is heard, whatever is under way
+  pub hears : (x : X) (e : HostEvent) → GoesOnAs s known x (s.hears x e)
+  pub hears_shows :
+      (x : X) (e : HostEvent) (m : M) → known.Named x m
+      → known.Named (s.hears x e) m × (r.rows (s.hears x e) m ≡ t.hears (r.rows x m) e) × (r.names (s.hears x e) m ≡ r.names x m)
+      × SameNumbers r x (s.hears x e) m
+  -- 13. words of names: what touches none may be done, and what touches one is a word of a live name
   pub meets_plain : (x : X) (want : Want) (note : Note) → IsUntouched note → known.Meets x want note
   pub meets :
       (x : X) (m : M) (want : Want) (note : Note) → known.Sane x → known.Named x m → known.Meets x want note

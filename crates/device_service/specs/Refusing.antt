@@ -42,7 +42,8 @@ refusing =
       says = λ x a. None;
       after = λ x a. x;
       waits = λ e. None;
-      refusal = λ b vs e. refusal_of b vs;
+      hears = λ x e. x;
+      refusal = λ x b vs e. refusal_of b vs;
     }
 
 -- its rows are that status alone
@@ -62,7 +63,8 @@ refused =
       replied = λ y n status. tt;
       makes = λ y status. false;
       waits = λ e. None;
-      refusal = λ b vs e. refusal_of b vs;
+      hears = λ y e. y;
+      refusal = λ y b vs e. refusal_of b vs;
     }
 
 -- it has no name

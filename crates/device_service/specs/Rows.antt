@@ -52,9 +52,10 @@ pub record Table (Y V : Type 0) : Type 1 where
   pub IsStatus : Y → ℤ → Type 0
   pub replied : Y → ℕ → ℤ → Y
   pub makes : Y → ℤ → Bool
-  -- which events of the host wait, and why one is refused
+  -- which events of the host wait, the rows once one was heard, and why one is refused
   pub waits : HostEvent → Option V
-  pub refusal : State → List V → HostEvent → Option HostRefusal
+  pub hears : Y → HostEvent → Y
+  pub refusal : Y → State → List V → HostEvent → Option HostRefusal
 
 -- The connection with the nodes, the request in hand, how many requests were answered, the host's events that wait, and the rows of
 -- the service.
@@ -90,6 +91,11 @@ IsOwnCause kind site bus f (reason.Spent prod) = (bus.connection.back ≡ state.
 IsOwnCause kind site bus f (reason.Refused why) =
     (bus.connecting ≡ true) × ((gref : ℕ) × IsAskedFor kind site bus.read gref × IsShown site.frames site.grants gref Write f why)
 IsOwnCause kind site bus f other = ⊥
+
+-- an event of the host is heard, unless it is refused
+abbrev pub heard_unless : {X : Type 0} → Option HostRefusal → X → X → X
+heard_unless None old new = new
+heard_unless (Some why) old new = old
 
 -- A closed connection tells why.
 abbrev pub IsReason : Kind → Site → Bus → Found → Reason → Type 0
@@ -192,11 +198,18 @@ module _ {Y V : Type 0} (t : Table Y V) where
   Tells site old told (said.State b) taken new = Enters site old b new
   Tells site old told other taken new = SaysOwn site old told other new
 
+  -- an event of the host waits where it is one that does, and is heard, unless it is refused
+  abbrev pub refuses : Rows Y V → HostEvent → Option HostRefusal
+  refuses old e = t.refusal old.service old.bus.connection.back old.waiting e
+
+  abbrev pub hosted : Rows Y V → HostEvent → Rows Y V
+  hosted old e =
+      record old { waiting = unless (refuses old e) old.waiting (t.waits e); service = heard_unless (refuses old e) old.service (t.hears old.service e) }
+
   abbrev pub Moves : Site → Rows Y V → List Touch → Event → Rows Y V → Type 0
   Moves site old touched (Says what taken f) new = Tells site old (record { touched = touched; found = f }) what taken new
   Moves site old touched (Hears (Sets front nodes)) new = new ≡ record old { bus = bus_heard old.bus front nodes }
-  Moves site old touched (Hears (Hosts e)) new =
-      new ≡ record old { waiting = unless (t.refusal old.bus.connection.back old.waiting e) old.waiting (t.waits e) }
+  Moves site old touched (Hears (Hosts e)) new = new ≡ hosted old e
   Moves site old touched Begins new = MayConnect old.bus × (new ≡ record old { bus = bus_begun old.bus })
   Moves site old touched Chooses new = Chosen old new
 
@@ -207,5 +220,5 @@ module _ {Y V : Type 0} (t : Table Y V) where
 
   -- an event of the host leaves its refusal owed where it is refused
   abbrev pub owes : Rows Y V → Event → Option HostRefusal
-  owes old (Hears (Hosts e)) = t.refusal old.bus.connection.back old.waiting e
+  owes old (Hears (Hosts e)) = refuses old e
   owes old other = None

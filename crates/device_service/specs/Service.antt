@@ -74,9 +74,10 @@ pub record Service (X A V : Type 0) : Type 0 where
   -- what is said at the end of an activity of the service, and what it then knows
   pub says : X → A → Option Said
   pub after : X → A → X
-  -- which events of the host wait, and why one is refused
+  -- which events of the host wait; what it knows once it heard one, at any moment; and why one is refused
   pub waits : HostEvent → Option V
-  pub refusal : State → List V → HostEvent → Option HostRefusal
+  pub hears : X → HostEvent → X
+  pub refusal : X → State → List V → HostEvent → Option HostRefusal
 
 -- What a service knows whose device was just declared: to take a state leaves it so, as long as no node was read.
 abbrev pub IsFresh : {X A V : Type 0} → Service X A V → X → Type 0

@@ -32,7 +32,7 @@ use Rattle.link_core.specs.declared.link.Put.{Put}
 use Rattle.link_core.specs.declared.link.Put.TheVariants as put
 use Rattle.link_core.specs.Link.{published_of}
 use Rattle.link_core.specs.Raise.{put_plan, put_events, input_layout, limit}
-use Rattle.device_service.specs.Rows.{Hand, hand_in}
+use Rattle.device_service.specs.Rows.{Hand, hand_in, heard_unless}
 pub use Rattle.device_service.specs.declared.round.Round.{Round}
 pub use Rattle.device_service.specs.declared.round.Round.TheVariants.{Looks, Sleeps, Idles}
 use Rattle.device_service.specs.Service.{Job, Works, Starves, Owed, Deed, Runs, Raises, Service}
@@ -384,12 +384,13 @@ module _ {X A V : Type 0} (s : Service X A V) where
 
   -- why an event of the host is refused, if it is
   abbrev pub refused_at : Work X V → HostEvent → Option HostRefusal
-  refused_at w e = s.refusal w.connection.back w.waiting e
+  refused_at w e = s.refusal w.service w.connection.back w.waiting e
 
-  -- the frontend set its state, while the nodes stood so; or the host told an event, which waits unless it is refused
+  -- the frontend set its state, while the nodes stood so; or the host told an event, which waits, and is heard, unless it is refused
   abbrev pub told : Work X V → News → Work X V
   told w (Sets front nodes) = record w { connection = heard w.connection front; seen = nodes }
-  told w (Hosts e) = record w { waiting = unless (refused_at w e) w.waiting (s.waits e) }
+  told w (Hosts e) =
+      record w { waiting = unless (refused_at w e) w.waiting (s.waits e); service = heard_unless (refused_at w e) w.service (s.hears w.service e) }
 
   abbrev pub device : Site → Rules (Work X V) (End A V)
   device site = record { choice = choice site; said_at = said_at; settled = settled site; refuses = refused_at; heard = told }

@@ -86,7 +86,10 @@ pub trait Serve {
     ghost ungrouped: { (x : Known) → service.groups.due x ≡ None };
 
     /// An event of the host is refused where the backend isn't connected, or else 64 wait.
-    ghost refuses: { (b : State) (es : List Self.Event) (e : HostEvent) → service.refusal b es e ≡ refusal_of b es };
+    ghost refuses: { (x : Known) (b : State) (es : List Self.Event) (e : HostEvent) → service.refusal x b es e ≡ refusal_of b es };
+
+    /// It hears of no other than those that wait.
+    ghost hears_none: { (x : Known) (e : HostEvent) → service.hears x e ≡ x };
 
     /// It keeps its laws.
     fn keeps_laws()

@@ -71,6 +71,7 @@ use Rattle.display_backend.proofs.Taking.{may_take, word_of_name}
 use Rattle.display_backend.proofs.Wholes.{answered_whole, bared_whole, not_mapped, whole_any, whole_still}
 use Rattle.display_backend.proofs.Pictures.{picture_within, same_source, shown_numbered, within_so}
 use Rattle.device_service.proofs.Soundness.Same.{are_append, are_left, are_right, are_same}
+use Rattle.device_service.proofs.Soundness.Work.{goes_as}
 use Rattle.device_core.specs.Site.{Site}
 use Rattle.device_service.specs.Service.{Runs, Raises}
 use Rattle.device_service.specs.Rows.{Evidence, made_if}
@@ -729,7 +730,7 @@ module _ (frames grants : ℕ → ℕ) (dom parts : ℕ) where
       record {
         kind_is = refl;
         waits_is = λ e. refl;
-        refusal_is = λ b vs e. refl;
+        refusal_is = λ x m b vs e. refl;
         pages_are = λ x s. s.0;
         short = λ x. short x x.request;
         begun_sane = λ x nodes. ((tt, no_buffers, none_sound []), ((refl, (refl, refl)), tt), refl);
@@ -769,6 +770,8 @@ module _ (frames grants : ℕ → ℕ) (dom parts : ℕ) where
         chooses_shows = λ x g m s h due named. let wrong : ⊥ = cc in absurd wrong;
         publishes = λ x g s h way. let wrong : ⊥ = cc in absurd wrong;
         publishes_shows = λ x g m s h way named. let wrong : ⊥ = cc in absurd wrong;
+        hears = λ x e. goes_as display (facts frames grants dom parts) x;
+        hears_shows = λ x e m named. (named, refl, refl, λ key. refl);
         meets_plain = meets_plain;
         meets = λ x m want note s named u. meets x m want note named u;
       }

@@ -190,7 +190,8 @@ display =
       says = λ x a. says_at a;
       after = after_end;
       waits = waiting_of;
-      refusal = λ b es e. refusal_of b es;
+      hears = λ x e. x;
+      refusal = λ x b es e. refusal_of b es;
     }
 
 -- the display's rows: the request in hand, whether a page was denied to it, the live buffers with their names' numbers, and the
@@ -267,7 +268,8 @@ table =
       replied = λ y n status. replied_for y y.request n status;
       makes = λ y status. makes_for y.request status;
       waits = waiting_of;
-      refusal = λ b es e. refusal_of b es;
+      hears = λ y e. y;
+      refusal = λ y b es e. refusal_of b es;
     }
 
 abbrev pub named_for : Known → Option Request → ℕ → List ℕ → List ℕ

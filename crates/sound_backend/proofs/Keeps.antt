@@ -34,6 +34,7 @@ use Rattle.device_service.specs.Rows.{made_if}
 use Rattle.device_service.specs.Service.{Runs}
 use Rattle.device_service.proofs.Mapping.Keeping.{are_parted, beside, freed_fits, made_cond, page_are, same_parted, walk_fits, walk_found}
 use Rattle.device_service.proofs.Soundness.Same.{are_append, are_right, are_same}
+use Rattle.device_service.proofs.Soundness.Work.{goes_as}
 use Rattle.sound_backend.specs.declared.course.Demand.{Demand}
 use Rattle.page_directory.specs.declared.progress.Progress.{Progress}
 use Rattle.page_directory.specs.declared.progress.Progress.TheVariants as progress
@@ -499,7 +500,7 @@ module _ (frames grants : ℕ → ℕ) (dom parts : ℕ) where
       record {
         kind_is = refl;
         waits_is = λ e. refl;
-        refusal_is = λ b vs e. refl;
+        refusal_is = λ x m b vs e. refl;
         pages_are = λ x s. s.0;
         short = λ x. let whole = whole_replies x in omega (arith, whole);
         begun_sane = λ x nodes.
@@ -541,6 +542,8 @@ module _ (frames grants : ℕ → ℕ) (dom parts : ℕ) where
         chooses_shows = λ x g m s h due named. let wrong : ⊥ = cc in absurd wrong;
         publishes = λ x g s h way. let wrong : ⊥ = cc in absurd wrong;
         publishes_shows = λ x g m s h way named. let wrong : ⊥ = cc in absurd wrong;
+        hears = λ x e. goes_as sound (facts frames grants dom parts) x;
+        hears_shows = λ x e m named. (named, refl, refl, λ key. refl);
         meets_plain = λ x want note u. u;
         meets = λ x m want note s named u. meets x m want note u;
       }

@@ -157,7 +157,8 @@ sound =
       says = says_at;
       after = after_end;
       waits = waiting_of;
-      refusal = λ b es e. refusal_of b es;
+      hears = λ x e. x;
+      refusal = λ x b es e. refusal_of b es;
     }
 
 -- the rows of a sound device: the streams, the request in hand, and whether a page was denied to it
@@ -213,7 +214,8 @@ table =
       replied = λ y n status. replied_for y y.demand status;
       makes = λ y status. makes_for y.demand status;
       waits = waiting_of;
-      refusal = λ b es e. refusal_of b es;
+      hears = λ y e. y;
+      refusal = λ y b es e. refusal_of b es;
     }
 
 abbrev pub named_for : Known → Option Demand → ℕ → List Numbered → List Numbered

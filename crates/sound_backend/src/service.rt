@@ -255,7 +255,9 @@ impl Serve for Service {
 
     ghost ungrouped = { λ x. refl };
 
-    ghost refuses = { λ b es e. refl };
+    ghost refuses = { λ x b es e. refl };
+
+    ghost hears_none = { λ x e. refl };
 
     fn keeps_laws() {}
 

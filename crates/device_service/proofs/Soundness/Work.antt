@@ -5,6 +5,7 @@ use Rattle.pv_words.specs.declared.device.HostRefusal.{HostRefusal}
 use Rattle.pv_words.specs.declared.device.NodeValue.{NodeValue}
 use Rattle.pv_words.specs.declared.device.Reason.{Reason}
 use Rattle.pv_words.specs.declared.device.Reason.TheVariants as reason
+use Rattle.pv_words.specs.declared.device.Said.TheVariants as said
 use Rattle.pv_words.specs.declared.device.State.{State}
 use Rattle.pv_words.specs.declared.device.State.TheVariants as state
 use Rattle.pv_words.specs.declared.grant.Hold.{Hold}
@@ -25,12 +26,13 @@ use Rattle.device_core.specs.Order.{News, Sets, Hosts, refused_by}
 use Rattle.device_core.specs.Site.{Site}
 use Rattle.device_core.specs.Touched.{Carried, Touch}
 use Rattle.device_service.specs.Claims.{site_of}
-use Rattle.device_service.specs.Laws.{Facts, Laws, AreHeld, IsRaise}
+use Rattle.device_service.specs.Laws.{Facts, GoesOnAs, Laws, AreHeld, IsRaise, SameNumbers}
 use Rattle.device_service.specs.Nodes.{Kind, needs_of}
+use Rattle.link_core.specs.Activities.{Joined}
 use Rattle.link_core.specs.declared.link.Put.{Put}
 use Rattle.link_core.specs.declared.link.Put.TheVariants as put
 use Rattle.device_service.specs.Reading.{Naming, Shows, reading, rows_of}
-use Rattle.device_service.specs.Rows.{Table, Rows, Hand, Event, Hears, IsOwnCause, IsReason, owes, slots_in}
+use Rattle.device_service.specs.Rows.{Table, Rows, Hand, Event, Hears, IsOwnCause, IsReason, heard_unless, hosted, owes, slots_in}
 use Rattle.device_service.specs.Service.{Service}
 use Rattle.device_service.specs.Work.{Work, bus_of, End, Saw, Took, Own, Done, Answered, Slept, Met, Denied, Lacked, Shut, Left, Renewed, Raised, Grouped, all_pages, after_look, after_sleep, after_answer, after_raise, after_group, device, refused_at, replied_in, raise_said, group_said, said_at, settled, told}
 use Rattle.device_service.proofs.Soundness.Plans.{AllOwn}
@@ -102,6 +104,10 @@ stays_oldest : {V : Type 0} (why : Option HostRefusal) (xs : List V) (y : Option
 stays_oldest None xs None x later e = (later, e)
 stays_oldest None xs (Some y) x later e = (later ++ y ∷ [], ap (λ zs. zs ++ y ∷ []) e)
 stays_oldest (Some why) xs y x later e = (later, e)
+
+-- what a service knows stays
+pub goes_as : {X A V M : Type 0} (s : Service X A V) (known : Facts X A V M) (x : X) → GoesOnAs s known x x
+goes_as s known x = record { ends = refl; way = refl; sane = λ q. q; has = λ b q. q; own = λ f ts a q. q; done = λ e f ts a q. q; meets = λ want note q. q }
 
 -- a reason stays one, whatever the frontend sets
 own_heard : (kind : Kind) (site : Site) (bus : Bus) (front : State) (nodes : List NodeValue) (f : Found) (why : Reason) → IsOwnCause kind site bus f why → IsOwnCause kind site (bus_heard bus front nodes) f why
@@ -229,51 +235,69 @@ module _ {X A V Y M : Type 0} (D : Lawful X A V Y M) where
     again : w.connection.again ≡ true → c.again ≡ true
     oldest : (x : V) (later : List V) → w.waiting ≡ x ∷ later → (rest : List V) × (waits ≡ x ∷ rest)
 
-  module _ (w : Work X V) (c : Connection) (nodes : List NodeValue) (waits : List V) where
+  module _ (w : Work X V) (c : Connection) (nodes : List NodeValue) (waits : List V) (y : X) (goes : GoesOnAs s known w.service y) where
     abbrev now : Work X V
-    now = record w { connection = c; seen = nodes; waiting = waits }
+    now = record w { connection = c; seen = nodes; waiting = waits; service = y }
+
+    beside : (hs ks : List Hold) (js : List Joined) → hs ≡ ks → hs ++ all_pages js ≡ ks ++ all_pages js
+    beside hs ks js e = ap (λ xs. xs ++ all_pages js) e
+
+    same_pages : held_pages s now ≡ held_pages s w
+    same_pages = beside (s.pages y) (s.pages w.service) w.parts (ap (λ z. z.pages) goes.ends)
 
     look_now : (x : Looked) → held_pages s (after_look s site now x) ≡ held_pages s (after_look s site w x)
-    look_now looked.Nothing = refl
-    look_now (looked.Ready n) = refl
-    look_now (looked.Overrun prod rsp) = refl
+    look_now looked.Nothing = same_pages
+    look_now (looked.Ready n) = same_pages
+    look_now (looked.Overrun prod rsp) = same_pages
 
     sleep_now : (quiet : Bool) → held_pages s (after_sleep s now quiet) ≡ held_pages s (after_sleep s w quiet)
-    sleep_now true = refl
-    sleep_now false = refl
+    sleep_now true = same_pages
+    sleep_now false = same_pages
 
     replied_now : (x : Option Hand) → held_pages s (after_answer s now x) ≡ held_pages s (after_answer s w x)
-    replied_now None = refl
-    replied_now (Some x) = refl
+    replied_now None = same_pages
+    replied_now (Some x) = beside (s.pages (s.answered y)) (s.pages (s.answered w.service)) _ (ap (λ z. z.answered) goes.ends)
 
     raise_now : (part : ℕ) (e : Option V) (p : Put) → held_pages s (after_raise s now part e p) ≡ held_pages s (after_raise s w part e p)
-    raise_now part e put.Done = refl
-    raise_now part e put.Full = refl
-    raise_now part e (put.BadCons prod cons) = refl
-    raise_now part e (put.Spent prod) = refl
+    raise_now part e put.Done = beside (s.pages (s.after_put y e)) (s.pages (s.after_put w.service e)) _ (ap (λ z. z.after_put e) goes.ends)
+    raise_now part e put.Full = beside (s.pages (s.after_full y e)) (s.pages (s.after_full w.service e)) _ (ap (λ z. z.after_full e) goes.ends)
+    raise_now part e (put.BadCons prod cons) = same_pages
+    raise_now part e (put.Spent prod) = same_pages
 
     group_now : (n : ℕ) (p : Put) → held_pages s (after_group s now n p) ≡ held_pages s (after_group s w n p)
-    group_now n put.Done = refl
-    group_now n put.Full = refl
-    group_now n (put.BadCons prod cons) = refl
-    group_now n (put.Spent prod) = refl
+    group_now n put.Done = beside (s.pages (s.groups.told y)) (s.pages (s.groups.told w.service)) _ (ap (λ z. z.told) goes.ends)
+    group_now n put.Full = beside (s.pages (s.groups.untold y)) (s.pages (s.groups.untold w.service)) _ (ap (λ z. z.untold) goes.ends)
+    group_now n (put.BadCons prod cons) = same_pages
+    group_now n (put.Spent prod) = same_pages
+
+    own_now : (a : A) → held_pages s (record now { service = s.after y a }) ≡ held_pages s (record w { service = s.after w.service a })
+    own_now a = beside (s.pages (s.after y a)) (s.pages (s.after w.service a)) w.parts (ap (λ z. z.after a) goes.ends)
+
+    shut_now : s.pages (s.dropped y) ++ [] ≡ s.pages (s.dropped w.service) ++ []
+    shut_now = ap (λ z. z.dropped ++ []) goes.ends
+
+    entered_now : (js : List Joined) → s.pages (s.begun y w.read) ++ all_pages js ≡ s.pages (s.begun w.service w.read) ++ all_pages js
+    entered_now js =
+        beside (s.pages (s.begun y w.read)) (s.pages (s.begun w.service w.read)) js ((l.begun_sane y w.read).2 ∙ sym (l.begun_sane w.service w.read).2)
 
     pages_now : (o : End A V) → held_pages s (settled s site now o) ≡ held_pages s (settled s site w o)
     unfolding settled
     pages_now (Saw x) = look_now x
-    pages_now (Took words) = refl
-    pages_now (Own a) = refl
-    pages_now (Done a) = refl
+    pages_now (Took words) =
+        beside (s.pages (s.taken y w.at words)) (s.pages (s.taken w.service w.at words)) w.parts
+        (l.takes_pages y w.at words ∙ (ap (λ z. z.pages) goes.ends ∙ sym (l.takes_pages w.service w.at words)))
+    pages_now (Own a) = own_now a
+    pages_now (Done a) = own_now a
     pages_now (Answered notified) = replied_now w.hand
     pages_now (Slept quiet) = sleep_now quiet
-    pages_now (Met ps) = refl
-    pages_now (Denied why) = refl
-    pages_now (Lacked problem) = refl
-    pages_now (Shut why) = refl
+    pages_now (Met ps) = entered_now ps
+    pages_now (Denied why) = shut_now
+    pages_now (Lacked problem) = shut_now
+    pages_now (Shut why) = shut_now
     pages_now (Raised part e p) = raise_now part e p
     pages_now (Grouped n p) = group_now n p
-    pages_now Left = refl
-    pages_now Renewed = refl
+    pages_now Left = entered_now w.parts
+    pages_now Renewed = entered_now w.parts
 
     -- the reason that is kept at an activity's end
     kept_answer : (x : Option Hand) → (after_answer s now x).kept ≡ (after_answer s w x).kept
@@ -313,10 +337,10 @@ module _ {X A V Y M : Type 0} (D : Lawful X A V Y M) where
     -- and so is what is said
     said_answer : (x : Option Hand) (notified : Bool) → replied_in s now x notified ≡ replied_in s w x notified
     said_answer None notified = refl
-    said_answer (Some h) notified = refl
+    said_answer (Some h) notified = ap (λ z. Some (said.Replied h.part h.id z.status notified)) goes.ends
 
     said_raise : (part : ℕ) (e : Option V) (p : Put) → raise_said s now part e p ≡ raise_said s w part e p
-    said_raise part e put.Done = refl
+    said_raise part e put.Done = ap (λ z. Some (z.put e)) goes.ends
     said_raise part e put.Full = refl
     said_raise part e (put.BadCons prod cons) = refl
     said_raise part e (put.Spent prod) = refl
@@ -325,8 +349,8 @@ module _ {X A V Y M : Type 0} (D : Lawful X A V Y M) where
     unfolding said_at
     said_now (Saw x) = refl
     said_now (Took words) = refl
-    said_now (Own a) = refl
-    said_now (Done a) = refl
+    said_now (Own a) = ap (λ z. z.says a) goes.ends
+    said_now (Done a) = ap (λ z. z.says a) goes.ends
     said_now (Answered notified) = said_answer w.hand notified
     said_now (Slept quiet) = refl
     said_now (Met ps) = refl
@@ -355,8 +379,8 @@ module _ {X A V Y M : Type 0} (D : Lawful X A V Y M) where
           record {
             own = q.own;
             whole = q.whole;
-            sane = q.sane;
-            opened = elim q.opened [ inl bare ↦ inl bare | inr o ↦ inr (serving_now o.0, o.1) ];
+            sane = goes.sane q.sane;
+            opened = elim q.opened [ inl bare ↦ inl (bare.0, ap (λ z. z.pages) goes.ends ∙ bare.1) | inr o ↦ inr (serving_now o.0, goes.has (is_some w.hand) o.1) ];
             kept = λ why e. (is_kept_now why (q.kept why e).0, (q.kept why e).1);
           }
 
@@ -364,23 +388,30 @@ module _ {X A V Y M : Type 0} (D : Lawful X A V Y M) where
       oldest_now None q = tt
       oldest_now (Some e) q = h.oldest e q.0 q.1
 
+      raise_stays : (part : ℕ) (e : Option V) → IsRaise s w.service e part → IsRaise s y e part
+      raise_stays part None q = (q.0, ap (λ z. z.owes) goes.ends ∙ q.1, q.2)
+      raise_stays part (Some e) q = (q.0, ap (λ z. z.event e) goes.ends ∙ q.1, q.2)
+
       raising_now : (part : ℕ) (e : Option V) → IsRaising w part e → IsRaising now part e
-      raising_now part e q = record { serving = serving_now q.serving; none = q.none; has = q.has; raise = q.raise; oldest = oldest_now e q.oldest }
+      raising_now part e q = record { serving = serving_now q.serving; none = q.none; has = goes.has false q.has; raise = raise_stays part e q.raise; oldest = oldest_now e q.oldest }
 
       publishing_now : (n : ℕ) → IsPublishing w n → IsPublishing now n
-      publishing_now n q = record { serving = serving_now q.serving; none = q.none; has = q.has; group = q.group; way = q.way; many = q.many }
+      publishing_now n q = record { serving = serving_now q.serving; none = q.none; has = goes.has false q.has; group = q.group; way = goes.way ∙ q.way; many = q.many }
+
+      shut_stays : IsShut w → IsShut now
+      shut_stays q = (q.0, ap (λ z. z.pages) goes.ends ∙ q.1)
 
       held_now : (o : End A V) → EndsHeld w o → EndsHeld now o
       held_now (Saw x) q = (serving_now q.0, q.1)
-      held_now (Took words) q = (serving_now q.0, q.1, q.2, q.3)
-      held_now (Own a) q = (serving_now q.0, q.1, q.2)
-      held_now (Done a) q = (serving_now q.0, q.1, q.2)
-      held_now (Answered notified) q = (serving_now q.0, q.1, q.2, q.3)
+      held_now (Took words) q = (serving_now q.0, q.1, q.2, goes.has false q.3)
+      held_now (Own a) q = (serving_now q.0, q.1, goes.has true q.2)
+      held_now (Done a) q = (serving_now q.0, q.1, goes.has false q.2)
+      held_now (Answered notified) q = (serving_now q.0, q.1, goes.has true q.2, ap (λ z. z.ready) goes.ends ∙ q.3)
       held_now (Slept quiet) q = q
-      held_now (Met ps) q = q
-      held_now (Denied why) q = q
-      held_now (Lacked problem) q = q
-      held_now (Shut why) q = q
+      held_now (Met ps) q = (q.0, q.1, q.2, q.3, ap (λ z. z.pages) goes.ends ∙ q.4)
+      held_now (Denied why) q = shut_stays q
+      held_now (Lacked problem) q = shut_stays q
+      held_now (Shut why) q = shut_stays q
       held_now (Raised part e p) q = (raising_now part e q.0, q.1)
       held_now (Grouped n p) q = (publishing_now n q.0, q.1)
       held_now Left q = q
@@ -389,8 +420,8 @@ module _ {X A V Y M : Type 0} (D : Lawful X A V Y M) where
       found_now : (f : Found) (ts : List Touch) (o : End A V) → EndsFound w f ts o → EndsFound now f ts o
       found_now f ts (Saw x) q = tt
       found_now f ts (Took words) q = tt
-      found_now f ts (Own a) q = q
-      found_now f ts (Done a) q = let o = h.oldest q.0 q.1 q.2 in (q.0, o.0, o.1, q.3)
+      found_now f ts (Own a) q = goes.own f ts a q
+      found_now f ts (Done a) q = let o = h.oldest q.0 q.1 q.2 in (q.0, o.0, o.1, goes.done q.0 f ts a q.3)
       found_now f ts (Answered notified) q = tt
       found_now f ts (Slept quiet) q = tt
       found_now f ts (Met ps) q = tt
@@ -423,31 +454,54 @@ module _ {X A V Y M : Type 0} (D : Lawful X A V Y M) where
         oldest = λ x later i. stays_oldest (refused_at s w e) w.waiting (s.waits e) x later i;
       }
 
+  -- what the service knows once the host told an event: it is heard unless it is refused
+  abbrev pub hosted_in : Work X V → HostEvent → X
+  hosted_in w e = heard_unless (refused_at s w e) w.service (s.hears w.service e)
+
+  pub goes_hosted : (x : X) (e : HostEvent) (why : Option HostRefusal) → GoesOnAs s known x (heard_unless why x (s.hears x e))
+  goes_hosted x e None = l.hears x e
+  goes_hosted x e (Some why) = goes_as s known x
+
   pub hears_sane : (w : Work X V) (news : News) → IsSane w → IsSane (told s w news)
-  hears_sane w (Sets front nodes) q = sane_now w (heard w.connection front) nodes w.waiting (sets_hearing w front nodes) q
-  hears_sane w (Hosts e) q = sane_now w w.connection w.seen (unless (refused_at s w e) w.waiting (s.waits e)) (hosts_hearing w e) q
+  hears_sane w (Sets front nodes) q = sane_now w (heard w.connection front) nodes w.waiting w.service (goes_as s known w.service) (sets_hearing w front nodes) q
+  hears_sane w (Hosts e) q = sane_now w w.connection w.seen (unless (refused_at s w e) w.waiting (s.waits e)) (hosted_in w e) (goes_hosted w.service e (refused_at s w e)) (hosts_hearing w e) q
 
   pub hears_well : (w : Work X V) (news : News) (k : Carried Learned) (o : End A V) → EndsWell w k o → EndsWell (told s w news) k o
-  hears_well w (Sets front nodes) k o q = well_now w (heard w.connection front) nodes w.waiting (sets_hearing w front nodes) k o q
-  hears_well w (Hosts e) k o q = well_now w w.connection w.seen (unless (refused_at s w e) w.waiting (s.waits e)) (hosts_hearing w e) k o q
+  hears_well w (Sets front nodes) k o q = well_now w (heard w.connection front) nodes w.waiting w.service (goes_as s known w.service) (sets_hearing w front nodes) k o q
+  hears_well w (Hosts e) k o q = well_now w w.connection w.seen (unless (refused_at s w e) w.waiting (s.waits e)) (hosted_in w e) (goes_hosted w.service e (refused_at s w e)) (hosts_hearing w e) k o q
 
   pub hears_said : (w : Work X V) (news : News) (o : End A V) → said_at s (told s w news) o ≡ said_at s w o
-  hears_said w (Sets front nodes) o = said_now w (heard w.connection front) nodes w.waiting o
-  hears_said w (Hosts e) o = said_now w w.connection w.seen (unless (refused_at s w e) w.waiting (s.waits e)) o
+  hears_said w (Sets front nodes) o = said_now w (heard w.connection front) nodes w.waiting w.service (goes_as s known w.service) o
+  hears_said w (Hosts e) o = said_now w w.connection w.seen (unless (refused_at s w e) w.waiting (s.waits e)) (hosted_in w e) (goes_hosted w.service e (refused_at s w e)) o
 
   pub hears_told : (w : Work X V) (news : News) (o : End A V) (k : Carried Learned) → Tells s (settled s site w o) k → Tells s (settled s site (told s w news) o) k
-  hears_told w (Sets front nodes) o k q = told_now w (heard w.connection front) nodes w.waiting o k q
-  hears_told w (Hosts e) o k q = told_now w w.connection w.seen (unless (refused_at s w e) w.waiting (s.waits e)) o k q
+  hears_told w (Sets front nodes) o k q = told_now w (heard w.connection front) nodes w.waiting w.service (goes_as s known w.service) o k q
+  hears_told w (Hosts e) o k q = told_now w w.connection w.seen (unless (refused_at s w e) w.waiting (s.waits e)) (hosted_in w e) (goes_hosted w.service e (refused_at s w e)) o k q
+
+  -- what a service shows once it heard an event, or refused it
+  shows_hosted : (x : X) (e : HostEvent) (m : M) (why : Option HostRefusal) → known.Named x m → known.Named (heard_unless why x (s.hears x e)) m × (r.rows (heard_unless why x (s.hears x e)) m ≡ heard_unless why (r.rows x m) (t.hears (r.rows x m) e)) × (r.names (heard_unless why x (s.hears x e)) m ≡ r.names x m) × SameNumbers r x (heard_unless why x (s.hears x e)) m
+  shows_hosted x e m None named = l.hears_shows x e m named
+  shows_hosted x e m (Some why) named = (named, refl, refl, λ key. refl)
+
+  -- the rows take the events that wait, as the service does
+  rows_hosted : (w : Work X V) (e : HostEvent) (n : Naming M) (z : Y) → z ≡ heard_unless (refused_at s w e) (r.rows w.service n.service) (t.hears (r.rows w.service n.service) e) → record (rows_of s t r w n) { waiting = unless (refused_at s w e) w.waiting (s.waits e); service = z } ≡ hosted t (rows_of s t r w n) e
+  rows_hosted w e n z is =
+      let y = r.rows w.service n.service in
+      ap (λ (u : Y). let x : Rows Y V = record (rows_of s t r w n) { waiting = unless (refused_at s w e) w.waiting (s.waits e); service = u } in x) is
+      ∙ (ap (λ (v : Option V). let x : Rows Y V = record (rows_of s t r w n) { waiting = unless (refused_at s w e) w.waiting v; service = heard_unless (refused_at s w e) y (t.hears y e) } in x) (l.waits_is e)
+      ∙ ap (λ (why : Option HostRefusal). let x : Rows Y V = record (rows_of s t r w n) { waiting = unless why w.waiting (t.waits e); service = heard_unless why y (t.hears y e) } in x) (l.refusal_is w.service n.service w.connection.back w.waiting e))
 
   -- what is heard is a move of the machine, and leaves the pages and the names
   pub hears_move : (w : Work X V) (news : News) → ((k : Carried Learned) → Tells s w k → Tells s (told s w news) k) × ((n : Naming M) → IsNamed w n → IsNamed (told s w news) n × Passes learned w n (Hears news) (told s w news))
   hears_move w (Sets front nodes) = ((λ k q. q), (λ n named. (named, record { move = λ touched. refl; names = refl; numbers = λ key. refl })))
-  hears_move w (Hosts e) =
-      let waits : (v : Option V) → Rows Y V → Rows Y V = λ v x. record x { waiting = unless (t.refusal w.connection.back w.waiting e) w.waiting v } in
-      let refuses : Option HostRefusal → Naming M → Rows Y V = λ why n. record (rows_of s t r w n) { waiting = unless why w.waiting (s.waits e) } in
-      ((λ k q. q), (λ n named. (named, record { move = λ touched. ap (λ why. refuses why n) (l.refusal_is w.connection.back w.waiting e) ∙ ap (λ v. waits v (rows_of s t r w n)) (l.waits_is e); names = refl; numbers = λ key. refl })))
+  hears_move w (Hosts e) = (
+    (λ k q. ((q.0.0, subst (λ x. AreSame k.own.holds.held x) (sym (same_pages w w.connection w.seen (unless (refused_at s w e) w.waiting (s.waits e)) (hosted_in w e) (goes_hosted w.service e (refused_at s w e)))) q.0.1), q.1)),
+    (λ n named.
+        let b = shows_hosted w.service e n.service (refused_at s w e) named in
+        (b.0, record { move = λ touched. rows_hosted w e n (r.rows (hosted_in w e) n.service) b.1; names = b.2; numbers = b.3 })),
+  )
 
   -- an event of the host leaves just the refusal owed that the work gives
   pub hears_owed : (w : Work X V) (n : Naming M) (news : News) → owes t (rows_of s t r w n) (Hears news) ≡ refused_by (device s site) w news
   hears_owed w n (Sets front nodes) = refl
-  hears_owed w n (Hosts e) = sym (l.refusal_is w.connection.back w.waiting e)
+  hears_owed w n (Hosts e) = sym (l.refusal_is w.service n.service w.connection.back w.waiting e)

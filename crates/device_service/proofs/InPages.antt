@@ -1,5 +1,6 @@
 -- A Take, an Answer, a Raise and a Sleep access words of pages alone, and so leave what is held.
-use Rattle.std.proofs.Common.{◌≡◌, ℕ, zero, suc, ◌+◌, ◌-◌, ◌==◌, ◌++◌, nat_lt, Bool, true, false, if◌then◌else◌, List, [], ◌∷◌, Option, Some, None, map, drop, refl, ◌∙◌}
+use Rattle.std.proofs.Common.{◌≡◌, ℕ, zero, suc, ◌+◌, ◌-◌, ◌==◌, ◌++◌, nat_lt, Bool, true, false, if◌then◌else◌, List, [], ◌∷◌, Option, Some, None, length, map, drop, refl, ◌∙◌}
+use Rattle.std.specs.List.{flat_map}
 use Rattle.std.proofs.lemmas.Bool.{false≢true}
 use Rattle.pv_words.specs.declared.place.Place.{Place}
 use Rattle.pv_words.specs.declared.place.Place.TheVariants.{Cell, Grant}
@@ -8,16 +9,16 @@ use Rattle.pv_words.specs.Plan as plan
 use Rattle.pv_words.specs.Plan.{Plan, Finished, Make, Want, Load, Store, Swap, Clear, Note, FitsFrom, aim_of, found, joined, mapped}
 use Rattle.link_core.specs.declared.link.Link.{Link}
 use Rattle.link_core.specs.Activities.{Joined, Page, page_at, check_plan, event_plan, loads, publish_plan, sleep_plan, slot_place, stores}
-use Rattle.link_core.specs.Link.{answer_left, answer_rest, joined_of, page_of, put_rest, raise_left, rsp_of, sleep_left, sleep_rest, take_left, take_rest}
+use Rattle.link_core.specs.Link.{answer_left, answer_rest, joined_of, page_of, publish_left, put_rest, raise_left, rsp_of, sleep_left, sleep_rest, take_left, take_rest}
 use Rattle.link_core.specs.declared.link.Put.{Put}
 use Rattle.link_core.specs.declared.link.Put.TheVariants as put
 use Rattle.link_core.specs.declared.link.Stage.{Stage}
 use Rattle.link_core.specs.declared.link.Stage.TheVariants as stage
 use Rattle.link_core.specs.declared.link.event.Layout.{Layout}
-use Rattle.link_core.specs.Raise.{event_layout, event_place, events_plan, limit, obstacle_of, publish_events, put_events, unless_barred}
+use Rattle.link_core.specs.Raise.{event_layout, event_place, events_plan, input_layout, limit, obstacle_of, publish_events, put_events, unless_barred}
 use Rattle.ring_words.specs.Ring.{since}
 use Rattle.device_core.specs.Order.{is_in_page}
-use Rattle.device_service.specs.Parts.{answer_from, raise_from, sleep_from, take_from}
+use Rattle.device_service.specs.Parts.{answer_from, publish_from, raise_from, sleep_from, take_from}
 use Rattle.device_service.specs.Work.{ring_page, sleep_all, sleeps_on}
 
 -- all accesses of the plan go to words of pages
@@ -90,6 +91,11 @@ pub in_raise : (words : List ℕ) (o : Option Link) → StaysInPages (raise_from
 unfolding raise_left
 in_raise words None = tt
 in_raise words (Some l) = in_put_rest event_layout (page_at l.event_page) l.prod 1 words l.stage l.stored
+
+pub in_publish : (group : List (List ℕ)) (o : Option Link) → StaysInPages (publish_from group o)
+unfolding publish_left
+in_publish group None = tt
+in_publish group (Some l) = in_put_rest input_layout (page_at l.event_page) l.prod (length group) (flat_map (λ e. e) group) l.stage l.stored
 
 in_on : (more : Plan Bool) (b : Bool) → StaysInPages more → StaysInPages (sleeps_on more b)
 in_on more true h = h

@@ -6,14 +6,14 @@ use Rattle.link_core.specs.declared.link.Link.{Link}
 use Rattle.link_core.specs.Activities.{Joined, Page, answer_plan, look_plan, pages_of, take_plan}
 use Rattle.link_core.specs.declared.link.Put.{Put}
 use Rattle.link_core.specs.declared.link.Put.TheVariants as put
-use Rattle.link_core.specs.Link.{Leads, answered_of, held_of, idle, joined_of, page_of, raised_of, rsp_of, raised_if as link_raised}
-use Rattle.link_core.proofs.Raises.{begins_raise}
+use Rattle.link_core.specs.Link.{Leads, answered_of, held_of, idle, joined_of, page_of, published_of, rsp_of, published_if as link_published}
+use Rattle.link_core.proofs.Raises.{begins_publish, begins_raise}
 use Rattle.link_core.proofs.Links.{rsp_joined, whole_answer, whole_take}
 use Rattle.device_service.specs.declared.parts.Doing.{Doing}
 use Rattle.device_service.specs.Doing.{is_open}
 use Rattle.device_service.specs.Nodes.{Ringed}
-use Rattle.device_service.specs.Parts.{answer_from, answer_of, answered_if, joined_in, kind_in, look_of, raise_from, raise_of, raised_if, take_from, take_of}
-use Rattle.device_service.specs.Work.{counted, with_event}
+use Rattle.device_service.specs.Parts.{answer_from, answer_of, answered_if, joined_in, kind_in, look_of, publish_from, publish_of, published_if, raise_from, raise_of, take_from, take_of}
+use Rattle.device_service.specs.Work.{counted, with_events}
 use Rattle.device_service.proofs.Holding.Held.{page_shown}
 use Rattle.device_service.proofs.Lists.{get_map, get_set, map_set, map_set_same, within}
 
@@ -92,22 +92,28 @@ raises_is d ls k l words o g rest =
     ap (raise_of words) (ap (λ b. slice_get (joined_in b ls) k) o ∙ get_map joined_of ls k l g)
     ∙ (sym (begins_raise l words rest) ∙ ap (raise_from words) (sym g))
 
--- one that is Done counts an event more
-pub pages_raised : (o : Option Put) (old new : Link) → joined_of new ≡ link_raised o (joined_of old) → pages_of (joined_of new) ≡ pages_of (joined_of old)
-pages_raised None old new e = ap pages_of e
-pages_raised (Some put.Done) old new e = ap pages_of e
-pages_raised (Some put.Full) old new e = ap pages_of e
-pages_raised (Some (put.BadCons prod cons)) old new e = ap pages_of e
-pages_raised (Some (put.Spent prod)) old new e = ap pages_of e
+-- and so is one of a Publish
+pub publishes_is : (d : Doing) (ls : List Link) (k : ℕ) (l : Link) (group : List (List ℕ)) → is_open d ≡ true → slice_get ls k ≡ Some l → idle l ≡ true → publish_of group (slice_get (joined_in (is_open d) ls) k) ≡ publish_from group (slice_get ls k)
+publishes_is d ls k l group o g rest =
+    ap (publish_of group) (ap (λ b. slice_get (joined_in b ls) k) o ∙ get_map joined_of ls k l g)
+    ∙ (sym (begins_publish l group rest) ∙ ap (publish_from group) (sym g))
 
-pub raised_set : (o : Option Put) (b c : Bool) (ls : List Link) (k : ℕ) (old new : Link) → b ≡ true → c ≡ true → slice_get ls k ≡ Some old → joined_of new ≡ link_raised o (joined_of old) → joined_in c (slice_set ls k new) ≡ raised_if o k (joined_in b ls)
-raised_set None b c ls k old new p q g e = joined_set b c ls k old new p q g e
-raised_set (Some put.Full) b c ls k old new p q g e = joined_set b c ls k old new p q g e
-raised_set (Some (put.BadCons prod cons)) b c ls k old new p q g e = joined_set b c ls k old new p q g e
-raised_set (Some (put.Spent prod)) b c ls k old new p q g e = joined_set b c ls k old new p q g e
-raised_set (Some put.Done) b c ls k old new p q g e =
-    let is : raised_if (Some put.Done) k (map joined_of ls) ≡ slice_set (map joined_of ls) k (raised_of (joined_of old)) =
-    ap (with_event (map joined_of ls) k) (get_map joined_of ls k old g) in
+-- one that is Done counts so many events more
+pub pages_put : (n : ℕ) (o : Option Put) (old new : Link) → joined_of new ≡ link_published n o (joined_of old) → pages_of (joined_of new) ≡ pages_of (joined_of old)
+pages_put n None old new e = ap pages_of e
+pages_put n (Some put.Done) old new e = ap pages_of e
+pages_put n (Some put.Full) old new e = ap pages_of e
+pages_put n (Some (put.BadCons prod cons)) old new e = ap pages_of e
+pages_put n (Some (put.Spent prod)) old new e = ap pages_of e
+
+pub put_set : (n : ℕ) (o : Option Put) (b c : Bool) (ls : List Link) (k : ℕ) (old new : Link) → b ≡ true → c ≡ true → slice_get ls k ≡ Some old → joined_of new ≡ link_published n o (joined_of old) → joined_in c (slice_set ls k new) ≡ published_if n o k (joined_in b ls)
+put_set n None b c ls k old new p q g e = joined_set b c ls k old new p q g e
+put_set n (Some put.Full) b c ls k old new p q g e = joined_set b c ls k old new p q g e
+put_set n (Some (put.BadCons prod cons)) b c ls k old new p q g e = joined_set b c ls k old new p q g e
+put_set n (Some (put.Spent prod)) b c ls k old new p q g e = joined_set b c ls k old new p q g e
+put_set n (Some put.Done) b c ls k old new p q g e =
+    let is : published_if n (Some put.Done) k (map joined_of ls) ≡ slice_set (map joined_of ls) k (published_of n (joined_of old)) =
+    ap (with_events n (map joined_of ls) k) (get_map joined_of ls k old g) in
     ap (λ y. joined_in y (slice_set ls k new)) q
     ∙ (map_set joined_of ls k new
-    ∙ (ap (slice_set (map joined_of ls) k) e ∙ (sym is ∙ ap (λ y. raised_if (Some put.Done) k (joined_in y ls)) (sym p))))
+    ∙ (ap (slice_set (map joined_of ls) k) e ∙ (sym is ∙ ap (λ y. published_if n (Some put.Done) k (joined_in y ls)) (sym p))))

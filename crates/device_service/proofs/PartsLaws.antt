@@ -24,12 +24,12 @@ use Rattle.device_service.specs.declared.parts.Parts.{Parts}
 use Rattle.device_service.specs.Doing.{Whole, all_held, busy_in, is_open}
 use Rattle.device_service.specs.Claims.{site_of}
 use Rattle.device_service.specs.Nodes.{Kind, Ringed, Refs, refs_at, refs_from}
-use Rattle.device_service.specs.Parts.{answer_left, answer_of, connect_from, connect_in, connect_left, connects, count_of, doing_of, dom_of, held_of, joined_in, joined_of, kept_by, kind_of, later, met_links, raise_left, raise_of, site_in, sleep_left, sleeping, slept_to, take_left, take_of}
+use Rattle.device_service.specs.Parts.{answer_left, answer_of, connect_from, connect_in, connect_left, connects, count_of, doing_of, dom_of, held_of, joined_in, joined_of, kept_by, kind_of, later, met_links, publish_left, publish_of, raise_left, raise_of, site_in, sleep_left, sleeping, slept_to, take_left, take_of}
 use Rattle.device_service.specs.Work.{all_pages, after_part, connect_parts, sleep_all}
 use Rattle.device_service.proofs.Connects.{Ending}
 use Rattle.device_service.proofs.Holding.Held.{bare_held, held_so_far, joined_held, nil_of}
 use Rattle.device_service.proofs.Lists.{got}
-use Rattle.device_service.proofs.Opened.{answers_is, raises_is, rung_by, takes_is}
+use Rattle.device_service.proofs.Opened.{answers_is, publishes_is, raises_is, rung_by, takes_is}
 use Rattle.device_service.proofs.Sleeps.{sleeping_at}
 use Rattle.device_service.proofs.Soundness.Parts.{pages_last}
 use Rattle.device_service.proofs.Wholes.{all_idle, all_met, bare_rest, connecting_fits, connecting_in}
@@ -76,6 +76,18 @@ module _ (p : Parts) (rests : doing_of p ≡ doing.Open) where
       let opened = ap is_open rests in
       let idle = all_idle p.dom.0 p.ringed p.doing ls p.whole opened n (inl (ap (λ d. busy_in d n) rests)) part g.0 g.1 (λ e. absurd (omega (arith, e, lt))) in
       sym (raises_is p.doing ls part g.0 words opened g.1 idle)
+
+-- and where a Publish does
+module _ (p : Parts) (rests : doing_of p ≡ doing.Open) where
+  pub publish_begins : (part : ℕ) (group : List (List ℕ)) → part < count_of p → publish_left part group p ≡ publish_of group (slice_get (joined_of p) part)
+  unfolding count_of doing_of joined_of publish_left
+  publish_begins part group lt =
+      let ls = p.links.items in
+      let n = length ls in
+      let g = got ls part lt in
+      let opened = ap is_open rests in
+      let idle = all_idle p.dom.0 p.ringed p.doing ls p.whole opened n (inl (ap (λ d. busy_in d n) rests)) part g.0 g.1 (λ e. absurd (omega (arith, e, lt))) in
+      sym (publishes_is p.doing ls part g.0 group opened g.1 idle)
 
 -- what they are joined to, and hold
 length_map : (ls : List Link) → length (map link.joined_of ls) ≡ length ls

@@ -10,7 +10,7 @@ use Rattle.ring_words.specs.declared.Looked.TheVariants as looked
 use Rattle.link_core.specs.declared.link.Link.{Link}
 use Rattle.link_core.specs.declared.link.Put.{Put}
 use Rattle.link_core.specs.declared.link.Put.TheVariants as put
-use Rattle.link_core.specs.Raise.{raise_plan}
+use Rattle.link_core.specs.Raise.{group_plan, raise_plan}
 use Rattle.link_core.specs.Activities.{Joined, answer_plan, look_plan, page_at, take_plan, unmaps}
 use Rattle.link_core.specs.Link as link
 use Rattle.link_core.specs.Link.{Leads}
@@ -22,7 +22,7 @@ pub use Rattle.device_service.specs.Nodes.{kind_in}
 use Rattle.device_service.specs.Nodes.{Kind, refs_at, refs_from}
 pub use Rattle.device_service.specs.Dropping.{Drops, MayDrop}
 use Rattle.device_service.specs.Claims.{site_of}
-use Rattle.device_service.specs.Work.{after_part, all_pages, connect_parts, counted, ring_page, sleep_all, sleeps_on, with_event}
+use Rattle.device_service.specs.Work.{after_part, all_pages, connect_parts, counted, ring_page, sleep_all, sleeps_on, with_events}
 pub use Rattle.device_service.specs.Doing.{all_held, is_open, rest_if}
 pub use Rattle.device_service.specs.Moves.{connects, is_asleep}
 
@@ -93,6 +93,18 @@ raise_from words (Some l) = link.raise_left l words
 
 unfoldable pub raise_left : ℕ → List ℕ → Parts → Plan Put
 raise_left part words p = raise_from words (slice_get p.links.items part)
+
+-- a Publish of this group at a part, and what is left of one
+abbrev pub publish_of : List (List ℕ) → Option Joined → Plan Put
+publish_of group None = Finished put.Full
+publish_of group (Some j) = group_plan (page_at j.event) j.prod group
+
+abbrev pub publish_from : List (List ℕ) → Option Link → Plan Put
+publish_from group None = Finished put.Full
+publish_from group (Some l) = link.publish_left l group
+
+unfoldable pub publish_left : ℕ → List (List ℕ) → Parts → Plan Put
+publish_left part group p = publish_from group (slice_get p.links.items part)
 
 -- what is left of a Sleep that came to this part
 abbrev pub sleep_from : List Link → Option Link → Plan Bool
@@ -195,10 +207,13 @@ abbrev pub answered_if : {A : Type 0} → Option A → ℕ → List Joined → L
 answered_if None part js = js
 answered_if (Some x) part js = counted js part (slice_get js part)
 
--- the part has one event more, once its Raise is Done
+-- the part has so many events more, once its Publish is Done, or one, once its Raise is
+abbrev pub published_if : ℕ → Option Put → ℕ → List Joined → List Joined
+published_if n (Some put.Done) part js = with_events n js part (slice_get js part)
+published_if n other part js = js
+
 abbrev pub raised_if : Option Put → ℕ → List Joined → List Joined
-raised_if (Some put.Done) part js = with_event js part (slice_get js part)
-raised_if other part js = js
+raised_if end part js = published_if 1 end part js
 
 -- what their domain has, and how many they are
 abbrev pub site_in : (frames grants : ℕ → ℕ) → Parts → Site

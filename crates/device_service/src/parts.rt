@@ -67,7 +67,8 @@ impl Parts {
     ghost use Rattle.device_service.specs.declared.parts.Doing.TheVariants as doing;
     ghost use Rattle.device_service.specs.Nodes.{Ringed};
     ghost use Rattle.device_service.specs.Parts.{answer_left, answered_if, connect_of, connects, count_of, doing_of, dom_of, held_of};
-    ghost use Rattle.device_service.specs.Parts.{joined_of, kind_in, kind_of, look_of, open_or, raise_left, raised_if};
+    ghost use Rattle.device_service.specs.Parts.{joined_of, kind_in, kind_of, look_of, open_or, publish_left, published_if};
+    ghost use Rattle.device_service.specs.Parts.{raise_left, raised_if};
     ghost use Rattle.device_service.specs.Parts.{sleep_left, slept_to, take_left};
     ghost use Rattle.device_service.specs.Parts.{Begins, ConnectLeads, ConnectSteps, Connected, Drops, IsOpen, JoinsByAccess, Keeps};
     ghost use Rattle.device_service.specs.Parts.{LeftBy, MayDrop, MayServe, MaySleep, Rests, Same, Slept, UndoneAs};
@@ -326,6 +327,30 @@ impl Parts {
         ensures same { Same self.old self.new }
     {
         let turn = self.links[part as usize].raise_step(words, w);
+        self.doing = rest_if(turn.done.is_some(), Doing::Raising(part));
+        turn
+    }
+
+    /// The next access of a Publish of this group in this part's page. Where it is Done, the part has as many events more.
+    pub fn publish_step<W: Words>(
+        &mut self,
+        words: &mut W,
+        part: u8,
+        group: &[[u32; 10]],
+    ) -> Turn<Put>
+        requires part { part < count_of self.old }
+        requires few { length group.now ≤ 51 }
+        requires serving { MayServe (doing_of self.old) (doing.Raising part) }
+        requires may { MayGo (W.may words.old) (publish_left part group.now self.old) }
+        ensures leads { Leads (publish_left part group.now self.old) result.access result.done (publish_left part group.now self.new) }
+        ensures made { Makes W.makes words.old result.access words.new }
+        ensures stays { AccessIn (held_of self.old) result.access }
+        ensures doing { doing_of self.new ≡ open_or result.done (doing.Raising part) }
+        ensures held { held_of self.new ≡ held_of self.old }
+        ensures joined { joined_of self.new ≡ published_if (length group.now) result.done part (joined_of self.old) }
+        ensures same { Same self.old self.new }
+    {
+        let turn = self.links[part as usize].publish_step(words, group);
         self.doing = rest_if(turn.done.is_some(), Doing::Raising(part));
         turn
     }

@@ -6,7 +6,7 @@ use Rattle.device_service.specs.declared.parts.Doing.TheVariants as doing
 use Rattle.device_service.specs.Doing.{Whole, is_open}
 use Rattle.device_service.specs.Parts.{count_of, doing_of, dom_of, held_of, joined_of, kind_of, rest_if, raise_from, raise_left}
 use Rattle.device_service.proofs.Holding.Held.{held_set, here, in_all}
-use Rattle.device_service.proofs.Opened.{raised_set, pages_raised, may_at, leads_at}
+use Rattle.device_service.proofs.Opened.{put_set, pages_put, may_at, leads_at}
 use Rattle.device_service.proofs.Wholes.{all_met, open_after, serving_open, whole_served}
 use Rattle.device_service.proofs.parts.Parts.raise_step.Goals as goal
 
@@ -33,7 +33,7 @@ invariant_of-self g c =
     let turn = c.raise_step-turn in
     let at = here ls k l _ c.requires.part c.index_mut.ensures.value in
     let is = c.rest_if-self.ensures ∙ ap (λ b. rest_if b (doing.Raising k)) c.is_some.ensures in
-    let whole = whole_served p.dom.0 p.ringed p.doing (doing.Raising k) ls k l turn.new.self turn.result.done p.whole refl refl c.requires.part (λ h. absurd (false≢true h)) c.requires.serving at turn.ensures.keeps.dom turn.ensures.keeps.held (pages_raised turn.result.done l turn.new.self turn.ensures.joined) turn.ensures.rests in
+    let whole = whole_served p.dom.0 p.ringed p.doing (doing.Raising k) ls k l turn.new.self turn.result.done p.whole refl refl c.requires.part (λ h. absurd (false≢true h)) c.requires.serving at turn.ensures.keeps.dom turn.ensures.keeps.held (pages_put 1 turn.result.done l turn.new.self turn.ensures.joined) turn.ensures.rests in
     record { whole = subst (λ (d : Doing). Whole p.dom.0 p.ringed d (slice_set ls k turn.new.self)) (sym is) whole }
 
 pub returns-clause-leads : goal.returns-clause-leads
@@ -85,7 +85,7 @@ returns-clause-joined g c =
     let is = c.rest_if-self.ensures ∙ ap (λ b. rest_if b (doing.Raising k)) c.is_some.ensures in
     let opened = serving_open p.doing (doing.Raising k) refl c.requires.serving in
     let after = ap is_open is ∙ open_after turn.result.done (doing.Raising k) refl in
-    raised_set turn.result.done (is_open p.doing) (is_open c.rest_if-self.result) ls k l turn.new.self opened after at turn.ensures.joined
+    put_set 1 turn.result.done (is_open p.doing) (is_open c.rest_if-self.result) ls k l turn.new.self opened after at turn.ensures.joined
 
 pub returns-clause-same : goal.returns-clause-same
 unfolding count_of dom_of kind_of

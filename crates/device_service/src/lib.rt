@@ -15,6 +15,7 @@ pub use backend::{Activity, Backend};
 pub use deed::{Deed, Now};
 pub use laws::{services_run, services_tell_truly, tells_what_is_held};
 pub use parts::{Doing, Parts};
+pub use reading::fault_among;
 pub use refusing::refusing_runs;
 pub use round::{Hand, Round};
 pub use serve::Serve;

@@ -68,8 +68,8 @@ pub(crate) fn fault_of(nodes: &Nodes, part: u8, ringed: bool) -> Option<Reason>
     None
 }
 
-// What is wrong with a node of the parts before this one, the first of them.
-pub(crate) fn fault_among(nodes: &Nodes, parts: u8, ringed: bool) -> Option<Reason>
+/// What is wrong with a node of the parts before this one, the first of them.
+pub fn fault_among(nodes: &Nodes, parts: u8, ringed: bool) -> Option<Reason>
     requires { parts ≤ 4 }
     ensures { result ≡ fault_in (first_fault nodes.now (needs_from (keys_of (kind_in ringed)) 0 parts)) }
 {

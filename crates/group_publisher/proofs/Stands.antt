@@ -1,0 +1,92 @@
+-- Where a publisher stands, and what it hears there.
+use Rattle.std.proofs.Common.{◌≡◌, ◌⊎◌, inl, inr, ℕ, Bool, true, false, not, List, Option, Some, None, is_some, refl, sym, ap, subst, ◌∙◌}
+use Rattle.std.proofs.lemmas.Bool.{false≢true}
+use Rattle.pv_words.specs.declared.access.Access.{Access}
+use Rattle.pv_words.specs.declared.device.NodeValue.{NodeValue}
+use Rattle.pv_words.specs.declared.device.Said.{Said}
+use Rattle.pv_words.specs.declared.device.State.{State}
+use Rattle.pv_words.specs.Plan.{Plan, Finished, Make, Want}
+use Rattle.device_core.specs.Order.{Between, Heard, Hosts, News, Sets, Stand, MayStep, Steps, at_rest, next}
+use Rattle.device_core.specs.Site.{Site}
+use Rattle.device_service.specs.declared.parts.Doing.{Doing}
+use Rattle.device_service.specs.declared.parts.Doing.TheVariants as doing
+use Rattle.device_service.specs.declared.parts.Parts.{Parts}
+use Rattle.device_service.specs.Activity.{StandsAs, is_connecting, is_open}
+use Rattle.device_service.specs.Parts.{MayServe, publish_left}
+use Rattle.device_service.specs.Raising.{has_left}
+use Rattle.device_service.specs.Service.{Service}
+use Rattle.device_service.specs.Stand.{stand_at}
+use Rattle.device_service.specs.Work.{End, Work, choice, device, told}
+use Rattle.group_publisher.specs.declared.publish.Publish.{Ghosts}
+use Rattle.group_publisher.specs.declared.publisher.Publisher.{Publisher}
+use Rattle.group_publisher.specs.declared.publisher.Stage.{Stage}
+use Rattle.group_publisher.specs.declared.publisher.Stage.TheVariants as stage
+use Rattle.device_service.proofs.Serving.{open_between}
+use Rattle.group_publisher.specs.Stage.{activity_of, group_in, puts_on}
+use Rattle.group_publisher.specs.Stand.{group_of, stand_in, stand_of, work_of}
+
+heard_at : {X A V : Type 0} (s : Service X A V) (site : Site) (w : Work X V) (news : News) (p : Plan (End A V)) → stand_at (told s w news) p ≡ next (device s site) (stand_at w p) (Heard news)
+heard_at s site w (Sets front nodes) (Finished end) = refl
+heard_at s site w (Hosts e) (Finished end) = refl
+heard_at s site w news (Make want note more) = refl
+
+pub heard_in : {X : Type 0} (s : Service X ⊥ ⊥) (site : Site) (read : List NodeValue) (p : Parts) (group : List (List ℕ)) (w : Work X ⊥) (a : Stage) (news : News) → stand_in site read p group (told s w news) a ≡ next (device s site) (stand_in site read p group w a) (Heard news)
+heard_in s site read p group w stage.Between news = refl
+heard_in s site read p group w stage.Connecting news = heard_at s site w news _
+heard_in s site read p group w (stage.Leaving why) news = heard_at s site w news _
+heard_in s site read p group w stage.Publishing news = refl
+
+-- whether it rests
+at_busy : {X A V : Type 0} (s : Service X A V) (site : Site) (w : Work X V) (p : Plan (End A V)) → true ≡ not (at_rest (device s site) (stand_at w p))
+unfolding choice
+at_busy s site w (Finished x) = refl
+at_busy s site w (Make want note more) = refl
+
+pub stand_busy : {X : Type 0} (s : Service X ⊥ ⊥) (site : Site) (read : List NodeValue) (p : Parts) (group : List (List ℕ)) (w : Work X ⊥) (a : Stage) → (a ≡ stage.Between → ⊥) → true ≡ not (at_rest (device s site) (stand_in site read p group w a))
+stand_busy s site read p group w stage.Between n = absurd (n refl)
+stand_busy s site read p group w stage.Connecting n = at_busy s site w _
+stand_busy s site read p group w (stage.Leaving why) n = at_busy s site w _
+stand_busy s site read p group w stage.Publishing n = refl
+
+-- a Publish begins, or is under way: its part is there
+abbrev pub IsServing : Stage → Type 0
+IsServing a = (a ≡ stage.Between) ⊎ (a ≡ stage.Publishing)
+
+pub serving_in : (a : Stage) (o : Bool) (d : Doing) → IsServing a → o ≡ true → StandsAs (activity_of a) o d 0 None → MayServe d (doing.Raising 0)
+serving_in a o d (inl e) opened st = inl (open_between (activity_of a) o d 0 None (ap (λ (x : Stage). activity_of x) e) opened st)
+serving_in a o d (inr e) opened st = inr (subst (λ (x : Stage). StandsAs (activity_of x) o d 0 None) e st).1
+
+pub not_connecting : (a : Stage) → IsServing a → is_connecting (activity_of a) ≡ false
+not_connecting a (inl e) = ap (λ (x : Stage). is_connecting (activity_of x)) e
+not_connecting a (inr e) = ap (λ (x : Stage). is_connecting (activity_of x)) e
+
+pub still_open : (a : Stage) (closing : Bool) (b : State) → IsServing a → is_open (activity_of a) closing b ≡ true → is_open (activity_of stage.Publishing) closing b ≡ true
+still_open a closing b (inl e) o = subst (λ (x : Stage). is_open (activity_of x) closing b ≡ true) e o
+still_open a closing b (inr e) o = subst (λ (x : Stage). is_open (activity_of x) closing b ≡ true) e o
+
+-- a group is under way in a Publish
+pub way_in : (a : Stage) (o : Option (List (List ℕ))) (p : Parts) → a ≡ stage.Publishing → puts_on a o p ≡ true → puts_on stage.Publishing o p ≡ true
+way_in a o p e h = subst (λ (x : Stage). puts_on x o p ≡ true) e h
+
+pub some_in : (o : Option (List (List ℕ))) (p : Parts) → puts_on stage.Publishing o p ≡ true → is_some o ≡ true
+some_in None p e = absurd (false≢true e)
+some_in (Some g) p e = refl
+
+pub left_in : (o : Option (List (List ℕ))) (p : Parts) → puts_on stage.Publishing o p ≡ true → has_left (publish_left 0 (group_in o) p) ≡ true
+left_in None p e = absurd (false≢true e)
+left_in (Some g) p e = e
+
+pub puts_in : (o : Option (List (List ℕ))) (p : Parts) → is_some o ≡ true → has_left (publish_left 0 (group_in o) p) ≡ true → puts_on stage.Publishing o p ≡ true
+puts_in None p e h = absurd (false≢true e)
+puts_in (Some g) p e h = h
+
+module _ {S : Type 0} {g : Ghosts S} (site : Site) (d : Publisher S g) where
+  pub stands_in : (a : Stage) → d.stage ≡ a → stand_of site d ≡ stand_in site d.read d.parts (group_of d) (work_of d) a
+  unfolding stand_of
+  stands_in a e = ap (λ (x : Stage). stand_in site d.read d.parts (group_of d) (work_of d) x) e
+
+  pub may_in : (may : Want → Type 0) (a : Stage) → d.stage ≡ a → MayStep may (device g.service site) (stand_of site d) → MayStep may (device g.service site) (stand_in site d.read d.parts (group_of d) (work_of d) a)
+  may_in may a e h = subst (λ (x : Stand (Work g.Known ⊥) (End ⊥ ⊥)). MayStep may (device g.service site) x) (stands_in a e) h
+
+  pub steps_in : (a : Stage) (access : Option Access) (event : Option Said) (new : Stand (Work g.Known ⊥) (End ⊥ ⊥)) → d.stage ≡ a → Steps (device g.service site) (stand_in site d.read d.parts (group_of d) (work_of d) a) access event new → Steps (device g.service site) (stand_of site d) access event new
+  steps_in a access event new e h = subst (λ (x : Stand (Work g.Known ⊥) (End ⊥ ⊥)). Steps (device g.service site) x access event new) (sym (stands_in a e)) h

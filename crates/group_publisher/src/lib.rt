@@ -1,0 +1,9 @@
+//! The backend of a device without rings: it publishes the groups of events of its service, one step at a time, in the order of work of
+//! every device.
+#![tactic(auto)]
+
+mod publish;
+mod publisher;
+
+pub use publish::Publish;
+pub use publisher::{Publisher, Stage};

@@ -30,7 +30,7 @@ heard_at s site w (Sets front nodes) (Finished end) = refl
 heard_at s site w (Hosts e) (Finished end) = refl
 heard_at s site w news (Make want note more) = refl
 
-pub heard_in : {X : Type 0} (s : Service X ⊥ ⊥) (site : Site) (read : List NodeValue) (p : Parts) (group : List (List ℕ)) (w : Work X ⊥) (a : Stage) (news : News) → stand_in site read p group (told s w news) a ≡ next (device s site) (stand_in site read p group w a) (Heard news)
+pub heard_in : {X : Type 0} (s : Service X (Unit {0}) ⊥) (site : Site) (read : List NodeValue) (p : Parts) (group : List (List ℕ)) (w : Work X ⊥) (a : Stage) (news : News) → stand_in site read p group (told s w news) a ≡ next (device s site) (stand_in site read p group w a) (Heard news)
 heard_in s site read p group w stage.Between news = refl
 heard_in s site read p group w stage.Connecting news = heard_at s site w news _
 heard_in s site read p group w (stage.Leaving why) news = heard_at s site w news _
@@ -42,7 +42,7 @@ unfolding choice
 at_busy s site w (Finished x) = refl
 at_busy s site w (Make want note more) = refl
 
-pub stand_busy : {X : Type 0} (s : Service X ⊥ ⊥) (site : Site) (read : List NodeValue) (p : Parts) (group : List (List ℕ)) (w : Work X ⊥) (a : Stage) → (a ≡ stage.Between → ⊥) → true ≡ not (at_rest (device s site) (stand_in site read p group w a))
+pub stand_busy : {X : Type 0} (s : Service X (Unit {0}) ⊥) (site : Site) (read : List NodeValue) (p : Parts) (group : List (List ℕ)) (w : Work X ⊥) (a : Stage) → (a ≡ stage.Between → ⊥) → true ≡ not (at_rest (device s site) (stand_in site read p group w a))
 stand_busy s site read p group w stage.Between n = absurd (n refl)
 stand_busy s site read p group w stage.Connecting n = at_busy s site w _
 stand_busy s site read p group w (stage.Leaving why) n = at_busy s site w _
@@ -86,7 +86,7 @@ module _ {S : Type 0} {g : Ghosts S} (site : Site) (d : Publisher S g) where
   stands_in a e = ap (λ (x : Stage). stand_in site d.read d.parts (group_of d) (work_of d) x) e
 
   pub may_in : (may : Want → Type 0) (a : Stage) → d.stage ≡ a → MayStep may (device g.service site) (stand_of site d) → MayStep may (device g.service site) (stand_in site d.read d.parts (group_of d) (work_of d) a)
-  may_in may a e h = subst (λ (x : Stand (Work g.Known ⊥) (End ⊥ ⊥)). MayStep may (device g.service site) x) (stands_in a e) h
+  may_in may a e h = subst (λ (x : Stand (Work g.Known ⊥) (End (Unit {0}) ⊥)). MayStep may (device g.service site) x) (stands_in a e) h
 
-  pub steps_in : (a : Stage) (access : Option Access) (event : Option Said) (new : Stand (Work g.Known ⊥) (End ⊥ ⊥)) → d.stage ≡ a → Steps (device g.service site) (stand_in site d.read d.parts (group_of d) (work_of d) a) access event new → Steps (device g.service site) (stand_of site d) access event new
-  steps_in a access event new e h = subst (λ (x : Stand (Work g.Known ⊥) (End ⊥ ⊥)). Steps (device g.service site) x access event new) (sym (stands_in a e)) h
+  pub steps_in : (a : Stage) (access : Option Access) (event : Option Said) (new : Stand (Work g.Known ⊥) (End (Unit {0}) ⊥)) → d.stage ≡ a → Steps (device g.service site) (stand_in site d.read d.parts (group_of d) (work_of d) a) access event new → Steps (device g.service site) (stand_of site d) access event new
+  steps_in a access event new e h = subst (λ (x : Stand (Work g.Known ⊥) (End (Unit {0}) ⊥)). Steps (device g.service site) x access event new) (sym (stands_in a e)) h

@@ -15,7 +15,8 @@ use Rattle.device_service.specs.Claims.{site_of}
 use Rattle.device_service.specs.Goes.{Begins}
 use Rattle.device_service.specs.Parts as of_parts
 use Rattle.device_service.specs.Stand.{leaving_plan, stand_at}
-use Rattle.device_service.specs.Work.{Work, End, Looks, Grouped, connected, device}
+use Rattle.device_service.specs.declared.round.Round.TheVariants.{Looks}
+use Rattle.device_service.specs.Work.{Work, End, Grouped, connected, device}
 use Rattle.group_publisher.specs.declared.publish.Publish.{Ghosts}
 use Rattle.group_publisher.specs.declared.publisher.Publisher.{Publisher}
 use Rattle.group_publisher.specs.declared.publisher.Stage.{Stage}
@@ -23,11 +24,11 @@ use Rattle.group_publisher.specs.declared.publisher.Stage.TheVariants as stage
 use Rattle.group_publisher.specs.Stage.{activity_of, group_in}
 
 -- what is left of the Publish of this group
-abbrev pub put_left : List (List ℕ) → Parts → Plan (End ⊥ ⊥)
+abbrev pub put_left : List (List ℕ) → Parts → Plan (End (Unit {0}) ⊥)
 put_left group p = mapped (Grouped (length group)) (of_parts.publish_left 0 group p)
 
 -- where one stands that read these nodes, by what its part is at
-abbrev pub stand_in : {X : Type 0} → Site → List NodeValue → Parts → List (List ℕ) → Work X ⊥ → Stage → Stand (Work X ⊥) (End ⊥ ⊥)
+abbrev pub stand_in : {X : Type 0} → Site → List NodeValue → Parts → List (List ℕ) → Work X ⊥ → Stage → Stand (Work X ⊥) (End (Unit {0}) ⊥)
 stand_in site read p group w stage.Between = Between w
 stand_in site read p group w stage.Connecting = stand_at w (mapped connected (of_parts.connect_left site read p))
 stand_in site read p group w (stage.Leaving why) = stand_at w (leaving_plan why (of_parts.held_of p))
@@ -82,11 +83,11 @@ module _ {S : Type 0} {g : Ghosts S} where
   abbrev pub publish_left : Publisher S g → Plan Put
   publish_left d = of_parts.publish_left 0 (group_of d) d.parts
 
-  unfoldable pub stand_of : Site → Publisher S g → Stand (Work g.Known ⊥) (End ⊥ ⊥)
+  unfoldable pub stand_of : Site → Publisher S g → Stand (Work g.Known ⊥) (End (Unit {0}) ⊥)
   stand_of site d = stand_in site d.read d.parts (group_of d) (work_of d) d.stage
 
   -- the first step of what the order of work gives
-  abbrev pub BeginsAt : Site → Order (Work g.Known ⊥) (End ⊥ ⊥) → Option Access → Option Said → Publisher S g → Type 0
+  abbrev pub BeginsAt : Site → Order (Work g.Known ⊥) (End (Unit {0}) ⊥) → Option Access → Option Said → Publisher S g → Type 0
   BeginsAt site order access said new = Begins g.service site order access said (stand_of site new)
 
   -- the next access may be made

@@ -25,13 +25,13 @@ grouped_in s w n p = record (after_group s w n p) { parts = w.parts }
 
 module _ {S : Type 0} {g : Ghosts S} where
   -- what the order of work gives next; where a Connect is due; and what a connected device publishes
-  abbrev pub chosen : Site → Publisher S g → Order (Work g.Known ⊥) (End ⊥ ⊥)
+  abbrev pub chosen : Site → Publisher S g → Order (Work g.Known ⊥) (End (Unit {0}) ⊥)
   chosen site d = choice g.service site (work_of d)
 
-  abbrev pub connect_due : Site → Publisher S g → Order (Work g.Known ⊥) (End ⊥ ⊥)
+  abbrev pub connect_due : Site → Publisher S g → Order (Work g.Known ⊥) (End (Unit {0}) ⊥)
   connect_due site d = with_action g.service site (work_of d) action.Connect
 
-  abbrev pub publishes : Publisher S g → Order (Work g.Known ⊥) (End ⊥ ⊥)
+  abbrev pub publishes : Publisher S g → Order (Work g.Known ⊥) (End (Unit {0}) ⊥)
   publishes d = with_group g.service (work_of d) d.full (g.service.groups.due (g.knows d.service))
 
   -- the first step of each
@@ -45,14 +45,14 @@ module _ {S : Type 0} {g : Ghosts S} where
   Publishes site old access said new = BeginsAt site (publishes old) access said new
 
   -- what is left of a Connect, and of a Close for this reason
-  abbrev pub connect_left : Site → Publisher S g → Plan (End ⊥ ⊥)
+  abbrev pub connect_left : Site → Publisher S g → Plan (End (Unit {0}) ⊥)
   connect_left site d = mapped connected (of_parts.connect_left site d.read d.parts)
 
-  abbrev pub close_left : Publisher S g → Reason → Plan (End ⊥ ⊥)
+  abbrev pub close_left : Publisher S g → Reason → Plan (End (Unit {0}) ⊥)
   close_left d why = leaving_plan why (held_of d)
 
   -- one step of a Connect, or of a Close, of which this is left
-  abbrev pub GoesOutAt : Site → Plan (End ⊥ ⊥) → Publisher S g → Option Access → Option Said → Publisher S g → Type 0
+  abbrev pub GoesOutAt : Site → Plan (End (Unit {0}) ⊥) → Publisher S g → Option Access → Option Said → Publisher S g → Type 0
   GoesOutAt site left old access said new = GoesOut g.service site (work_of old) left access said (stand_of site new)
 
   abbrev pub ConnectsOn : Site → Publisher S g → Option Access → Option Said → Publisher S g → Type 0

@@ -25,7 +25,7 @@ pub trait Publish {
     ghost Naming: { Type 0 };
 
     /// What it is to the order of work.
-    ghost service: { Service Known ⊥ ⊥ };
+    ghost service: { Service Known (Unit {0}) ⊥ };
 
     /// How its rows move.
     ghost table: { Table Rows ⊥ };
@@ -34,7 +34,7 @@ pub trait Publish {
     ghost shows: { Shows Known Rows Naming };
 
     /// What is known of it.
-    ghost known: { (frames grants : ℕ → ℕ) → (dom parts : ℕ) → Facts Known ⊥ ⊥ Naming };
+    ghost known: { (frames grants : ℕ → ℕ) → (dom parts : ℕ) → Facts Known (Unit {0}) ⊥ Naming };
 
     /// What it knows.
     ghost knows: { Self → Known };

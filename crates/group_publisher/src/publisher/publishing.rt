@@ -69,6 +69,14 @@ impl<S: Publish + Drop> Publisher<S> {
         Step { access, said }
     }
 
+    // How many events the group under way has.
+    fn events(&self) -> u32
+        requires { is_some (S.service.groups.way (S.knows self.now.service)) ≡ true }
+        ensures { result ≡ length (group_of self.now) }
+    {
+        self.service.group().len() as u32
+    }
+
     // What a Publish came to, and what is said of it.
     fn published(&mut self, put: Put) -> Option<Said>
         requires between { self.old.stage ≡ stage.Between }
@@ -80,7 +88,7 @@ impl<S: Publish + Drop> Publisher<S> {
     {
         match put {
             Put::Done => {
-                let events = self.service.group().len() as u32;
+                let events = self.events();
                 self.service.told();
                 Some(Said::Published(events))
             }

@@ -42,7 +42,7 @@ connect-requires-clause-may g c =
     let ringless = sym g.S.Publish.ringless in
     let fault = fault_as d.seen Ringless s.kind 1 1 c.fault_among.result ringless refl c.fault_among.ensures in
     let left = c.begin.ensures.begins here d.seen (sym (keeps.dom ∙ d.dom_is)) (sym (keeps.count ∙ d.one)) in
-    let plan = begun_plan {A = ⊥} {V = ⊥} here (first_fault d.seen (needs_of s.kind here)) d.seen s.kind (kind_of new) (connect_left here d.seen new) (fault ∙ c.in_default.is) (keeps.kind ∙ (d.kind_is ∙ ringless)) left in
+    let plan = begun_plan {A = Unit {0}} {V = ⊥} here (first_fault d.seen (needs_of s.kind here)) d.seen s.kind (kind_of new) (connect_left here d.seen new) (fault ∙ c.in_default.is) (keeps.kind ∙ (d.kind_is ∙ ringless)) left in
     let may = g.W.Words.may c.args.words.now in
     may_mapped may connected (connect_left here d.seen new) (subst (MayGo may) (sym plan) c.requires.may)
 
@@ -60,7 +60,7 @@ returns-clause-begins g c =
     let ringless = sym g.S.Publish.ringless in
     let fault = fault_as d.seen Ringless s.kind 1 1 c.fault_among.result ringless refl c.fault_among.ensures in
     let left = c.begin.ensures.begins here d.seen (sym (keeps.dom ∙ d.dom_is)) (sym (keeps.count ∙ d.one)) in
-    let plan = begun_plan {A = ⊥} {V = ⊥} here (first_fault d.seen (needs_of s.kind here)) d.seen s.kind (kind_of new) (connect_left here d.seen new) (fault ∙ c.in_default.is) (keeps.kind ∙ (d.kind_is ∙ ringless)) left in
+    let plan = begun_plan {A = Unit {0}} {V = ⊥} here (first_fault d.seen (needs_of s.kind here)) d.seen s.kind (kind_of new) (connect_left here d.seen new) (fault ∙ c.in_default.is) (keeps.kind ∙ (d.kind_is ∙ ringless)) left in
     let began = record (work_of d) { connection = c.began.new.self; read = d.seen; connecting = true; parts = joined_of new; service = x } in
     let same = beginning_as s (work_of d) c.began.new.self (joined_of new) x c.began.ensures c.begin.ensures.keeps.stays refl in
     comes_as s here (beginning s (work_of d)) began _ (mapped connected (connect_left here d.seen new)) c.connect.result.access c.connect.result.said (stand_of here c.connect.new.self) same plan c.connect.ensures.goes

@@ -1,5 +1,4 @@
-use Rattle.std.proofs.Common.{◌≡◌, ℕ, ◌<◌, Bool, true, false, not, List, Option, None, Some, is_some, slice_get, length, inl, ap, refl, subst, sym, ◌∙◌, arith}
-use Rattle.std.proofs.lemmas.Bool.{false≢true}
+use Rattle.std.proofs.Common.{◌≡◌, ℕ, ◌<◌, Bool, true, false, List, Option, None, Some, is_some, slice_get, length, inl, ap, refl, subst, sym, ◌∙◌, arith}
 use Rattle.pv_words.specs.declared.device.Reason.TheVariants as reason
 use Rattle.device_core.specs.Order.{Between}
 use Rattle.device_service.specs.Activity.{is_open}
@@ -23,14 +22,6 @@ use Rattle.group_publisher.proofs.publisher.Publisher.begin_publish.Goals as goa
 within_one : {n : ℕ} → n ≡ 1 → 0 < n
 within_one e = omega (arith, e)
 
-not_not : (b : Bool) → not b ≡ false → b ≡ true
-not_not true e = refl
-not_not false e = absurd (false≢true (sym e))
-
-not_true : (b : Bool) → not b ≡ true → b ≡ false
-not_true true e = absurd (false≢true e)
-not_true false e = refl
-
 pub returns-then-self-clause-begins : goal.returns-then-self-clause-begins
 unfolding stand_of work_of
 returns-then-self-clause-begins g c = λ site.
@@ -45,8 +36,8 @@ returns-then-not-is_due-clause-begins g c = λ site.
     let d = c.args.self.now in
     let s = g.S.Publish.service in
     let w = work_of d in
-    let none = none_in (s.groups.due (g.S.Publish.knows d.service)) (sym c.is_due.ensures ∙ not_true c.is_due.result c.if-not-is_due.true) in
-    begins_rest s site (publishes d) (record w { full = false }) c.idle.result.access c.idle.result.said _ (none_is s w d.full (s.groups.due (g.S.Publish.knows d.service)) c.if-self.false none) c.idle.ensures.access c.idle.ensures.said (stands_in site d stage.Between c.requires.between ∙ ap (λ (b : Bool). Between (record w { full = b })) c.if-self.false)
+    let none = none_in (s.groups.due (g.S.Publish.knows d.service)) (sym c.is_due.ensures ∙ c.if-not-is_due.true) in
+    begins_rest s site (publishes d) (record w { full = false }) c.idle-then-not-is_due.result.access c.idle-then-not-is_due.result.said _ (none_is s w d.full (s.groups.due (g.S.Publish.knows d.service)) c.if-self.false none) c.idle-then-not-is_due.ensures.access c.idle-then-not-is_due.ensures.said (stands_in site d stage.Between c.requires.between ∙ ap (λ (b : Bool). Between (record w { full = b })) c.if-self.false)
 
 pub close-requires-clause-may : goal.close-requires-clause-may
 unfolding work_of
@@ -59,13 +50,13 @@ close-requires-clause-may g c =
     let rest = open_between (activity_of d.stage) (is_open (activity_of d.stage) d.closing d.connection.back) (of_parts.doing_of d.parts) 0 None (ap (λ (a : Stage). activity_of a) c.requires.between) c.requires.opened d.stands in
     let here : 0 < of_parts.count_of d.parts = within_one d.one in
     let j = joined_at d.parts 0 (open_in d.parts rest) here in
-    let prod = c.in_prod.ensures j.0 j.1 in
-    let has = due_in due (sym c.is_due.ensures ∙ not_not c.is_due.result c.if-not-is_due.false) in
-    may_as s (site_of (g.W.Words.frames_of c.args.words.now) (g.W.Words.grants_of c.args.words.now) (dom_of d) 1) (g.W.Words.may c.args.words.now) (publishes d) (close s w (reason.Spent c.in_prod.result)) (spent_is s w d.full due has.0 j.0 c.in_prod.result c.if-self.false has.1 j.1 prod c.if-prod-ge_EVENT_LIMIT.true) c.requires.may
+    let prod = c.in_prod-prod.ensures j.0 j.1 in
+    let has = due_in due (sym c.is_due.ensures ∙ c.if-not-is_due.false) in
+    may_as s (site_of (g.W.Words.frames_of c.args.words.now) (g.W.Words.grants_of c.args.words.now) (dom_of d) 1) (g.W.Words.may c.args.words.now) (publishes d) (close s w (reason.Spent c.in_prod-prod.result)) (spent_is s w d.full due has.0 j.0 c.in_prod-prod.result c.if-self.false has.1 j.1 prod c.if-prod-ge-EVENT_LIMIT.true) c.requires.may
 
-pub returns-then-prod-ge_EVENT_LIMIT-clause-begins : goal.returns-then-prod-ge_EVENT_LIMIT-clause-begins
+pub returns-then-prod-ge-EVENT_LIMIT-clause-begins : goal.returns-then-prod-ge-EVENT_LIMIT-clause-begins
 unfolding work_of
-returns-then-prod-ge_EVENT_LIMIT-clause-begins g c = λ site.
+returns-then-prod-ge-EVENT_LIMIT-clause-begins g c = λ site.
     let d = c.args.self.now in
     let s = g.S.Publish.service in
     let x = g.S.Publish.knows d.service in
@@ -74,9 +65,9 @@ returns-then-prod-ge_EVENT_LIMIT-clause-begins g c = λ site.
     let rest = open_between (activity_of d.stage) (is_open (activity_of d.stage) d.closing d.connection.back) (of_parts.doing_of d.parts) 0 None (ap (λ (a : Stage). activity_of a) c.requires.between) c.requires.opened d.stands in
     let here : 0 < of_parts.count_of d.parts = within_one d.one in
     let j = joined_at d.parts 0 (open_in d.parts rest) here in
-    let prod = c.in_prod.ensures j.0 j.1 in
-    let has = due_in due (sym c.is_due.ensures ∙ not_not c.is_due.result c.if-not-is_due.false) in
-    begins_as s site (publishes d) (close s w (reason.Spent c.in_prod.result)) c.close.result.access c.close.result.said _ (spent_is s w d.full due has.0 j.0 c.in_prod.result c.if-self.false has.1 j.1 prod c.if-prod-ge_EVENT_LIMIT.true) (c.close.ensures.begins site)
+    let prod = c.in_prod-prod.ensures j.0 j.1 in
+    let has = due_in due (sym c.is_due.ensures ∙ c.if-not-is_due.false) in
+    begins_as s site (publishes d) (close s w (reason.Spent c.in_prod-prod.result)) c.close.result.access c.close.result.said _ (spent_is s w d.full due has.0 j.0 c.in_prod-prod.result c.if-self.false has.1 j.1 prod c.if-prod-ge-EVENT_LIMIT.true) (c.close.ensures.begins site)
 
 pub publish-requires-clause-way : goal.publish-requires-clause-way
 publish-requires-clause-way g c =
@@ -88,8 +79,8 @@ publish-requires-clause-way g c =
     let rest = open_between (activity_of d.stage) (is_open (activity_of d.stage) d.closing d.connection.back) (of_parts.doing_of d.parts) 0 None (ap (λ (a : Stage). activity_of a) c.requires.between) c.requires.opened d.stands in
     let here : 0 < of_parts.count_of d.parts = within_one d.one in
     let j = joined_at d.parts 0 (open_in d.parts rest) here in
-    let prod = c.in_prod.ensures j.0 j.1 in
-    let has = due_in due (sym c.is_due.ensures ∙ not_not c.is_due.result c.if-not-is_due.false) in
+    let prod = c.in_prod-prod.ensures j.0 j.1 in
+    let has = due_in due (sym c.is_due.ensures ∙ c.if-not-is_due.false) in
     let way = ap (λ (y : g.S.Publish.Known). s.groups.way y) c.choose.ensures ∙ g.S.Publish.chooses x has.0 has.1 in
     let under = some_way (s.groups.way (g.S.Publish.knows c.choose.new.self)) has.0 way in
     let group = group_in (s.groups.way (g.S.Publish.knows c.choose.new.self)) in
@@ -106,13 +97,13 @@ publish-requires-clause-begun g c =
     let rest = open_between (activity_of d.stage) (is_open (activity_of d.stage) d.closing d.connection.back) (of_parts.doing_of d.parts) 0 None (ap (λ (a : Stage). activity_of a) c.requires.between) c.requires.opened d.stands in
     let here : 0 < of_parts.count_of d.parts = within_one d.one in
     let j = joined_at d.parts 0 (open_in d.parts rest) here in
-    let prod = c.in_prod.ensures j.0 j.1 in
-    let has = due_in due (sym c.is_due.ensures ∙ not_not c.is_due.result c.if-not-is_due.false) in
+    let prod = c.in_prod-prod.ensures j.0 j.1 in
+    let has = due_in due (sym c.is_due.ensures ∙ c.if-not-is_due.false) in
     let way = ap (λ (y : g.S.Publish.Known). s.groups.way y) c.choose.ensures ∙ g.S.Publish.chooses x has.0 has.1 in
     let under = some_way (s.groups.way (g.S.Publish.knows c.choose.new.self)) has.0 way in
     let group = group_in (s.groups.way (g.S.Publish.knows c.choose.new.self)) in
     let plan = publish_begins d.parts rest 0 group here in
-    ap (λ p. has_left p) plan ∙ puts_left group (slice_get (of_parts.joined_of d.parts) 0) j.0 c.in_prod.result j.1 prod c.if-prod-ge_EVENT_LIMIT.false
+    ap (λ p. has_left p) plan ∙ puts_left group (slice_get (of_parts.joined_of d.parts) 0) j.0 c.in_prod-prod.result j.1 prod c.if-prod-ge-EVENT_LIMIT.false
 
 pub publish-requires-clause-may : goal.publish-requires-clause-may
 unfolding work_of
@@ -125,13 +116,13 @@ publish-requires-clause-may g c =
     let rest = open_between (activity_of d.stage) (is_open (activity_of d.stage) d.closing d.connection.back) (of_parts.doing_of d.parts) 0 None (ap (λ (a : Stage). activity_of a) c.requires.between) c.requires.opened d.stands in
     let here : 0 < of_parts.count_of d.parts = within_one d.one in
     let j = joined_at d.parts 0 (open_in d.parts rest) here in
-    let prod = c.in_prod.ensures j.0 j.1 in
-    let has = due_in due (sym c.is_due.ensures ∙ not_not c.is_due.result c.if-not-is_due.false) in
+    let prod = c.in_prod-prod.ensures j.0 j.1 in
+    let has = due_in due (sym c.is_due.ensures ∙ c.if-not-is_due.false) in
     let way = ap (λ (y : g.S.Publish.Known). s.groups.way y) c.choose.ensures ∙ g.S.Publish.chooses x has.0 has.1 in
     let under = some_way (s.groups.way (g.S.Publish.knows c.choose.new.self)) has.0 way in
     let group = group_in (s.groups.way (g.S.Publish.knows c.choose.new.self)) in
     let plan = publish_begins d.parts rest 0 group here in
-    may_act s (site_of (g.W.Words.frames_of c.args.words.now) (g.W.Words.grants_of c.args.words.now) (dom_of d) 1) (Grouped (length group)) (g.W.Words.may c.args.words.now) (publishes d) (record w { service = g.S.Publish.knows c.choose.new.self }) (of_parts.publish_left 0 group d.parts) (puts_is s w d.full due has.0 j.0 c.in_prod.result c.if-self.false has.1 j.1 prod (g.S.Publish.knows c.choose.new.self) group (of_parts.publish_left 0 group d.parts) c.if-prod-ge_EVENT_LIMIT.false c.choose.ensures under.1 plan) c.requires.may
+    may_act s (site_of (g.W.Words.frames_of c.args.words.now) (g.W.Words.grants_of c.args.words.now) (dom_of d) 1) (Grouped (length group)) (g.W.Words.may c.args.words.now) (publishes d) (record w { service = g.S.Publish.knows c.choose.new.self }) (of_parts.publish_left 0 group d.parts) (puts_is s w d.full due has.0 j.0 c.in_prod-prod.result c.if-self.false has.1 j.1 prod (g.S.Publish.knows c.choose.new.self) group (of_parts.publish_left 0 group d.parts) c.if-prod-ge-EVENT_LIMIT.false c.choose.ensures under.1 plan) c.requires.may
 
 pub returns-clause-begins : goal.returns-clause-begins
 unfolding work_of
@@ -144,13 +135,25 @@ returns-clause-begins g c = λ site.
     let rest = open_between (activity_of d.stage) (is_open (activity_of d.stage) d.closing d.connection.back) (of_parts.doing_of d.parts) 0 None (ap (λ (a : Stage). activity_of a) c.requires.between) c.requires.opened d.stands in
     let here : 0 < of_parts.count_of d.parts = within_one d.one in
     let j = joined_at d.parts 0 (open_in d.parts rest) here in
-    let prod = c.in_prod.ensures j.0 j.1 in
-    let has = due_in due (sym c.is_due.ensures ∙ not_not c.is_due.result c.if-not-is_due.false) in
+    let prod = c.in_prod-prod.ensures j.0 j.1 in
+    let has = due_in due (sym c.is_due.ensures ∙ c.if-not-is_due.false) in
     let way = ap (λ (y : g.S.Publish.Known). s.groups.way y) c.choose.ensures ∙ g.S.Publish.chooses x has.0 has.1 in
     let under = some_way (s.groups.way (g.S.Publish.knows c.choose.new.self)) has.0 way in
     let group = group_in (s.groups.way (g.S.Publish.knows c.choose.new.self)) in
     let plan = publish_begins d.parts rest 0 group here in
-    begins_act s site (Grouped (length group)) (publishes d) (record w { service = g.S.Publish.knows c.choose.new.self }) (of_parts.publish_left 0 group d.parts) c.publish.result.access c.publish.result.said _ (puts_is s w d.full due has.0 j.0 c.in_prod.result c.if-self.false has.1 j.1 prod (g.S.Publish.knows c.choose.new.self) group (of_parts.publish_left 0 group d.parts) c.if-prod-ge_EVENT_LIMIT.false c.choose.ensures under.1 plan) (c.publish.ensures.goes site)
+    begins_act s site (Grouped (length group)) (publishes d) (record w { service = g.S.Publish.knows c.choose.new.self }) (of_parts.publish_left 0 group d.parts) c.publish.result.access c.publish.result.said _ (puts_is s w d.full due has.0 j.0 c.in_prod-prod.result c.if-self.false has.1 j.1 prod (g.S.Publish.knows c.choose.new.self) group (of_parts.publish_left 0 group d.parts) c.if-prod-ge-EVENT_LIMIT.false c.choose.ensures under.1 plan) (c.publish.ensures.goes site)
 
-pub returns-then-prod-ge_EVENT_LIMIT-clause-stays : goal.returns-then-prod-ge_EVENT_LIMIT-clause-stays
-returns-then-prod-ge_EVENT_LIMIT-clause-stays g c = c.close.ensures.stays (held_of c.args.self.now)
+pub returns-then-prod-ge-EVENT_LIMIT-clause-stays : goal.returns-then-prod-ge-EVENT_LIMIT-clause-stays
+returns-then-prod-ge-EVENT_LIMIT-clause-stays g c = c.close.ensures.stays (held_of c.args.self.now)
+
+pub returns-then-self-clause-same : goal.returns-then-self-clause-same
+unfolding dom_of
+returns-then-self-clause-same g c = (refl, refl)
+
+pub returns-clause-stays : goal.returns-clause-stays
+unfolding held_of
+returns-clause-stays g c = c.publish.ensures.stays
+
+pub returns-clause-same : goal.returns-clause-same
+unfolding dom_of
+returns-clause-same g c = c.publish.ensures.same

@@ -37,7 +37,7 @@ leave-requires-clause-may g c =
     let between = ap (λ (a : Stage). activity_of a) c.requires.between in
     let rests = rests_between (activity_of d.stage) _ _ 0 _ between d.stands in
     let pages = ap (λ (hs : List Hold). hs ++ all_pages (joined_of d.parts)) (g.S.Publish.bare x) ∙ (pages_rest d.parts _ rests ∙ sym c.give_up.ensures.held) in
-    subst (MayDrop (g.W.Words.may c.args.words.now)) pages (may_leave ⊥ ⊥ (g.W.Words.may c.args.words.now) c.args.why _ c.requires.may)
+    subst (MayDrop (g.W.Words.may c.args.words.now)) pages (may_leave (Unit {0}) ⊥ (g.W.Words.may c.args.words.now) c.args.why _ c.requires.may)
 
 pub returns-clause-same : goal.returns-clause-same
 unfolding dom_of

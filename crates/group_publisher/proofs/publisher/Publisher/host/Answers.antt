@@ -1,6 +1,5 @@
-use Rattle.std.proofs.Common.{◌≡◌, ℕ, List, Option, None, Some, refl, sym, ap, ◌∙◌}
+use Rattle.std.proofs.Common.{◌≡◌, ℕ, List, [], Option, None, Some, refl, sym, ap, ◌∙◌}
 use Rattle.pv_words.specs.declared.device.HostRefusal.{HostRefusal}
-use Rattle.pv_words.specs.declared.device.State.{State}
 use Rattle.host_events.specs.Queue.{unless}
 use Rattle.device_core.specs.Order.{Hosts}
 use Rattle.device_service.specs.Rows.{heard_unless}
@@ -18,7 +17,7 @@ returns-in-Some g c =
     let x = g.S.Publish.knows d.service in
     let e = c.args.e.now in
     let w = work_of d in
-    let refuses = sym c.in-Some.is ∙ (c.refusal.ensures ∙ ap (λ (b : State). s.refusal x b [] e) c.back.ensures) in
+    let refuses = sym c.in-Some.is ∙ c.refusal.ensures in
     record {
       hears = λ site.
           ap (λ (r : Option HostRefusal). stand_in site d.read d.parts (group_of d) (record w { waiting = unless r [] (s.waits e); service = heard_unless r x (s.hears x e) }) d.stage) refuses
@@ -45,7 +44,7 @@ returns-clause-hears g c = λ site.
     let y = g.S.Publish.knows c.hear.new.self in
     let e = c.args.e.now in
     let w = work_of d in
-    let refuses = sym c.in_default.is ∙ (c.refusal.ensures ∙ ap (λ (b : State). s.refusal x b [] e) c.back.ensures) in
+    let refuses = sym c.in_default.is ∙ c.refusal.ensures in
     let way = ap (λ (z : g.S.Publish.Known). s.groups.way z) c.hear.ensures ∙ g.S.Publish.stays x e in
     ap (λ (o : Option (List (List ℕ))). stand_in site d.read d.parts (group_in o) (record w { service = y }) d.stage) way
     ∙ (ap (λ (z : g.S.Publish.Known). stand_in site d.read d.parts (group_of d) (record w { service = z }) d.stage) c.hear.ensures
@@ -56,9 +55,7 @@ returns-clause-hears g c = λ site.
 pub returns-clause-refusal : goal.returns-clause-refusal
 unfolding work_of
 returns-clause-refusal g c =
-    let d = c.args.self.now in
-    let s = g.S.Publish.service in
-    sym c.in_default.is ∙ (c.refusal.ensures ∙ ap (λ (b : State). s.refusal (g.S.Publish.knows d.service) b [] c.args.e.now) c.back.ensures)
+    sym c.in_default.is ∙ c.refusal.ensures
 
 pub returns-clause-held : goal.returns-clause-held
 unfolding held_of

@@ -1,4 +1,4 @@
-use Rattle.std.proofs.Common.{◌++◌, sym, ap, subst, ◌∙◌}
+use Rattle.std.proofs.Common.{◌++◌, None, sym, ap, subst, ◌∙◌}
 use Rattle.device_core.specs.Order.{Stand, Went}
 use Rattle.device_service.specs.Parts.{held_of as parts_held}
 use Rattle.device_service.specs.Stand.{leaving_plan}
@@ -15,7 +15,7 @@ returns-then-not-is_bare-clause-went g c = λ site.
     let d = c.args.self.now in
     let s = g.S.Publish.service in
     let some = some_of (parts_held d.parts) (sym c.is_bare.ensures ∙ c.if-not-is_bare.true) in
-    subst (λ (x : Stand (Work g.S.Publish.Known ⊥) (End ⊥ ⊥)). Went (device s site) (work_of d) (leaving_plan c.args.why (parts_held d.parts)) None x)
+    subst (λ (x : Stand (Work g.S.Publish.Known ⊥) (End (Unit {0}) ⊥)). Went (device s site) (work_of d) (leaving_plan c.args.why (parts_held d.parts)) None x)
     (sym (stands_in site d (stage.Leaving c.args.why) c.requires))
     (went_on s site c.args.why (work_of d) (parts_held d.parts) some)
 

@@ -35,6 +35,7 @@ invariant_of-self-clause-stands g c =
     (still_open d.stage d.closing d.connection.back c.requires.serving c.requires.opened, rw c.in_default.is at c.publish_step-turn.ensures.doing)
 
 pub invariant_of-self-clause-puts : goal.invariant_of-self-clause-puts
+unfolding work_of
 invariant_of-self-clause-puts g c =
     let d = c.args.self.now in
     let s = g.S.Publish.service in
@@ -91,7 +92,7 @@ returns-clause-goes g c = λ site.
     let serves : work_of d ≡ w = ap (λ (b : Bool). record (work_of d) { connecting = b }) (not_connecting d.stage c.requires.serving) in
     let end = c.in-Some.put in
     let after = c.published-said in
-    subst (λ (x : Stand (Work g.S.Publish.Known ⊥) (End ⊥ ⊥)). GoesOn (device s site) (work_of d) (put_left (group_of d) d.parts) turn.result.access after.result x)
+    subst (λ (x : Stand (Work g.S.Publish.Known ⊥) (End (Unit {0}) ⊥)). GoesOn (device s site) (work_of d) (put_left (group_of d) d.parts) turn.result.access after.result x)
     (sym (stands_in site after.new.self stage.Between after.ensures.between))
     (goes_out s site (Grouped n) (work_of d) w (work_of after.new.self) p turn.result.access end q after.result serves
     (turns_left p turn.result.access (Some end) q c.requires.begun (rw c.in-Some.is at leads))

@@ -1,4 +1,4 @@
-use Rattle.std.proofs.Common.{◌≡◌, refl, sym, ap, ◌∙◌, inr, subst}
+use Rattle.std.proofs.Common.{◌≡◌, None, refl, sym, ap, ◌∙◌, inr, subst}
 use Rattle.pv_words.specs.Plan.{mapped}
 use Rattle.device_core.specs.Site.{Site}
 use Rattle.device_core.proofs.Steps.{steps_during}
@@ -8,7 +8,10 @@ use Rattle.device_service.specs.Parts as of_parts
 use Rattle.device_service.specs.Stand.{leaving_plan}
 use Rattle.device_service.specs.Work.{choice, connected, device}
 use Rattle.device_service.proofs.Out.{may_first, may_out, steps_begin, steps_out}
+use Rattle.device_service.proofs.Deeds.{may_mapped}
+use Rattle.group_publisher.specs.declared.publisher.Stage.{Stage}
 use Rattle.group_publisher.specs.declared.publisher.Stage.TheVariants as stage
+use Rattle.group_publisher.specs.Stage.{activity_of}
 use Rattle.group_publisher.specs.Stand.{dom_of, group_of, held_of, put_left, stand_of, work_of}
 use Rattle.group_publisher.proofs.Stands.{left_in, may_in, some_in, steps_in, way_in}
 use Rattle.group_publisher.proofs.publisher.Publisher.step.Goals as goal

@@ -16,6 +16,7 @@ use Rattle.device_core.specs.Learned.{Learned, learning}
 use Rattle.device_core.specs.Names.{Name, Drawn, Sight, Loses, all_drawn, words_in, with_name}
 use Rattle.device_core.specs.Site.{Site}
 use Rattle.device_core.specs.Touched.{Carried, Touch, carrying, numbered}
+use Rattle.device_service.specs.Nodes.{Ringed}
 use Rattle.device_service.specs.Reading.{Shows}
 use Rattle.device_service.specs.Rows.{Table, Evidence, made_if}
 use Rattle.device_service.specs.Service.{Job, Works, Starves, Owed, Deed, Runs, Raises, Service}
@@ -180,9 +181,9 @@ pub record Laws {X A V Y M : Type 0} (s : Service X A V) (t : Table Y V) (r : Sh
       (x : X) (m : M) → known.Named x m
       → known.Named (s.dropped x) m × (r.rows (s.dropped x) m ≡ t.dropped (r.rows x m)) × (r.names (s.dropped x) m ≡ r.names x m)
   pub bare : (x : X) (m : M) → known.Named x m → s.pages x ≡ [] → r.names x m ≡ []
-  -- 5. a request comes in hand
+  -- 5. a request comes in hand, by a ring
   pub takes :
-      (x : X) (part : ℕ) (words : List ℕ) → known.Sane x → known.Has false x
+      (x : X) (part : ℕ) (words : List ℕ) → s.kind ≡ Ringed → known.Sane x → known.Has false x
       → known.Sane (s.taken x part words) × known.Has true (s.taken x part words)
   pub takes_pages : (x : X) (part : ℕ) (words : List ℕ) → s.pages (s.taken x part words) ≡ s.pages x
   pub takes_shows :

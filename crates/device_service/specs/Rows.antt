@@ -124,8 +124,9 @@ module _ {Y V : Type 0} (t : Table Y V) where
   abbrev pub IsServing : Rows Y V → Type 0
   IsServing old = (old.bus.connection.back ≡ state.Connected) × (old.bus.closing ≡ false)
 
-  -- a request comes in hand where none is, and it is what the taken words ask for
+  -- a request comes in hand where none is, by a ring, and it is what the taken words ask for
   pub record Requests (site : Site) (old : Rows Y V) (part id op : ℕ) (words : List ℕ) (new : Rows Y V) : Type 0 where
+    pub ringed : t.kind ≡ Ringed
     pub serving : IsServing old
     pub part_is : part < site.parts
     pub id_is : id ≡ (hand_in part words).id

@@ -741,7 +741,7 @@ module _ (frames grants : ℕ → ℕ) (dom parts : ℕ) where
         drops = λ x s. (s, refl);
         drops_shows = λ x m named. (named, refl, refl);
         bare = λ x m named none. names_none x.stock.buffers m (right_nil x.stock.mapped (buffer_pages x.stock.buffers) none);
-        takes = λ x part words s h. let b = takes x.stock x.scene x.request x.progress part words s h.0 in (b.0, (b.1, takes_whole x.stock x.scene x.request x.progress part words h));
+        takes = λ x part words ringed s h. let b = takes x.stock x.scene x.request x.progress part words s h.0 in (b.0, (b.1, takes_whole x.stock x.scene x.request x.progress part words h));
         takes_pages = λ x part words. refl;
         takes_shows = λ x part words m named. (named, refl, refl);
         begins = λ x y pl s h r leads. let b = begins x.stock x.scene x.request x.progress y pl s h.0 r leads in (b.0, (b.1, begins_whole x.stock x.scene x.request x.progress y pl h r leads), b.2);

@@ -1,5 +1,5 @@
 -- What a connected device without rings does next, and what the end of a Publish makes of its work.
-use Rattle.std.proofs.Common.{◌≡◌, ℕ, ◌<◌, ◌≤◌, ◌&&◌, nat_lt, Bool, true, false, if◌then◌else◌, not, List, [], Option, Some, None, is_some, length, slice_get, refl, sym, ap, ◌∙◌, arith}
+use Rattle.std.proofs.Common.{◌≡◌, ℕ, ◌<◌, ◌≤◌, ◌&&◌, nat_lt, Bool, true, false, if◌then◌else◌, not, List, [], Option, Some, None, is_some, length, slice_get, Result, Err, OnErr, refl, sym, ap, subst, ◌∙◌, arith}
 use Rattle.std.specs.List.{flat_map}
 use Rattle.std.proofs.lemmas.Bool.{false≢true}
 use Rattle.std.proofs.lemmas.Bool.Decides.{nat_tests}
@@ -16,6 +16,7 @@ use Rattle.device_core.specs.Order.{Order, Act, Rest, rests_next}
 use Rattle.device_core.specs.Site.{Site}
 use Rattle.device_service.specs.Parts.{publish_of, published_if}
 use Rattle.device_service.specs.Raising.{has_left}
+use Rattle.device_service.specs.Rows.{heard_unless}
 use Rattle.device_service.specs.Service.{Service}
 use Rattle.device_service.specs.Work.{End, Grouped, Work, close, group_said, publishes_at, publishes_if, said_at, settled, with_group}
 use Rattle.group_publisher.specs.Stage.{group_in}
@@ -26,6 +27,14 @@ pub none_waits : (r : Option HostRefusal) (o : Option ⊥) → unless r [] o ≡
 none_waits None None = refl
 none_waits None (Some e) = absurd e
 none_waits (Some why) o = refl
+
+-- the group under way stays, whatever is heard
+pub way_unless : {X : Type 0} (way : X → Option (List (List ℕ))) (why : Option HostRefusal) (x y : X) → way y ≡ way x → way (heard_unless why x y) ≡ way x
+way_unless way None x y e = e
+way_unless way (Some why) x y e = refl
+
+pub on_err : {A E : Type 0} (r : Result A E) (P : Type 0) (why : E) → r ≡ Err why → OnErr r P → P
+on_err r P why e h = subst (λ (x : Result _ _). OnErr x P) e h
 
 below : (prod n : ℕ) → prod ≡ n → prod < limit → nat_lt n limit ≡ true
 below prod n e lt = grind (arith, nat_tests, e, lt)

@@ -1,6 +1,11 @@
 -- Where a publisher stands, and what it hears there.
 use Rattle.std.proofs.Common.{◌≡◌, ◌⊎◌, inl, inr, ℕ, Bool, true, false, not, List, Option, Some, None, is_some, refl, sym, ap, subst, ◌∙◌}
 use Rattle.std.proofs.lemmas.Bool.{false≢true}
+use mathlib.Core.HLevel.{is_prop→PathP}
+use Rattle.std.proofs.Props.{props}
+use Rattle.device_service.specs.Facts.{stands_prop}
+use Rattle.device_service.specs.Nodes.{Ringless}
+use Rattle.device_service.specs.Parts as of_parts
 use Rattle.pv_words.specs.declared.access.Access.{Access}
 use Rattle.pv_words.specs.declared.device.NodeValue.{NodeValue}
 use Rattle.pv_words.specs.declared.device.Said.{Said}
@@ -79,6 +84,28 @@ left_in (Some g) p e = e
 pub puts_in : (o : Option (List (List ℕ))) (p : Parts) → is_some o ≡ true → has_left (publish_left 0 (group_in o) p) ≡ true → puts_on stage.Publishing o p ≡ true
 puts_in None p e h = absurd (false≢true e)
 puts_in (Some g) p e h = h
+
+-- publishers of which all but the facts is the same are the same
+pub same_publisher : {S : Type 0} {g : Ghosts S} (b d : Publisher S g) → b.dev ≡ d.dev → b.dom ≡ d.dom → b.connection ≡ d.connection → b.seen ≡ d.seen → b.read ≡ d.read → b.parts ≡ d.parts → b.closing ≡ d.closing → b.kept ≡ d.kept → b.full ≡ d.full → b.service ≡ d.service → b.stage ≡ d.stage → b ≡ d
+same_publisher {S} {g} b d dev dom connection seen read parts closing kept full service stage = λ i.
+    record {
+      dev = dev i;
+      dom = dom i;
+      connection = connection i;
+      seen = seen i;
+      read = read i;
+      parts = parts i;
+      closing = closing i;
+      kept = kept i;
+      full = full i;
+      service = service i;
+      stage = stage i;
+      dom_is = is_prop→PathP (λ i. of_parts.dom_of (parts i) ≡ (dom i).0) (λ i. hlevel props) b.dom_is d.dom_is i;
+      kind_is = is_prop→PathP (λ i. of_parts.kind_of (parts i) ≡ Ringless) (λ i. hlevel props) b.kind_is d.kind_is i;
+      one = is_prop→PathP (λ i. of_parts.count_of (parts i) ≡ 1) (λ i. hlevel props) b.one d.one i;
+      stands = is_prop→PathP (λ i. StandsAs (activity_of (stage i)) (is_open (activity_of (stage i)) (closing i) (connection i).back) (of_parts.doing_of (parts i)) 0 None) (λ i. hlevel (props, stands_prop)) b.stands d.stands i;
+      puts = is_prop→PathP (λ i. puts_on (stage i) (g.service.groups.way (g.knows (service i))) (parts i) ≡ true) (λ i. hlevel props) b.puts d.puts i;
+    }
 
 module _ {S : Type 0} {g : Ghosts S} (site : Site) (d : Publisher S g) where
   pub stands_in : (a : Stage) → d.stage ≡ a → stand_of site d ≡ stand_in site d.read d.parts (group_of d) (work_of d) a

@@ -2,8 +2,10 @@
 //! every device.
 #![tactic(auto)]
 
+mod laws;
 mod publish;
 mod publisher;
 
+pub use laws::{publishers_run, publishers_tell_truly};
 pub use publish::Publish;
 pub use publisher::{Publisher, Stage};

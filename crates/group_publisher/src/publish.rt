@@ -1,12 +1,13 @@
 //! What a service without rings gives, and owes.
 
-ghost use Rattle.std.specs.Prelude.{◌≡◌, ◌≤◌, ℕ, [], is_some, length, List, None, Some};
+ghost use Rattle.std.specs.Prelude.{◌≡◌, ◌≤◌, ℕ, [], is_some, length, List, None, OnErr, Some, true};
 ghost use Rattle.pv_words.specs.declared.device.HostEvent.{HostEvent};
 ghost use Rattle.device_service.specs.Claims.{KeepsLaws};
 ghost use Rattle.device_service.specs.Laws.{Facts};
 ghost use Rattle.device_service.specs.Nodes.{Ringless};
 ghost use Rattle.device_service.specs.Reading.{Shows};
-ghost use Rattle.device_service.specs.Rows.{Table};
+ghost use Rattle.host_events.specs.Queue.{refusal_in};
+ghost use Rattle.device_service.specs.Rows.{Table, heard_unless};
 ghost use Rattle.device_service.specs.Service.{Service};
 
 use pv_words::{HostEvent, HostRefusal, State};
@@ -69,13 +70,11 @@ pub trait Publish {
     fn clear(&mut self)
         ensures { knows self.new ≡ service.dropped (knows self.old) };
 
-    /// Why an event of the host is refused by a backend in this state, if it is.
-    fn refusal(&self, back: State, e: &HostEvent) -> Option<HostRefusal>
-        ensures { result ≡ service.refusal (knows self.now) back [] e.now };
-
-    /// Hears an event of the host.
-    fn hear(&mut self, e: &HostEvent)
-        ensures { knows self.new ≡ service.hears (knows self.old) e.now };
+    /// Hears an event of the host, where the backend is in this state, unless it refuses it; a refusal changes nothing.
+    fn hear(&mut self, back: State, e: &HostEvent) -> Result<(), HostRefusal>
+        ensures refusal { refusal_in result ≡ service.refusal (knows self.old) back [] e.now }
+        ensures knows { knows self.new ≡ heard_unless (refusal_in result) (knows self.old) (service.hears (knows self.old) e.now) }
+        ensures err { OnErr result (self.new ≡ self.old) };
 
     /// Whether a group is due.
     fn is_due(&self) -> bool
@@ -83,6 +82,7 @@ pub trait Publish {
 
     /// A Publish begins, of the group that is due.
     fn choose(&mut self)
+        requires { is_some (service.groups.due (knows self.old)) ≡ true }
         ensures { knows self.new ≡ service.groups.chosen (knows self.old) };
 
     /// The words of the group that is under way.
@@ -92,6 +92,7 @@ pub trait Publish {
 
     /// The group under way was put.
     fn told(&mut self)
+        requires { is_some (service.groups.way (knows self.old)) ≡ true }
         ensures { knows self.new ≡ service.groups.told (knows self.old) };
 
     /// It found no room.

@@ -105,13 +105,6 @@ impl<S: Publish + Drop> Publisher<S> {
         self.seen = *nodes;
     }
 
-    // Why an event of the host is refused, if it is.
-    fn refusal(&self, e: &HostEvent) -> Option<HostRefusal>
-        ensures { result ≡ refused_at S.service (work_of self.now) e.now }
-    {
-        self.service.refusal(self.connection.back(), e)
-    }
-
     /// Hears an event of the host, unless its service refuses it; a refusal changes nothing.
     pub fn host(&mut self, e: &HostEvent) -> Result<(), HostRefusal>
         ensures hears { (site : Site) → stand_of site self.new ≡ next (device S.service site) (stand_of site self.old) (Heard (Hosts e.now)) }
@@ -120,11 +113,7 @@ impl<S: Publish + Drop> Publisher<S> {
         ensures held { held_of self.new ≡ held_of self.old }
         ensures same { Same self.old self.new }
     {
-        if let Some(why) = self.refusal(e) {
-            return Err(why);
-        }
-        self.service.hear(e);
-        Ok(())
+        self.service.hear(self.connection.back(), e)
     }
 
     /// How many pages it holds.

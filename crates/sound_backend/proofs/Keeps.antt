@@ -513,7 +513,7 @@ module _ (frames grants : ℕ → ℕ) (dom parts : ℕ) where
         drops = λ x s. (s, refl);
         drops_shows = λ x m named. (named, refl, refl);
         bare = λ x m named none. names_none x.stock.held m (right_nil x.stock.mapped (pages_in x.stock.held) none);
-        takes = λ x part words s h. (s, takes x.stock x.demand x.progress part words h);
+        takes = λ x part words ringed s h. (s, takes x.stock x.demand x.progress part words h);
         takes_pages = λ x part words. refl;
         takes_shows = λ x part words m named. (named, refl, refl);
         begins = λ x y pl s h r leads. begins x.stock x.demand x.progress y pl s h r leads;

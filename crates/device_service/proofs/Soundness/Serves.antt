@@ -108,21 +108,21 @@ module _ {X A V Y M : Type 0} (D : Lawful X A V Y M) where
     few_parts : length w.parts ≤ parts
     few_parts = elim q.whole [ inl bare ↦ subst (λ (js : List Joined). length js ≤ parts) (sym bare) (omega arith) | inr all ↦ omega (arith, all) ]
 
-    begins_take : (x : Option Joined) → IsServing w → w.hand ≡ None → slice_get w.parts w.at ≡ x → Offers (takes_from s w x) v p → BeginsSo D w v p (λ n. [])
+    begins_take : (x : Option Joined) → s.kind ≡ Ringed → IsServing w → w.hand ≡ None → slice_get w.parts w.at ≡ x → Offers (takes_from s w x) v p → BeginsSo D w v p (λ n. [])
     unfolding settled
-    begins_take None serving empty at o = begins_nothing D w v p q serving o
-    begins_take (Some j) serving empty at o =
+    begins_take None ringed serving empty at o = begins_nothing D w v p q serving o
+    begins_take (Some j) ringed serving empty at o =
         let small : w.at < parts = omega (arith, slice_get_within w.parts w.at j at, few_parts) in
         let plan = take_plan (ring_page j) j.rsp in
         let fits = λ (c : Carried Learned) (e : Tells s w c). mapped_fits D w c (λ x. Took x) plan e.0.0
         (fits_take frames grants dom c.own.holds.held j (ring_own D w w.at j q at) (ring_held D w w.at j c.own.holds e.0 at) (λ x words. EndsSo D w x (Took words))
-        (λ words. ((refl, subst (λ y. AreSame c.own.holds.held (y ++ all_pages w.parts)) (sym (l.takes_pages w.service w.at words)) e.0.1), (serving, empty, small, has_none w.at j empty at))))
+        (λ words. ((refl, subst (λ y. AreSame c.own.holds.held (y ++ all_pages w.parts)) (sym (l.takes_pages w.service w.at words)) e.0.1), (serving, empty, small, has_none w.at j empty at, ringed))))
         (found_any (λ f words. EndsFoundSo D w f (Took words)) (λ f words. ((λ why h. absurd (no_reason w.kept why none h)), λ ts. tt)) c.own.found plan (take_none (ring_page j) j.rsp)) in
         chosen D w v w p (mapped (λ x. Took x) plan) (λ n. []) (same_work D w v p q (mapped (λ x. Took x) plan) fits) o
 
-    begins_left : (n : ℕ) → IsServing w → w.hand ≡ None → Offers (with_left s w n) v p → BeginsSo D w v p (λ n. [])
-    begins_left zero serving empty o = begins_round w.round serving o
-    begins_left (suc n) serving empty o = begins_take (slice_get w.parts w.at) serving empty refl o
+    begins_left : (n : ℕ) → s.kind ≡ Ringed → IsServing w → w.hand ≡ None → Offers (with_left s w n) v p → BeginsSo D w v p (λ n. [])
+    begins_left zero ringed serving empty o = begins_round w.round serving o
+    begins_left (suc n) ringed serving empty o = begins_take (slice_get w.parts w.at) ringed serving empty refl o
 
     -- a group is put
     module _ (g : List (List ℕ)) (j : Joined) (serving : IsServing w) (empty : w.hand ≡ None) (idle : w.waiting ≡ []) (ringless : s.kind ≡ Ringless) (due : s.groups.due w.service ≡ Some g) (at : slice_get w.parts 0 ≡ Some j) where
@@ -194,7 +194,7 @@ module _ {X A V Y M : Type 0} (D : Lawful X A V Y M) where
     begins_grouping true x serving empty idle ringless due o = absurd o
 
     begins_ringing : (kind : Kind) → IsServing w → w.hand ≡ None → w.waiting ≡ [] → s.kind ≡ kind → Offers (with_rings s w kind) v p → BeginsSo D w v p (λ n. begins_rings s t r w n kind)
-    begins_ringing Ringed serving empty idle is o = begins_left w.left serving empty o
+    begins_ringing Ringed serving empty idle is o = begins_left w.left is serving empty o
     begins_ringing Ringless serving empty idle is o = begins_grouping w.full (s.groups.due w.service) serving empty idle is refl o
 
     -- the activity of the request in hand

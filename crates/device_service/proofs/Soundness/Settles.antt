@@ -98,10 +98,10 @@ module _ {X A V Y M : Type 0} (D : Lawful X A V Y M) where
         kept = q.kept;
       }
 
-  take_sane : (w : Work X V) (words : List ℕ) → IsSane D w → IsServing w → known.Has false w.service → IsSane D (settled s (site D) w (Took words))
+  take_sane : (w : Work X V) (words : List ℕ) → s.kind ≡ Ringed → IsSane D w → IsServing w → known.Has false w.service → IsSane D (settled s (site D) w (Took words))
   unfolding settled
-  take_sane w words q serving has =
-      let k = l.takes w.service w.at words q.sane has in
+  take_sane w words ringed q serving has =
+      let k = l.takes w.service w.at words ringed q.sane has in
       record { own = q.own; whole = q.whole; sane = k.0; opened = inr (serving, k.1); kept = q.kept }
 
   own_sane : (w : Work X V) (k : Carried Learned) (a : A) → IsSane D w → EndsWell D w k (Own a) → IsSane D (settled s (site D) w (Own a))
@@ -192,7 +192,7 @@ module _ {X A V Y M : Type 0} (D : Lawful X A V Y M) where
   pub settles : (w : Work X V) (o : End A V) (k : Carried Learned) → IsSane D w → EndsWell D w k o → IsSane D (settled s (site D) w o)
   unfolding settled
   settles w (Saw x) k q e = look_sane w x e.0.1.0 e.0.1.1 q e.0.0 e.0.1.2
-  settles w (Took words) k q e = take_sane w words q e.0.0 e.0.3
+  settles w (Took words) k q e = take_sane w words e.0.4 q e.0.0 e.0.3
   settles w (Own a) k q e = own_sane w k a q e
   settles w (Done a) k q e = done_sane w k a q e
   settles w (Answered notified) k q e = answer_sane w w.hand q e.0.0 e.0.2 e.0.3

@@ -146,7 +146,7 @@ module _ {X A V Y M : Type 0} (D : Lawful X A V Y M) where
       let b = l.takes_shows w.service w.at words n.service named in (
         b.0,
         record {
-          move = record { serving = e.0.0; part_is = e.0.2; id_is = refl; op_is = refl; none = e.0.1; taken = ap (λ (y : Y). let x : Rows Y V = record (row w n) { hand = Some (hand_in w.at words); service = y } in x) b.1 };
+          move = record { ringed = sym l.kind_is ∙ e.0.4; serving = e.0.0; part_is = e.0.2; id_is = refl; op_is = refl; none = e.0.1; taken = ap (λ (y : Y). let x : Rows Y V = record (row w n) { hand = Some (hand_in w.at words); service = y } in x) b.1 };
           names = λ sight. ap (all_drawn sight) b.2;
         },
       )

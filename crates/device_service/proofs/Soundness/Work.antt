@@ -27,7 +27,7 @@ use Rattle.device_core.specs.Site.{Site}
 use Rattle.device_core.specs.Touched.{Carried, Touch}
 use Rattle.device_service.specs.Claims.{site_of}
 use Rattle.device_service.specs.Laws.{Facts, GoesOnAs, Laws, AreHeld, IsRaise, SameNumbers}
-use Rattle.device_service.specs.Nodes.{Kind, needs_of}
+use Rattle.device_service.specs.Nodes.{Kind, Ringed, needs_of}
 use Rattle.link_core.specs.Activities.{Joined}
 use Rattle.link_core.specs.declared.link.Put.{Put}
 use Rattle.link_core.specs.declared.link.Put.TheVariants as put
@@ -178,7 +178,7 @@ module _ {X A V Y M : Type 0} (D : Lawful X A V Y M) where
   -- how an activity ends, of the work in which it was chosen
   abbrev pub EndsHeld : Work X V → End A V → Type 0
   EndsHeld w (Saw x) = IsServing w × ((rsp : ℕ) × (prod : ℕ) × (x ≡ looked_of rsp prod))
-  EndsHeld w (Took words) = IsServing w × (w.hand ≡ None) × (w.at < parts) × known.Has false w.service
+  EndsHeld w (Took words) = IsServing w × (w.hand ≡ None) × (w.at < parts) × known.Has false w.service × (s.kind ≡ Ringed)
   EndsHeld w (Own a) = IsServing w × HasHand w × known.Has true w.service
   EndsHeld w (Done a) = IsServing w × (w.hand ≡ None) × known.Has false w.service
   EndsHeld w (Answered notified) = IsServing w × HasHand w × known.Has true w.service × (s.ready w.service ≡ true)
@@ -403,7 +403,7 @@ module _ {X A V Y M : Type 0} (D : Lawful X A V Y M) where
 
       held_now : (o : End A V) → EndsHeld w o → EndsHeld now o
       held_now (Saw x) q = (serving_now q.0, q.1)
-      held_now (Took words) q = (serving_now q.0, q.1, q.2, goes.has false q.3)
+      held_now (Took words) q = (serving_now q.0, q.1, q.2, goes.has false q.3, q.4)
       held_now (Own a) q = (serving_now q.0, q.1, goes.has true q.2)
       held_now (Done a) q = (serving_now q.0, q.1, goes.has false q.2)
       held_now (Answered notified) q = (serving_now q.0, q.1, goes.has true q.2, ap (λ z. z.ready) goes.ends ∙ q.3)

@@ -1,38 +1,23 @@
-use Rattle.std.proofs.Common.{◌≡◌, ℕ, List, [], Option, None, Some, refl, sym, ap, ◌∙◌}
+use Rattle.std.proofs.Common.{◌≡◌, ℕ, List, [], Option, refl, sym, ap, ◌∙◌}
 use Rattle.pv_words.specs.declared.device.HostRefusal.{HostRefusal}
-use Rattle.host_events.specs.Queue.{unless}
+use Rattle.pv_words.specs.declared.device.State.{State}
+use Rattle.host_events.specs.Queue.{refusal_in, unless}
 use Rattle.device_core.specs.Order.{Hosts}
 use Rattle.device_service.specs.Rows.{heard_unless}
+use Rattle.device_service.proofs.Hearing.{err_only}
 use Rattle.group_publisher.specs.Stage.{group_in, puts_on}
 use Rattle.group_publisher.specs.Stand.{dom_of, group_of, held_of, stand_in, stand_of, work_of}
-use Rattle.group_publisher.proofs.Groups.{none_waits}
-use Rattle.group_publisher.proofs.Stands.{heard_in}
+use Rattle.group_publisher.proofs.Groups.{none_waits, on_err, way_unless}
+use Rattle.group_publisher.proofs.Stands.{heard_in, same_publisher}
 use Rattle.group_publisher.proofs.publisher.Publisher.host.Goals as goal
-
-pub returns-in-Some : goal.returns-in-Some
-unfolding stand_of work_of held_of dom_of
-returns-in-Some g c =
-    let d = c.args.self.now in
-    let s = g.S.Publish.service in
-    let x = g.S.Publish.knows d.service in
-    let e = c.args.e.now in
-    let w = work_of d in
-    let refuses = sym c.in-Some.is ∙ c.refusal.ensures in
-    record {
-      hears = λ site.
-          ap (λ (r : Option HostRefusal). stand_in site d.read d.parts (group_of d) (record w { waiting = unless r [] (s.waits e); service = heard_unless r x (s.hears x e) }) d.stage) refuses
-          ∙ heard_in s site d.read d.parts (group_of d) w d.stage (Hosts e);
-      refusal = refuses;
-      err = refl;
-      held = refl;
-      same = (refl, refl);
-    }
 
 pub invariant_of-self-clause-puts : goal.invariant_of-self-clause-puts
 invariant_of-self-clause-puts g c =
     let d = c.args.self.now in
     let s = g.S.Publish.service in
-    let way = ap (λ (y : g.S.Publish.Known). s.groups.way y) c.hear.ensures ∙ g.S.Publish.stays (g.S.Publish.knows d.service) c.args.e.now in
+    let x = g.S.Publish.knows d.service in
+    let e = c.args.e.now in
+    let way = ap (λ (y : g.S.Publish.Known). s.groups.way y) c.hear.ensures.knows ∙ way_unless s.groups.way (refusal_in c.hear.result) x (s.hears x e) (g.S.Publish.stays x e) in
     ap (λ (o : Option (List (List ℕ))). puts_on d.stage o d.parts) way ∙ d.puts
 
 pub returns-clause-hears : goal.returns-clause-hears
@@ -44,18 +29,25 @@ returns-clause-hears g c = λ site.
     let y = g.S.Publish.knows c.hear.new.self in
     let e = c.args.e.now in
     let w = work_of d in
-    let refuses = sym c.in_default.is ∙ c.refusal.ensures in
-    let way = ap (λ (z : g.S.Publish.Known). s.groups.way z) c.hear.ensures ∙ g.S.Publish.stays x e in
+    let r = refusal_in c.hear.result in
+    let refuses = c.hear.ensures.refusal ∙ ap (λ (b : State). s.refusal x b [] e) c.back.ensures in
+    let way = ap (λ (z : g.S.Publish.Known). s.groups.way z) c.hear.ensures.knows ∙ way_unless s.groups.way r x (s.hears x e) (g.S.Publish.stays x e) in
     ap (λ (o : Option (List (List ℕ))). stand_in site d.read d.parts (group_in o) (record w { service = y }) d.stage) way
-    ∙ (ap (λ (z : g.S.Publish.Known). stand_in site d.read d.parts (group_of d) (record w { service = z }) d.stage) c.hear.ensures
-    ∙ (ap (λ vs. stand_in site d.read d.parts (group_of d) (record w { waiting = vs; service = s.hears x e }) d.stage) (sym (none_waits None (s.waits e)))
-    ∙ (ap (λ (r : Option HostRefusal). stand_in site d.read d.parts (group_of d) (record w { waiting = unless r [] (s.waits e); service = heard_unless r x (s.hears x e) }) d.stage) refuses
+    ∙ (ap (λ (z : g.S.Publish.Known). stand_in site d.read d.parts (group_of d) (record w { service = z }) d.stage) c.hear.ensures.knows
+    ∙ (ap (λ vs. stand_in site d.read d.parts (group_of d) (record w { waiting = vs; service = heard_unless r x (s.hears x e) }) d.stage) (sym (none_waits r (s.waits e)))
+    ∙ (ap (λ (q : Option HostRefusal). stand_in site d.read d.parts (group_of d) (record w { waiting = unless q [] (s.waits e); service = heard_unless q x (s.hears x e) }) d.stage) refuses
     ∙ heard_in s site d.read d.parts (group_of d) w d.stage (Hosts e))))
 
 pub returns-clause-refusal : goal.returns-clause-refusal
 unfolding work_of
 returns-clause-refusal g c =
-    sym c.in_default.is ∙ c.refusal.ensures
+    let d = c.args.self.now in
+    c.hear.ensures.refusal ∙ ap (λ (b : State). g.S.Publish.service.refusal (g.S.Publish.knows d.service) b [] c.args.e.now) c.back.ensures
+
+pub returns-clause-err : goal.returns-clause-err
+returns-clause-err g c =
+    let d = c.args.self.now in
+    err_only c.hear.result _ (λ why e. same_publisher _ d refl refl refl refl refl refl refl refl refl (on_err c.hear.result _ why e c.hear.ensures.err) refl)
 
 pub returns-clause-held : goal.returns-clause-held
 unfolding held_of

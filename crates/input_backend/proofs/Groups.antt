@@ -1,0 +1,69 @@
+-- The group that is being published stays what it is, whatever is heard.
+use Rattle.std.proofs.Common.{◌≡◌, ◌&&◌, ℕ, Bool, true, false, if◌then◌else◌, List, [], ◌∷◌, ◌++◌, suc, length, map, Option, Some, None, is_none, nat_lt, not, refl, sym, ap, ◌∙◌}
+use Rattle.std.proofs.lemmas.Bool.{false≢true}
+use Rattle.pv_words.specs.declared.device.HostEvent.{HostEvent}
+use Rattle.pv_words.specs.declared.device.HostRefusal.{HostRefusal}
+use Rattle.kbd_wire.specs.declared.Event.{Event}
+use Rattle.kbd_wire.specs.Wire.{event_words}
+use Rattle.multitouch.specs.Known.{Known, accepted, begun, group_of, heard, is_due, joined, next_group, settled, unless}
+use Rattle.multitouch.specs.Pressed.{after_event, refusal_of}
+use Rattle.device_service.specs.Rows.{heard_unless}
+use Rattle.input_backend.specs.Service.{due_if, due_of, heard_if, told_of, words_in, words_of}
+
+joined_way : (k : Known) (group : List Event) (b : Bool) → (if b then record k { queue = k.queue ++ group ∷ [] } else record k { gap = true }).under_way ≡ k.under_way
+joined_way k group true = refl
+joined_way k group false = refl
+
+accepted_way : (k : Known) (e : Event) → (accepted k e).under_way ≡ k.under_way
+accepted_way k e = joined_way (record k { real = after_event k.real e }) (group_of e) (not k.gap && nat_lt (length k.queue) 16)
+
+unless_way : (why : Option HostRefusal) (k next : Known) → next.under_way ≡ k.under_way → (unless why k next).under_way ≡ k.under_way
+unless_way None k next e = e
+unless_way (Some why) k next e = refl
+
+pub heard_way : (k : Known) (o : Option Event) → (heard_if k o).under_way ≡ k.under_way
+heard_way k None = refl
+heard_way k (Some e) = unless_way (refusal_of k.real e) k (accepted k e) (accepted_way k e)
+
+pub way_heard : (k : Known) (e : HostEvent) → words_of (heard_if k (told_of e)).under_way ≡ words_of k.under_way
+way_heard k e = ap words_of (heard_way k (told_of e))
+
+-- the group that is due is the one that is chosen
+chosen_if : (b : Bool) (k : Known) (g : List (List ℕ)) → due_if b k ≡ Some g → words_of (begun k).under_way ≡ Some g
+chosen_if true k g e = e
+chosen_if false k g e = let wrong : ⊥ = cc in absurd wrong
+
+pub way_chosen : (k : Known) (g : List (List ℕ)) → due_of k ≡ Some g → words_of (begun k).under_way ≡ Some g
+way_chosen k g e = chosen_if (is_none k.under_way && is_due k) k g e
+
+-- where it is due, none is under way
+is_free : (b d : Bool) (k : Known) (g : List (List ℕ)) → due_if (b && d) k ≡ Some g → (b ≡ true) × (d ≡ true)
+is_free true true k g e = (refl, refl)
+is_free true false k g e = let wrong : ⊥ = cc in absurd wrong
+is_free false d k g e = let wrong : ⊥ = cc in absurd wrong
+
+none_is : (o : Option (List Event)) → is_none o ≡ true → o ≡ None
+none_is None e = refl
+none_is (Some x) e = absurd (false≢true e)
+
+pub free : (k : Known) (g : List (List ℕ)) → due_of k ≡ Some g → (k.under_way ≡ None) × (is_due k ≡ true)
+free k g e =
+    let b = is_free (is_none k.under_way) (is_due k) k g e in
+    (none_is k.under_way b.0, b.1)
+
+-- the events of the group under way are as many as their words
+length_words : (es : List Event) → length (words_in es) ≡ length es
+length_words [] = refl
+length_words (e ∷ es) = ap (λ n. suc n) (length_words es)
+
+pub under : (o : Option (List Event)) (g : List (List ℕ)) → words_of o ≡ Some g → (group : List Event) × (o ≡ Some group) × (length g ≡ length group)
+under None g e = let wrong : ⊥ = cc in absurd wrong
+under (Some es) g e = let same : words_in es ≡ g = cc in (es, refl, ap (λ x. length x) (sym same) ∙ length_words es)
+
+-- an event that is refused isn't heard
+refused_way : (why : Option HostRefusal) (k next : Known) → unless why k next ≡ heard_unless why k (unless why k next)
+refused_way None k next = refl
+refused_way (Some why) k next = refl
+
+pub heard_is : (k : Known) (e : Event) → heard k e ≡ heard_unless (refusal_of k.real e) k (heard k e)
+heard_is k e = refused_way (refusal_of k.real e) k (accepted k e)

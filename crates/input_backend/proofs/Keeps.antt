@@ -1,14 +1,14 @@
 -- The input device keeps the laws of a service.
-use Rattle.std.proofs.Common.{◌≡◌, ℕ, ◌≤◌, length, List, [], Option, Some, None, refl, sym}
+use Rattle.std.proofs.Common.{◌≡◌, ℕ, ◌≤◌, true, false, length, List, [], Option, Some, None, refl, arith}
 use Rattle.std.proofs.lemmas.Bool.{true≢false}
-use Rattle.std.proofs.Math.Nat.{le-add_left}
 use Rattle.pv_words.specs.declared.device.HostEvent.{HostEvent}
 use Rattle.pv_words.specs.Plan.{Want, Note, Plain, Begins, Frames, Undoes, Ends, Takes, Puts, IsUntouched}
 use Rattle.multitouch.specs.Known.{Known}
 use Rattle.device_service.specs.Claims.{KeepsLaws}
 use Rattle.device_service.specs.Laws.{IsRaise, IsTouching}
 use Rattle.input_backend.specs.Service.{facts, facts_of, input, shows, table}
-use Rattle.input_backend.proofs.Groups.{free, under, way_chosen, way_heard}
+use Rattle.input_backend.specs.Kept.{way_chosen, way_heard}
+use Rattle.input_backend.proofs.Groups.{free, under}
 
 -- no request is in hand, and nothing is raised
 none_in_hand : {P : Type 0} → true ≡ false → P
@@ -34,7 +34,7 @@ keeps_laws frames grants dom parts =
       waits_is = λ e. refl;
       refusal_is = λ x m b vs e. refl;
       pages_are = λ x q. tt;
-      short = λ x. le-add_left 16 0;
+      short = λ x. omega arith;
       begun_sane = λ x nodes. (tt, refl, refl);
       begun_named = λ x nodes. tt;
       begun_shows = λ x m nodes n. refl;

@@ -60,7 +60,7 @@ impl Publish for Service {
     ghost use Rattle.multitouch.specs.Known.{Known};
     ghost use Rattle.input_backend.specs.Known.{known_of};
     ghost use Rattle.input_backend.specs.Service.{facts, input, shows, table};
-    ghost use Rattle.input_backend.proofs.Groups.{way_chosen, way_heard};
+    ghost use Rattle.input_backend.specs.Kept.{way_chosen, way_heard};
 
     ghost Known = { Known };
 

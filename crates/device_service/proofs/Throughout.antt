@@ -28,11 +28,11 @@ use Rattle.device_service.specs.Claims.{KeepsLaws, site_of}
 use Rattle.device_service.specs.Held.{HoldsAsMany, HoldsPage, TellsWhatIsHeld, holds_by}
 use Rattle.device_service.specs.Laws.{AreHeld}
 use Rattle.device_service.specs.Parts as of_parts
-use Rattle.device_service.specs.Parts.{answer_from, connect_left, connects, count_of, doing_of, is_asleep, joined_of, kept_by, raise_from, sleeping, slept_to, take_from}
+use Rattle.device_service.specs.Parts.{answer_from, connect_left, connects, count_of, doing_of, is_asleep, joined_of, kept_by, publish_from, raise_from, sleeping, slept_to, take_from}
 use Rattle.device_service.specs.Stand.{dom_of, given_up, held_of, known_in, leaving_plan, parts_of, site_at, stand_at, stand_in, stand_of, stuck, why_of, work_of}
 use Rattle.device_service.specs.Throughout.{HoldsThroughout}
-use Rattle.device_service.specs.Work.{Work, End, Took, Own, Done, Answered, Slept, Raised, Shut, after_answer, all_pages, connected, device, first_station, part_of, settled}
-use Rattle.device_service.proofs.InPages.{fits_before, in_answer, in_raise, in_sleeping, in_take, stays}
+use Rattle.device_service.specs.Work.{Work, End, Took, Own, Done, Answered, Slept, Raised, Grouped, Shut, after_answer, all_pages, connected, device, first_station, part_of, settled}
+use Rattle.device_service.proofs.InPages.{fits_before, in_answer, in_publish, in_raise, in_sleeping, in_take, stays}
 use Rattle.device_service.proofs.PartsLaws.{held_bare, held_open, held_told, joined_count, joined_none}
 use Rattle.device_service.proofs.Holding.Lengths.{same_length, times_at}
 use Rattle.device_service.proofs.Sound.{Good, Lies, first_carried, first_good, fits_during, sound, tells_between}
@@ -40,13 +40,13 @@ use Rattle.device_service.proofs.Soundness.Connect.{shut_pages}
 use Rattle.device_service.proofs.Soundness.Parts.{counted_pages}
 use Rattle.device_service.proofs.Soundness.Plans.{Fit}
 use Rattle.device_service.proofs.Soundness.Same.{same_append}
-use Rattle.device_service.proofs.Soundness.Serves.{raise_pages}
+use Rattle.device_service.proofs.Soundness.Serves.{group_pages, raise_pages}
 use Rattle.device_service.proofs.Soundness.Work.{Lawful, EndsSo, IsSane, held_pages, learned, site, sleep_pages}
 use Rattle.device_service.proofs.Mapping.Unmaps.{unmaps_come}
 use Rattle.page_directory.specs.Lists.{left_nil}
 
 -- parts that rest hold the pages of what they are joined to
-parts_held : (p : Parts) (o : Bool) → doing_of p ≡ resting o → all_pages (joined_of p) ≡ of_parts.held_of p
+pub parts_held : (p : Parts) (o : Bool) → doing_of p ≡ resting o → all_pages (joined_of p) ≡ of_parts.held_of p
 parts_held p true rests = sym (held_open p (ap of_parts.is_open rests))
 parts_held p false rests = ap all_pages (joined_none p (ap of_parts.is_open rests)) ∙ sym (held_bare p rests)
 
@@ -69,7 +69,7 @@ module _ {X A V Y M : Type 0} (D : Lawful X A V Y M) (w : Work X V) (k : Carried
   abbrev HoldsJust : List Hold → Type 0
   HoldsJust pages = AreSame k.own.holds.held pages
 
-  between_holds : Good D (Between w) k → HoldsJust (held_pages s w)
+  pub between_holds : Good D (Between w) k → HoldsJust (held_pages s w)
   between_holds g = (tells_between D w k g).1.1
 
   taking_holds : (part : ℕ) (p : Parts) → Good D (During w (mapped Took (of_parts.take_left part p))) k → HoldsJust (held_pages s w)
@@ -112,6 +112,14 @@ module _ {X A V Y M : Type 0} (D : Lawful X A V Y M) (w : Work X V) (k : Carried
       let n = stays frames (IsProper frames grants dom) (λ h y. EndsSo D w h (Raised part e y)) k.own.holds plan (in_raise words (slice_get p.links.items part)) (fits_before frames (IsProper frames grants dom) (Raised part e) (EndsSo D w) k.own.holds plan d.1) in
       sym (ap (times x) n.3) ∙ (n.2.0.1 x ∙ ap (times x) (raise_pages D w part e n.1 d.0 n.2.1.0))
 
+  pub publishing_holds : (n : ℕ) (group : List (List ℕ)) (part : ℕ) (p : Parts) → Good D (During w (mapped (Grouped n) (of_parts.publish_left part group p))) k → HoldsJust (held_pages s w)
+  unfolding settled of_parts.publish_left
+  publishing_holds m group part p g x =
+      let plan = publish_from group (slice_get p.links.items part) in
+      let d = fits_during D w (mapped (Grouped m) plan) k g in
+      let n = stays frames (IsProper frames grants dom) (λ h y. EndsSo D w h (Grouped m y)) k.own.holds plan (in_publish group (slice_get p.links.items part)) (fits_before frames (IsProper frames grants dom) (Grouped m) (EndsSo D w) k.own.holds plan d.1) in
+      sym (ap (times x) n.3) ∙ (n.2.0.1 x ∙ ap (times x) (group_pages D w m n.1 d.0 n.2.1.0))
+
   -- what an activity of the service leaves, of the request in hand or of an event
   abbrev Leaves : Holds → A → Type 0
   Leaves h a = AreHeld h (s.pages (s.after w.service a) ++ all_pages w.parts)
@@ -133,7 +141,7 @@ module _ {X A V Y M : Type 0} (D : Lawful X A V Y M) (w : Work X V) (k : Carried
   has_come n lt q = elim q.opened [ inl bare ↦ absurd (omega (arith, lt, ap length bare.0)) | inr o ↦ o.1 ]
 
   -- all pages are given up, one after another
-  leaving_holds : (why : Reason) (hs : List Hold) → (hs ≡ [] → s.pages w.service ≡ []) → Good D (stand_at w (leaving_plan why hs)) k → HoldsJust hs
+  pub leaving_holds : (why : Reason) (hs : List Hold) → (hs ≡ [] → s.pages w.service ≡ []) → Good D (stand_at w (leaving_plan why hs)) k → HoldsJust hs
   unfolding settled
   leaving_holds why [] none g x =
       (tells_between D (stuck w why) k g).1.1 x ∙ ap (λ ps. times x (ps ++ [])) (none refl)
@@ -160,7 +168,7 @@ module _ {X A V Y M : Type 0} (D : Lawful X A V Y M) (w : Work X V) (k : Carried
   connected_holds sane bare h (Ok js) e x = e.0.1 x ∙ ap (λ ps. times x (ps ++ all_pages js)) (l.begun_sane w.service w.read).2
   connected_holds sane bare h (Err why) e x = e.0.1 x ∙ shut_pages D w x sane bare
 
-  connecting_holds : (nodes : List NodeValue) (p : Parts) → connects (doing_of p) ≡ true → s.pages w.service ≡ [] → of_parts.dom_of p ≡ dom → Good D (stand_at w (mapped connected (connect_left (site_of frames grants dom (count_of p)) nodes p))) k → HoldsJust (of_parts.held_of p)
+  pub connecting_holds : (nodes : List NodeValue) (p : Parts) → connects (doing_of p) ≡ true → s.pages w.service ≡ [] → of_parts.dom_of p ≡ dom → Good D (stand_at w (mapped connected (connect_left (site_of frames grants dom (count_of p)) nodes p))) k → HoldsJust (of_parts.held_of p)
   connecting_holds nodes p under bare home g = by_domain dom home (fits_so (IsProper frames grants dom) (holding frames) (λ h o. EndsSo D w h (connected o)) (λ h o. AreSame h.held (kept_by o)) (connected_holds f.0.sane bare) k.own.holds plan f.1)
     where
       plan : Plan (Result (List Joined) GrantRefusal)

@@ -1,3 +1,4 @@
+pub mod Held
 pub mod Stage
 pub mod Stand
 pub mod Steps

@@ -2,6 +2,7 @@
 
 ghost use Rattle.device_service.specs.Claims.{Keeps, Runs, Tells};
 ghost use Rattle.device_service.specs.Truth.{TellsTruly};
+ghost use Rattle.group_publisher.specs.Held.{AllTell};
 
 use crate::publish::Publish;
 
@@ -20,6 +21,14 @@ pub fn publishers_run<S: Publish>()
 /// accesses found last.
 pub fn publishers_tell_truly<S: Publish>()
     ensures { TellsTruly S.service S.table S.shows }
+{
+    S::keeps_laws();
+}
+
+/// Whatever the service, and whatever a publisher has done and heard: the pages that it tells by `held` and `hold_at` are just those
+/// that its accesses hold: those that they mapped and didn't unmap, also while an activity is under way.
+pub fn tells_what_is_held<S: Publish + Drop>()
+    ensures { AllTell S.Publish }
 {
     S::keeps_laws();
 }

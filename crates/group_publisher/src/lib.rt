@@ -6,6 +6,6 @@ mod laws;
 mod publish;
 mod publisher;
 
-pub use laws::{publishers_run, publishers_tell_truly};
+pub use laws::{publishers_run, publishers_tell_truly, tells_what_is_held};
 pub use publish::Publish;
 pub use publisher::{Publisher, Stage};

@@ -64,6 +64,7 @@ impl<S: Publish + Drop> Publisher<S> {
     ghost use Rattle.device_core.specs.Site.{Site};
     ghost use Rattle.device_service.specs.Work.{choice, device, first_work, refused_at};
     ghost use Rattle.group_publisher.specs.declared.publisher.Stage.TheVariants as stage;
+    ghost use Rattle.group_publisher.specs.Held.{HoldsAsMany, HoldsPage};
     ghost use Rattle.group_publisher.specs.Stand.{MayStepAt, Same, StepsAt, dev_of, dom_of, held_of, site_over, stand_of, work_of};
     ghost use Rattle.group_publisher.specs.Steps.{Chooses, HearsAt, chosen};
 
@@ -116,18 +117,22 @@ impl<S: Publish + Drop> Publisher<S> {
         self.service.hear(self.connection.back(), e)
     }
 
-    /// How many pages it holds.
+    /// How many pages it holds: as many as its accesses hold, by whatever it came to stand there.
     pub fn held(&self) -> u32
-        ensures { result ≡ length (held_of self.now) }
+        ensures count { result ≡ length (held_of self.now) }
+        ensures holds { HoldsAsMany self.now result }
     {
+        S::keeps_laws();
         self.parts.held()
     }
 
-    /// The page at this place of those that it holds.
+    /// The page at this place of those that it holds. It is one of those that its accesses hold.
     pub fn hold_at(&self, i: u32) -> Hold
         requires { i < length (held_of self.now) }
-        ensures { slice_get (held_of self.now) i ≡ Some result }
+        ensures place { slice_get (held_of self.now) i ≡ Some result }
+        ensures holds { HoldsPage self.now result }
     {
+        S::keeps_laws();
         self.parts.hold_at(i)
     }
 

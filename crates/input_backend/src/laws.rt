@@ -1,7 +1,8 @@
-//! What an input device does is a run of its machine.
+//! What an input device does is a run of its machine, and it tells what it holds.
 
 ghost use Rattle.device_service.specs.Claims.{Keeps, Runs, Tells};
 ghost use Rattle.device_service.specs.Truth.{TellsTruly};
+ghost use Rattle.input_backend.specs.Laws.{TellsWhatIsHeld};
 ghost use Rattle.input_backend.specs.Service.{input, shows, table};
 
 use crate::service::Service;
@@ -23,4 +24,12 @@ pub fn inputs_tell_truly()
     ensures { TellsTruly input table shows }
 {
     publishers_tell_truly::<Service>();
+}
+
+/// Whatever an input device has done and heard, the pages that it tells by `held` and `hold_at` are just those that its accesses hold:
+/// those that they mapped and didn't unmap, also while an activity is under way.
+pub fn tells_what_is_held()
+    ensures { TellsWhatIsHeld }
+{
+    group_publisher::tells_what_is_held::<Service>();
 }

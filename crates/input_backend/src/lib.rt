@@ -6,5 +6,5 @@ mod laws;
 mod service;
 
 pub use input::{Input, new_input};
-pub use laws::{inputs_run, inputs_tell_truly};
+pub use laws::{inputs_run, inputs_tell_truly, tells_what_is_held};
 pub use service::Service;

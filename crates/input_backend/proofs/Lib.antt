@@ -1,3 +1,4 @@
 pub mod Groups
 pub mod Keeps
+pub mod Ports
 pub mod Writing

@@ -8,3 +8,6 @@ mod service;
 pub use input::{Input, new_input};
 pub use laws::{inputs_run, inputs_tell_truly, tells_what_is_held};
 pub use service::Service;
+
+#[cfg(test)]
+mod tests;

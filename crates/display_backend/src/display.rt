@@ -16,7 +16,12 @@ use std::alloc::{AllocError, Global};
 pub type Display = Backend<Service>;
 
 /// The display of this number, of so many parts and of this domain, which waits for its frontend.
-pub fn new_display(alloc: Global, dev: DevId, dom: DomId, connectors: u8) -> Result<Display, AllocError>
+pub fn new_display(
+    alloc: Global,
+    dev: DevId,
+    dom: DomId,
+    connectors: u8,
+) -> Result<Display, AllocError>
     requires some { 1 ≤ connectors }
     requires few { connectors ≤ 4 }
     ensures between { IfOk result (λ d. (site : Site) → stand_of site d ≡ Between (first_work nothing_known)) }

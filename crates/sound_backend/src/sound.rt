@@ -17,7 +17,12 @@ use std::alloc::{AllocError, Global};
 pub type Sound = Backend<Service>;
 
 /// The sound device of this number and of this domain with a stream of each of these kinds, which waits for its frontend.
-pub fn new_sound(alloc: Global, dev: DevId, dom: DomId, kinds: &[StreamKind]) -> Result<Sound, AllocError>
+pub fn new_sound(
+    alloc: Global,
+    dev: DevId,
+    dom: DomId,
+    kinds: &[StreamKind],
+) -> Result<Sound, AllocError>
     requires some { 1 ≤ length kinds.now }
     requires few { length kinds.now ≤ 4 }
     ensures between { IfOk result (λ d. (site : Site) → stand_of site d ≡ Between (first_work (first_known kinds.now))) }

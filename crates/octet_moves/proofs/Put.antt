@@ -1,5 +1,6 @@
 -- What a step of a READ puts.
 use Rattle.std.proofs.Common.{◌≡◌, ℕ, zero, suc, ◌+◌, ◌-◌, ◌==◌, ◌<◌, ◌≤◌, List, [], ◌∷◌, ◌++◌, Bool, true, false, Option, Some, None, cond, length, take, drop, refl, sym, ◌∙◌, ap, subst, eq-eqb, arith}
+use Rattle.std.proofs.lemmas.Bool.Decides.{nat_tests}
 use Rattle.std.specs.Option.{is_some, unwrap_or}
 use Rattle.std.proofs.lemmas.Bool.{eqb-true, false≢true}
 use Rattle.pv_words.specs.declared.access.Access.{Access}
@@ -10,8 +11,10 @@ use Rattle.pv_words.proofs.Plans.{goes_from, may_from}
 use Rattle.octet_window.specs.declared.piece.Piece.{Piece}
 use Rattle.octet_window.specs.Octets.{number_of, octets_of}
 use Rattle.octet_window.specs.Parts.{blended}
+use Rattle.pcm_stream.specs.Stream.{Pcm}
 use Rattle.octet_moves.specs.Moving.{blends, putting, putting_by, stores}
-use Rattle.octet_moves.specs.Span.{LiesIn, Way, moved, over_of, passed, pieces_of, put_of}
+use Rattle.octet_moves.specs.Steps.{PutsOn}
+use Rattle.octet_moves.specs.Span.{LiesIn, Putting, Way, moved, over_of, passed, pieces_of, put_of}
 use Rattle.octet_moves.proofs.Lists.{rest_of, take_take}
 use Rattle.octet_moves.proofs.Pieces.{IsFirst, first_is}
 use Rattle.octet_moves.proofs.Taken.{more_left, none_left}
@@ -83,12 +86,19 @@ module _ (pages : List Hold) (key : ℕ) (w : Way) (p : Piece) (q : List ℕ) (f
     some_put pages key (passed p.len w) (put_of (passed p.len w) q) (more_left (passed p.len w).more some) lies,
   )
 
-  pub puts_on : (found : Option ℕ) (word : ℕ) (new : Way) (done : Option (Unit {0})) → IsKnown found p → number_of (blended p (unwrap_or found 0) (put_of w q)) ≡ word → LiesIn pages w → new ≡ passed p.len w → done ≡ over_of new → Turns (putting_by found key (pieces_of pages w) (put_of w q)) (Some (access.Store p.place word)) done (Left new)
-  puts_on found word new done known e lies en ed =
+  pub puts_on : (found : Option ℕ) (word : ℕ) (new : Way) (over : Option (Unit {0})) → IsKnown found p → number_of (blended p (unwrap_or found 0) (put_of w q)) ≡ word → LiesIn pages w → new ≡ passed p.len w → over ≡ over_of new → (s : Pcm) → s.queue ≡ q → PutsOn pages (record { key = key; way = w; found = found }) s (Some (access.Store p.place word)) over (record { key = key; way = new; found = None })
+  puts_on found word new over known e lies en ed s es =
       let within : p.len ≤ w.more = f.within in
-      let P : Option (Unit {0}) → Way → Type 0 = λ d x. Turns (putting_by found key (pieces_of pages w) (put_of w q)) (Some (access.Store p.place word)) d (Left x) in
+      let old : Putting = record { key = key; way = w; found = found } in
+      let P : Option (Unit {0}) → Way → Type 0 = λ d x. PutsOn pages old s (Some (access.Store p.place word)) d (record { key = key; way = x; found = None }) in
+      let T : List ℕ → Type 0 = λ xs. Turns (putting_by found key (pieces_of pages w) (put_of w xs)) (Some (access.Store p.place word)) (over_of (passed p.len w)) (putting key (pieces_of pages (passed p.len w)) (put_of (passed p.len w) xs)) in
       subst (λ d. P d new) (sym (ed ∙ ap over_of en))
-      (subst (P (over_of (passed p.len w))) (sym en) (turns_by found word known e ((passed p.len w).more == 0) refl (omega arith)))
+      (subst (P (over_of (passed p.len w))) (sym en)
+      (record {
+        turns = subst T (sym es) (turns_by found word known e ((passed p.len w).more == 0) refl (omega arith));
+        key = refl;
+        goes = record { first = refl; end = omega arith; over = refl };
+      }))
 
   pub may_put : (may : Want → Type 0) (found : Option ℕ) (word : ℕ) → IsKnown found p → number_of (blended p (unwrap_or found 0) (put_of w q)) ≡ word → MayGo may (putting_by found key (pieces_of pages w) (put_of w q)) → may (Store p.place word)
   may_put may found word known e h = may_from may _ (Store p.place word) (Puts key p.index) _ (store_next found word known e) h

@@ -70,5 +70,8 @@ takes_on pages key w new was is p word done b lies f en es ed =
     let whole : P (passed p.len w) grown (over_of (passed p.len w)) = record {
       turns = subst T (sym g) (turns_by pages key w p word (taken_of w was.queue) f ((passed p.len w).more == 0) refl (omega arith));
       stays = ap (λ (q : List ℕ). record was { queue = q }) (before_same w was.queue part p.len b n);
+      key = refl;
+      goes = record { first = refl; end = omega arith; over = refl };
+      grows = omega (arith, length-append was.queue part);
     } in
     subst (λ x. P x is done) (sym en) (subst (λ s. P (passed p.len w) s done) (sym es) (subst (λ d. P (passed p.len w) grown d) (sym done_is) whole))

@@ -9,3 +9,6 @@ mod write;
 pub use laws::{puts_exactly, takes_exactly};
 pub use read::ReadMove;
 pub use write::WriteMove;
+
+#[cfg(test)]
+mod tests;

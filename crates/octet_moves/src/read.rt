@@ -3,7 +3,7 @@
 ghost use Rattle.std.specs.Prelude.{◌≡◌, ◌+◌, ◌<◌, ◌≤◌, ◌^◌, IfSome, length, take, drop, None};
 ghost use Rattle.pv_words.specs.Plan.{MayGo, Makes};
 ghost use Rattle.octet_moves.specs.Moving.{read_left};
-ghost use Rattle.octet_moves.specs.Span.{LiesIn, begun, moved};
+ghost use Rattle.octet_moves.specs.Span.{LiesIn, begun};
 ghost use Rattle.octet_moves.specs.Steps.{IsInPages, PutsOn};
 
 use crate::span::Span;
@@ -11,6 +11,9 @@ use octet_window::{Piece, blend};
 use pcm_stream::Stream;
 use pv_words::{Access, PageList, Turn, Words};
 use std::marker::Model;
+
+// How many octets a word has.
+const WORD_OCTETS: u8 = 4;
 
 /// The Move of a READ, and how far it has come.
 #[derive(Drop)]
@@ -64,14 +67,14 @@ impl ReadMove {
     pub fn step<P: PageList, W: Words>(&mut self, pages: &P, stream: &Stream, words: &mut W) -> Turn<()>
         requires going { 0 < self.old.way.more }
         requires lies { LiesIn (P.holds pages.now) self.old.way }
-        requires queued { moved self.old.way + self.old.way.more ≤ length stream.now.queue }
+        requires queued { self.old.way.next + self.old.way.more ≤ self.old.way.first + length stream.now.queue }
         requires may { MayGo (W.may words.old) (read_left (P.holds pages.now) self.old stream.now.queue) }
         ensures puts { PutsOn (P.holds pages.now) self.old stream.now result.access result.done self.new }
         ensures made { Makes W.makes words.old result.access words.new }
         ensures inside { IfSome result.access (IsInPages (P.holds pages.now)) }
     {
         let piece = self.span.piece(pages);
-        if piece.len < 4 && self.found.is_none() {
+        if piece.len < WORD_OCTETS && self.found.is_none() {
             let word = words.load(piece.place);
             self.found = Some(word);
             return Turn {

@@ -1,5 +1,5 @@
 -- The next piece of a range.
-use Rattle.std.proofs.Common.{◌≡◌, ℕ, ◌+◌, ◌-◌, ◌*◌, ◌/◌, ◌%◌, ◌<◌, ◌≤◌, min, List, [], ◌∷◌, length, refl, sym, ◌∙◌, subst, arith}
+use Rattle.std.proofs.Common.{◌≡◌, ℕ, ◌+◌, ◌-◌, ◌/◌, ◌%◌, ◌<◌, ◌≤◌, min, List, [], ◌∷◌, refl, sym, ◌∙◌, subst, arith}
 use Rattle.pv_words.specs.declared.grant.Hold.{Hold}
 use Rattle.octet_window.specs.declared.piece.Piece.{Piece}
 use Rattle.octet_window.specs.Laws.{IsInPages}

@@ -1,12 +1,10 @@
 -- What a step of a READ puts.
-use Rattle.std.proofs.Common.{◌≡◌, ℕ, zero, suc, ◌+◌, ◌-◌, ◌==◌, ◌<◌, ◌≤◌, List, [], ◌∷◌, ◌++◌, Bool, true, false, Option, Some, None, cond, length, take, drop, refl, sym, ◌∙◌, ap, subst, eq-eqb, arith}
-use Rattle.std.proofs.lemmas.Bool.Decides.{nat_tests}
+use Rattle.std.proofs.Common.{◌≡◌, ℕ, ◌+◌, ◌-◌, ◌==◌, ◌<◌, ◌≤◌, List, ◌++◌, Bool, true, false, Option, Some, None, cond, take, drop, refl, sym, ◌∙◌, ap, subst, eq-eqb, arith}
 use Rattle.std.specs.Option.{is_some, unwrap_or}
 use Rattle.std.proofs.lemmas.Bool.{eqb-true, false≢true}
-use Rattle.pv_words.specs.declared.access.Access.{Access}
 use Rattle.pv_words.specs.declared.access.Access.TheVariants as access
 use Rattle.pv_words.specs.declared.grant.Hold.{Hold}
-use Rattle.pv_words.specs.Plan.{Plan, Finished, Make, Store, Puts, Turns, IsUnfinished, MayGo, Want}
+use Rattle.pv_words.specs.Plan.{Plan, Make, Store, Puts, Turns, IsUnfinished, MayGo, Want}
 use Rattle.pv_words.proofs.Plans.{goes_from, may_from}
 use Rattle.octet_window.specs.declared.piece.Piece.{Piece}
 use Rattle.octet_window.specs.Octets.{number_of, octets_of}

@@ -1,6 +1,6 @@
 -- Whatever words the Move of a READ finds.
-use Rattle.std.proofs.Common.{◌≡◌, ◌⊎◌, ℕ, zero, suc, ◌+◌, ◌-◌, ◌*◌, ◌/◌, ◌%◌, ◌<◌, ◌≤◌, ◌==◌, Bool, true, false, List, [], ◌∷◌, ◌++◌, length, take, drop, map, Some, slice_get, refl, sym, ◌∙◌, ap, subst, append-nil, append_assoc, arith, inl, inr}
-use Rattle.std.specs.List.{AllByRecursion, flat_map, range_with_len}
+use Rattle.std.proofs.Common.{◌≡◌, ◌⊎◌, ℕ, zero, suc, ◌+◌, ◌*◌, ◌/◌, ◌%◌, ◌<◌, ◌≤◌, ◌==◌, Bool, true, false, List, [], ◌∷◌, ◌++◌, length, take, drop, map, Some, slice_get, refl, sym, ◌∙◌, ap, append-nil, append_assoc, arith, inl, inr}
+use Rattle.std.specs.List.{AllByRecursion, flat_map}
 use Rattle.std.proofs.lemmas.List.{length-append, length-take, length-drop}
 use Rattle.std.proofs.lemmas.List.FromFn.{length-range_with_len}
 use Rattle.pv_words.specs.declared.grant.Hold.{Hold}
@@ -8,7 +8,7 @@ use Rattle.pv_words.specs.Held.{kept}
 use Rattle.pv_words.specs.Plan.{Plan, Want, Note, FitsFrom}
 use Rattle.device_core.specs.Learned.{Learned, learning}
 use Rattle.device_core.specs.Names.{cells_of}
-use Rattle.device_core.specs.Touched.{Carried, Touch, Took, Put, carrying}
+use Rattle.device_core.specs.Touched.{Carried, Took, Put, carrying}
 use Rattle.octet_window.specs.declared.piece.Piece.{Piece}
 use Rattle.octet_window.specs.Laws.{AreBlended, BlendsRange, CoversRange, IsInPages, LiesInPages}
 use Rattle.octet_window.specs.Octets.{number_of, octets_of, words_of}
@@ -18,7 +18,7 @@ use Rattle.octet_window.specs.Pieces.{octets_at, piece_of, pieces_in}
 use Rattle.picture_scan.specs.Laws.{HasHeld, IsTaking}
 use Rattle.picture_scan.proofs.Cells.{AreCells, words_cells}
 use Rattle.octet_moves.specs.Laws.{AreOctets, HasPut, IsPutting, PutsExactly, all_put, put_over}
-use Rattle.octet_moves.specs.Moving.{blends, putting, stores}
+use Rattle.octet_moves.specs.Moving.{blends, putting}
 
 -- lists of octets
 all_append : (xs ys : List ℕ) → AreOctets xs → AreOctets ys → AreOctets (xs ++ ys)

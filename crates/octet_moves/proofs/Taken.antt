@@ -1,12 +1,11 @@
 -- What a step of a WRITE takes.
-use Rattle.std.proofs.Common.{◌≡◌, ℕ, zero, suc, ◌+◌, ◌-◌, ◌==◌, ◌<◌, ◌≤◌, List, [], ◌∷◌, ◌++◌, Bool, true, false, Option, Some, None, cond, length, take, drop, refl, sym, ◌∙◌, ap, subst, arith}
+use Rattle.std.proofs.Common.{◌≡◌, ℕ, ◌+◌, ◌-◌, ◌==◌, ◌<◌, ◌≤◌, List, [], ◌++◌, Bool, true, false, Option, Some, None, cond, length, drop, refl, sym, ◌∙◌, ap, subst, arith}
 use Rattle.std.proofs.lemmas.List.{length-append, length-take, length-drop}
 use Rattle.std.proofs.lemmas.Bool.{eqb-true}
 use Rattle.std.proofs.lemmas.Bool.Decides.{nat_tests}
-use Rattle.pv_words.specs.declared.access.Access.{Access}
 use Rattle.pv_words.specs.declared.access.Access.TheVariants as access
 use Rattle.pv_words.specs.declared.grant.Hold.{Hold}
-use Rattle.pv_words.specs.Plan.{Plan, Finished, Make, Load, Takes, Turns, IsUnfinished}
+use Rattle.pv_words.specs.Plan.{Make, Load, Takes, Turns, IsUnfinished}
 use Rattle.pv_words.proofs.Plans.{goes_from}
 use Rattle.octet_window.specs.declared.piece.Piece.{Piece}
 use Rattle.octet_window.specs.Octets.{octets_of}
@@ -16,7 +15,7 @@ use Rattle.octet_window.proofs.Walks.{pieces_none}
 use Rattle.pcm_stream.specs.Stream.{Pcm}
 use Rattle.octet_moves.specs.Moving.{taking}
 use Rattle.octet_moves.specs.Span.{LiesIn, Taking, Way, before, moved, over_of, passed, pieces_of, taken_of}
-use Rattle.octet_moves.specs.Steps.{TakesOn, taken_by, without_taken}
+use Rattle.octet_moves.specs.Steps.{TakesOn, taken_by}
 use Rattle.octet_moves.proofs.Lists.{behind_grows, before_stays}
 use Rattle.octet_moves.proofs.Pieces.{IsFirst, first_is}
 

@@ -1,14 +1,13 @@
 -- Whatever words the Move of a WRITE finds.
-use Rattle.std.proofs.Common.{◌≡◌, ℕ, ◌+◌, ◌*◌, ◌≤◌, List, [], ◌∷◌, ◌++◌, length, map, Some, slice_get, refl, sym, ◌∙◌, ap, subst, append-nil, append_assoc, arith}
-use Rattle.std.specs.List.{AllByRecursion}
+use Rattle.std.proofs.Common.{◌≡◌, ℕ, List, [], ◌∷◌, ◌++◌, length, map, refl, sym, ◌∙◌, ap, subst, append-nil, append_assoc, arith}
 use Rattle.pv_words.specs.declared.grant.Hold.{Hold}
 use Rattle.pv_words.specs.Held.{kept}
 use Rattle.pv_words.specs.Plan.{Want, Note, FitsFrom}
 use Rattle.device_core.specs.Learned.{Learned, learning}
-use Rattle.device_core.specs.Touched.{Carried, Touch, Took, carrying}
+use Rattle.device_core.specs.Touched.{Carried, Took, carrying}
 use Rattle.octet_window.specs.declared.piece.Piece.{Piece}
 use Rattle.octet_window.specs.Laws.{JoinsRange, joined}
-use Rattle.octet_window.specs.Octets.{octets_in, words_of}
+use Rattle.octet_window.specs.Octets.{words_of}
 use Rattle.octet_window.specs.Pages.{word_place}
 use Rattle.octet_window.specs.Parts.{part_of}
 use Rattle.octet_window.specs.Pieces.{piece_of, pieces_in}
@@ -30,8 +29,8 @@ module _ (frames : ℕ → ℕ) (pages held : List Hold) (key first count : ℕ)
   takes_fit Q (i ∷ is) octets k all has more = (
     (has, record { index = i; at = word_place pages i; loads = refl; takes = refl; is = all.0 }),
     λ v. takes_fit Q is (octets ++ part_of (piece_of pages first count i) v) _ all.1 (ap kept has)
-    (λ vs j n h t. subst (Q j) (sym (append_assoc octets (part_of (piece_of pages first count i) v) (joined (pieces is) vs)))
-    (more (v ∷ vs) j (omega (arith, n)) h (t ∙ append_assoc k.touched (Took (record { number = key; index = i; word = v }) ∷ []) (taken key is vs)))),
+        (λ vs j n h t. subst (Q j) (sym (append_assoc octets (part_of (piece_of pages first count i) v) (joined (pieces is) vs)))
+        (more (v ∷ vs) j (omega (arith, n)) h (t ∙ append_assoc k.touched (Took (record { number = key; index = i; word = v }) ∷ []) (taken key is vs)))),
   )
 
 pub takes_exactly : JoinsRange → TakesExactly

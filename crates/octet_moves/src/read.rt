@@ -64,7 +64,12 @@ impl ReadMove {
     /// Makes the next access: for each word that has an octet of the range, in order, a store where all its octets lie in the range, else
     /// a load, and then a store of the word that was found with just the octets of the range replaced. Done is, with the last of them,
     /// that all octets are put; the queue still has them. The pages are those of the stream's buffer, the same at each step.
-    pub fn step<P: PageList, W: Words>(&mut self, pages: &P, stream: &Stream, words: &mut W) -> Turn<()>
+    pub fn step<P: PageList, W: Words>(
+        &mut self,
+        pages: &P,
+        stream: &Stream,
+        words: &mut W,
+    ) -> Turn<()>
         requires going { 0 < self.old.way.more }
         requires lies { LiesIn (P.holds pages.now) self.old.way }
         requires queued { self.old.way.next + self.old.way.more ≤ self.old.way.first + length stream.now.queue }

@@ -101,7 +101,13 @@ impl PageList for Pages {
 }
 
 // Whether a WRITE comes to its end: its octets are then the last of the queue.
-fn is_written(pages: &Pages, memory: &mut Memory, stream: &mut Stream, first: u32, count: u32) -> bool
+fn is_written(
+    pages: &Pages,
+    memory: &mut Memory,
+    stream: &mut Stream,
+    first: u32,
+    count: u32,
+) -> bool
     requires some { 0 < count }
     requires small { first + count ≤ 33554432 }
     requires lies { first + count ≤ 4096 * length pages.now.holds.items }

@@ -63,7 +63,12 @@ impl WriteMove {
     /// Loads the next word that has an octet of the range, and appends its octets of the range to the queue. Done, with the last of
     /// them, are the octets of the range, which are then the last of the queue. The pages are those of the stream's buffer, the same
     /// at each step.
-    pub fn step<P: PageList, W: Words>(&mut self, pages: &P, stream: &mut Stream, words: &mut W) -> Turn<()>
+    pub fn step<P: PageList, W: Words>(
+        &mut self,
+        pages: &P,
+        stream: &mut Stream,
+        words: &mut W,
+    ) -> Turn<()>
         requires going { 0 < self.old.way.more }
         requires lies { LiesIn (P.holds pages.now) self.old.way }
         requires room { self.old.way.more ≤ room stream.old }

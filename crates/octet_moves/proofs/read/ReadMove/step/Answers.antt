@@ -1,11 +1,11 @@
-use Rattle.std.proofs.Common.{◌≡◌, ℕ, Some, None, take, drop, refl, sym, ◌∙◌, ap, subst, arith}
+use Rattle.std.proofs.Common.{◌≡◌, Some, None, take, drop, refl, sym, ◌∙◌, ap, subst, arith}
 use Rattle.std.specs.Option.{unwrap_or}
 use Rattle.pv_words.specs.declared.access.Access.TheVariants as access
 use Rattle.pv_words.specs.Plan.{MayGo}
-use Rattle.octet_window.specs.Octets.{number_of, octets_of}
+use Rattle.octet_window.specs.Octets.{octets_of}
 use Rattle.octet_window.specs.Parts.{blended}
 use Rattle.octet_moves.specs.Moving.{read_left}
-use Rattle.octet_moves.specs.Span.{LiesIn, Putting, moved, put_of}
+use Rattle.octet_moves.specs.Span.{LiesIn, Putting, moved}
 use Rattle.octet_moves.specs.Steps.{PutsOn}
 use Rattle.octet_moves.proofs.Pieces.{IsFirst}
 use Rattle.octet_moves.proofs.Put.{IsKnown, known_some, known_whole, may_put, puts_on, word_is}

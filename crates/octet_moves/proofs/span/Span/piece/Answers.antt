@@ -1,4 +1,4 @@
-use Rattle.std.proofs.Common.{◌≡◌, ◌+◌, ◌<◌, ◌≤◌, ◌^◌, sym, ◌∙◌, ap, subst}
+use Rattle.std.proofs.Common.{◌+◌, ◌<◌, ◌≤◌, ◌^◌, sym, ◌∙◌, ap, subst}
 use Rattle.octet_window.specs.Pieces.{pieces_in}
 use Rattle.octet_moves.specs.Span.{Way, pieces_of}
 use Rattle.octet_moves.proofs.Pieces.{first_of, not_over}

@@ -1,4 +1,4 @@
-use Rattle.std.proofs.Common.{◌≡◌, Some, sym, subst}
+use Rattle.std.proofs.Common.{Some, sym, subst}
 use Rattle.pv_words.specs.declared.access.Access.TheVariants as access
 use Rattle.octet_moves.specs.Span.{LiesIn, Taking}
 use Rattle.octet_moves.specs.Steps.{TakesOn}

@@ -8,7 +8,7 @@ use Rattle.device_core.specs.Names.{is_worded}
 use Rattle.device_core.specs.Order.{Rules}
 use Rattle.device_core.specs.Touched.{Carried, Touch, carrying, touch_of}
 
-none_touched : (note : Note) (a : Access) → IsUntouched note → touch_of note a ≡ []
+pub none_touched : (note : Note) (a : Access) → IsUntouched note → touch_of note a ≡ []
 none_touched Plain a u = refl
 none_touched (Begins g) a u = refl
 none_touched (Frames g) a u = refl

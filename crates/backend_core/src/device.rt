@@ -40,7 +40,12 @@ fn sound_with(alloc: Global, dev: DevId, dom: DomId, streams: Streams) -> Result
     match streams {
         Streams::One(first) => Sound::new(alloc, dev, dom, &[first]),
         Streams::Two(first, second) => Sound::new(alloc, dev, dom, &[first, second]),
-        Streams::Three(first, second, third) => Sound::new(alloc, dev, dom, &[first, second, third]),
+        Streams::Three(first, second, third) => Sound::new(
+            alloc,
+            dev,
+            dom,
+            &[first, second, third],
+        ),
         Streams::Four(first, second, third, fourth) => {
             Sound::new(alloc, dev, dom, &[first, second, third, fourth])
         }

@@ -16,7 +16,7 @@ use Rattle.device_service.specs.Rows.{Event, Rows, Says, Hears, Begins, made_if,
 use Rattle.device_service.proofs.Lists.{get_set, get_set_other}
 use Rattle.display_backend.specs.declared.waiting.Waiting.{Waiting}
 use Rattle.display_backend.specs.Service.{Lines, makes_for, table}
-use Rattle.display_backend.specs.Verdict.{is_accepted}
+use Rattle.page_directory.specs.Progress.{is_accepted}
 use Rattle.backend_core.specs.Drawn.{Drawing, Came, Wrote, Sheet, TakesLast, came_by, came_if, creates, drawings_next, no_sheet, sheet_next, word_at}
 use Rattle.backend_core.specs.Nature.{display_nature, first_snapshot, machine}
 use Rattle.backend_core.specs.Pictures.{Past, event_after, past_next}

@@ -28,8 +28,9 @@ use Rattle.display_backend.specs.declared.waiting.Waiting.TheVariants as waiting
 use Rattle.display_backend.specs.Picture.{AreShown, number_under, source_at, source_by, source_in, source_of}
 use Rattle.display_backend.specs.Scene.{LiesInLive, Scene, after_blank_at, connector_at, live_among}
 use Rattle.display_backend.specs.Service.{Lines, Serves, Tells, replied_for, table}
-use Rattle.display_backend.specs.Verdict.{IsStatus, is_accepted, verdict}
-use Rattle.display_backend.proofs.Numbered.{accepted_is}
+use Rattle.display_backend.specs.Verdict.{IsStatus, verdict}
+use Rattle.page_directory.specs.Progress.{is_accepted}
+use Rattle.page_directory.proofs.Ready.{accepted_is}
 use Rattle.display_backend.proofs.Scenes.{connector_sound}
 use Rattle.backend_core.specs.Nature.{display_nature, first_snapshot, machine}
 use Rattle.backend_core.specs.Flips.{FlipsKeepOrder}

@@ -12,10 +12,10 @@ use Rattle.page_directory.specs.declared.walk.Walked.{Walked}
 use Rattle.page_directory.specs.declared.walk.Walked.TheVariants as walked
 use Rattle.page_directory.specs.Walking as walking
 use Rattle.page_directory.specs.Walking.{walk_plan}
-use Rattle.page_directory.specs.WalkLeft.{dom_of, walk_left}
+use Rattle.page_directory.specs.WalkLeft.{dom_of}
 use Rattle.device_core.specs.Site.{Site}
-use Rattle.device_service.specs.Claims.{site_of}
-use Rattle.device_service.specs.Operating.{Begins, Comes, Continues, Serves}
+use Rattle.device_service.specs.Mapping.{walk_over}
+use Rattle.device_service.specs.Operating.{Begins, Comes, Continues, Serves, site_over}
 use Rattle.device_service.specs.Service.{Runs}
 use Rattle.device_service.specs.declared.deed.Deed.{Deed}
 use Rattle.display_backend.specs.declared.service.Service.{Service}
@@ -66,18 +66,11 @@ module _ (site : Site) (old : Service) where
       Continues display (known_of old) (left_of site old) deed.access deed.now deed.said (known_of new) (left_of site new)
 
 module _ {W : Type 0} (m : Words W) (words : W) where
-  -- a device of this domain, of so many parts, by the numbers of frames and grant entries that these words have
-  abbrev pub site_over : (dom parts : ℕ) → Site
-  site_over dom parts = site_of (m.frames_of words) (m.grants_of words) dom parts
-
-  -- the walk of a CREATE, and what is left of a walk
+  -- the walk of a CREATE
   abbrev pub create_walk : ℕ → Create → Plan Walked
   create_walk dom c =
       walk_plan (m.frames_of words dom) (m.grants_of words dom) dom c.gref_directory Read (walking.pages_of c.buffer_sz)
 
-  abbrev pub walk_over : Walk → Plan Walked
-  walk_over walk = walk_left (m.frames_of words (dom_of walk)) (m.grants_of words (dom_of walk)) walk
-
   -- the next step of a walk, however many parts the device has
   abbrev pub WalksOn : Service → Walk → Deed → Service → Type 0
-  WalksOn old walk deed new = (parts : ℕ) → ComesBy (site_over (dom_of walk) parts) old (walk_over walk) deed new
+  WalksOn old walk deed new = (parts : ℕ) → ComesBy (site_over m words (dom_of walk) parts) old (walk_over m words walk) deed new

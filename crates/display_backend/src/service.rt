@@ -9,7 +9,7 @@ ghost use Rattle.display_backend.specs.CourseFacts.{stands_prop};
 ghost use Rattle.display_buffers.specs.Stock.{pages_of};
 ghost use Rattle.display_buffers.specs.Store.{stock_of, count_of};
 
-use crate::course::{Course, Progress};
+use crate::course::Course;
 use crate::picture::{Reading, scan_at};
 use crate::scene::Scene;
 use crate::verdict::{answered, status_at, verdict_on};
@@ -17,7 +17,7 @@ use crate::waiting::{Waiting, said_of, waiting_of};
 use device_service::{Deed, Now, Serve};
 use displ_wire::{Asked, Create, Request, decode, encode_reply};
 use display_buffers::Store;
-use page_directory::{Walk, Walked};
+use page_directory::{Progress, Walk, Walked};
 use picture_scan::Scan;
 use pv_words::{Access, DomId, GrantRef, Hold, HostEvent, Mode, Said, Words};
 use std::alloc::{AllocError, Global};
@@ -53,12 +53,14 @@ impl Service {
     ghost use Rattle.display_backend.specs.Course.{IsReading, scan_left};
     ghost use Rattle.display_backend.specs.Over.{ReadsFor, ReadsOn, ShowsFor};
     ghost use Rattle.display_backend.specs.Service.{event_for};
-    ghost use Rattle.display_backend.specs.declared.course.Progress.TheVariants as progress;
+    ghost use Rattle.page_directory.specs.declared.progress.Progress.TheVariants as progress;
     ghost use Rattle.display_backend.specs.declared.course.Course.TheVariants as course;
     ghost use Rattle.display_backend.specs.Course.{HasCreate};
     ghost use Rattle.display_backend.specs.Known.{known_of, going_of, left_of, is_of, held_of};
     ghost use Rattle.display_backend.specs.Over.{BeginsCreate, GoesOn, HasCreateFor, HasCreateOf};
-    ghost use Rattle.display_backend.specs.Over.{WalksOn, create_walk, site_over, walk_over};
+    ghost use Rattle.display_backend.specs.Over.{WalksOn, create_walk};
+    ghost use Rattle.device_service.specs.Operating.{site_over};
+    ghost use Rattle.device_service.specs.Mapping.{walk_over};
     ghost use Rattle.display_backend.specs.Service.{Freed, Listed, after_walk, nothing_known, says_at};
     ghost use Rattle.display_buffers.specs.Stock.{pages_under};
 

@@ -9,10 +9,10 @@ use Rattle.pcm_stream.specs.Queue.{queue_for}
 use Rattle.pcm_stream.specs.Stream.{Pcm}
 use Rattle.page_directory.specs.declared.walk.Walk.{Walk}
 use Rattle.page_directory.specs.declared.walk.Walked.{Walked}
-use Rattle.page_directory.specs.WalkLeft.{dom_of, walk_left}
+use Rattle.page_directory.specs.WalkLeft.{dom_of}
 use Rattle.device_core.specs.Site.{Site}
-use Rattle.device_service.specs.Claims.{site_of}
-use Rattle.device_service.specs.Operating.{Begins, Comes, Continues}
+use Rattle.device_service.specs.Mapping.{walk_over}
+use Rattle.device_service.specs.Operating.{Begins, Comes, Continues, site_over}
 use Rattle.device_service.specs.declared.deed.Deed.{Deed}
 use Rattle.sound_backend.specs.declared.course.Demand.{Demand}
 use Rattle.sound_backend.specs.declared.service.Service.{Service}
@@ -41,17 +41,10 @@ module _ (site : Site) (old : Service) where
       Continues sound (known_of old) (left_of site old) deed.access deed.now deed.said (known_of new) (left_of site new)
 
 module _ {W : Type 0} (m : Words W) (words : W) where
-  -- a device of this domain, of so many parts, by the numbers of frames and grant entries that these words have
-  abbrev pub site_over : (dom parts : ℕ) → Site
-  site_over dom parts = site_of (m.frames_of words) (m.grants_of words) dom parts
-
-  -- the walk of an OPEN, and what is left of a walk
+  -- the walk of an OPEN
   abbrev pub walk_for : ℕ → List Pcm → ℕ → Params → Plan Walked
-  walk_for dom streams part p = open_walk (site_over dom 0) streams part p
-
-  abbrev pub walk_over : Walk → Plan Walked
-  walk_over walk = walk_left (m.frames_of words (dom_of walk)) (m.grants_of words (dom_of walk)) walk
+  walk_for dom streams part p = open_walk (site_over m words dom 0) streams part p
 
   -- the next step of a walk, however many parts the device has
   abbrev pub WalksOn : Service → Walk → Deed → Service → Type 0
-  WalksOn old walk deed new = (parts : ℕ) → ComesBy (site_over (dom_of walk) parts) old (walk_over walk) deed new
+  WalksOn old walk deed new = (parts : ℕ) → ComesBy (site_over m words (dom_of walk) parts) old (walk_over m words walk) deed new

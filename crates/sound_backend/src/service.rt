@@ -6,12 +6,11 @@ ghost use Rattle.sound_backend.specs.Course.{Stands, pages_walked};
 ghost use Rattle.sound_backend.specs.CourseFacts.{stands_prop};
 ghost use Rattle.sound_backend.specs.Store.{queue_of, stock_of};
 
-use crate::course::{Course, Demand, Progress};
+use crate::course::{Course, Demand};
 use crate::store::Store;
-use crate::verdict::{EACCES, ENOMEM};
 use crate::waiting::{Waiting, waiting_of};
 use device_service::{Deed, Now, Serve};
-use page_directory::{Walk, Walked};
+use page_directory::{Progress, Walk, Walked};
 use pv_words::{Access, DomId, GrantRef, Hold, HostEvent, Said, StreamKind, Words};
 use snd_wire::{Asked, Params, decode, encode_reply};
 use std::alloc::{AllocError, Global};
@@ -45,13 +44,17 @@ impl Service {
     ghost use Rattle.device_service.specs.Service.{IsFresh};
     ghost use Rattle.snd_wire.specs.declared.types.Asked.TheVariants as asked;
     ghost use Rattle.sound_backend.specs.declared.course.Course.TheVariants as course;
-    ghost use Rattle.sound_backend.specs.declared.course.Progress.TheVariants as progress;
+    ghost use Rattle.page_directory.specs.declared.progress.Progress.TheVariants as progress;
     ghost use Rattle.sound_backend.specs.Course.{HasOpen};
     ghost use Rattle.sound_backend.specs.Held.{list_at};
     ghost use Rattle.sound_backend.specs.Known.{known_of, going_of, left_of, is_of, held_of};
-    ghost use Rattle.sound_backend.specs.Over.{BeginsOpen, GoesOn, OpensBy, WalksOn, site_over, walk_for, walk_over};
-    ghost use Rattle.sound_backend.specs.Service.{Freed, after_walk, denied_by, first_known, sound};
-    ghost use Rattle.sound_backend.specs.Verdict.{status_in, verdict};
+    ghost use Rattle.sound_backend.specs.Over.{BeginsOpen, GoesOn, OpensBy, WalksOn, walk_for};
+    ghost use Rattle.device_service.specs.Operating.{site_over};
+    ghost use Rattle.device_service.specs.Mapping.{walk_over};
+    ghost use Rattle.sound_backend.specs.Service.{Freed, after_walk, first_known, sound};
+    ghost use Rattle.device_service.specs.Mapping.{denied_by};
+    ghost use Rattle.sound_backend.specs.Verdict.{verdict};
+    ghost use Rattle.page_directory.specs.Progress.{status_in};
 
     /// The service of a sound device with streams of these kinds that isn't connected.
     pub fn new(alloc: Global, kinds: &[StreamKind]) -> Result<Service, AllocError>
@@ -94,11 +97,7 @@ impl Service {
     fn status_of(&self, demand: &Demand) -> i32
         ensures { result ≡ status_in self.now.progress (verdict (stock_of self.now.store).streams demand.now) }
     {
-        match self.progress {
-            Progress::NoMemory => ENOMEM,
-            Progress::Denied => EACCES,
-            Progress::Decided | Progress::Mapped | Progress::Released => self.verdict_on(demand),
-        }
+        self.progress.status(self.verdict_on(demand))
     }
 
     // The first access of the walk of an OPEN, where memory isn't wanting for its queue and the list of its pages.

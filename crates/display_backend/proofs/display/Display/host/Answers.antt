@@ -1,6 +1,7 @@
 use Rattle.std.proofs.Common.{sym, ◌∙◌}
 use Rattle.display_backend.specs.Display.{parts_of}
-use Rattle.display_backend.proofs.Hosts.{refuses_same, waits_for}
+use Rattle.device_service.proofs.Hearing.{refuses_same}
+use Rattle.display_backend.proofs.Hosts.{waits_for}
 use Rattle.display_backend.proofs.display.Display.host.Goals as goal
 
 pub host-requires : goal.host-requires

@@ -1,6 +1,7 @@
 use Rattle.std.proofs.Common.{sym, ◌∙◌}
 use Rattle.sound_backend.specs.Sound.{parts_of}
-use Rattle.sound_backend.proofs.Hosts.{refuses_same, waits_for}
+use Rattle.device_service.proofs.Hearing.{refuses_same}
+use Rattle.sound_backend.proofs.Hosts.{waits_for}
 use Rattle.sound_backend.proofs.sound.Sound.host.Goals as goal
 
 pub host-requires : goal.host-requires

@@ -1,0 +1,19 @@
+-- What a service tells of a walk, and what is left of one over words, whose members a clause names all together by `W.Words`.
+use Rattle.std.specs.Prelude.{Option, Some, None}
+use Rattle.pv_words.specs.declared.device.Said.{Said}
+use Rattle.pv_words.specs.declared.device.Said.TheVariants as said
+use Rattle.pv_words.specs.declared.words.Words.{Ghosts as Words}
+use Rattle.pv_words.specs.Plan.{Plan}
+use Rattle.page_directory.specs.declared.walk.Walk.{Walk}
+use Rattle.page_directory.specs.declared.walk.Walked.{Walked}
+use Rattle.page_directory.specs.declared.walk.Walked.TheVariants as walked
+use Rattle.page_directory.specs.WalkLeft.{dom_of, walk_left}
+
+-- the page that was denied, where a walk was refused
+abbrev pub denied_by : Walked → Option Said
+denied_by (walked.Pages pages) = None
+denied_by (walked.Refused why) = Some (said.Denied why)
+
+-- what is left of a walk over these words
+abbrev pub walk_over : {W : Type 0} → Words W → W → Walk → Plan Walked
+walk_over m words walk = walk_left (m.frames_of words (dom_of walk)) (m.grants_of words (dom_of walk)) walk

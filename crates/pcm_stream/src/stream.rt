@@ -157,6 +157,26 @@ impl Stream {
         self.owed = None;
     }
 
+    /// Whether the trigger of this number is met: not where the stream is closed (WrongState), nor of another number than
+    /// 0 to 3 (Invalid), nor where it leads nowhere from the state of the stream (WrongState).
+    pub fn can_trigger(&self, t: u8) -> Result<(), StreamRefusal>
+        ensures { result ≡ trigger_check self.now t }
+    {
+        if self.state == StreamState::Closed {
+            return Err(StreamRefusal::WrongState(self.state));
+        }
+        let Some(trigger) = Trigger::from_number(t) else {
+            return Err(StreamRefusal::Invalid);
+        };
+        match (trigger, self.state) {
+            (Trigger::Start, StreamState::Opened)
+            | (Trigger::Pause, StreamState::Running)
+            | (Trigger::Resume, StreamState::Paused)
+            | (Trigger::Stop, _) => Ok(()),
+            _ => Err(StreamRefusal::WrongState(self.state)),
+        }
+    }
+
     /// Starts (0), pauses (1), stops (2) or resumes (3) the stream: START takes Opened to Running, PAUSE takes Running to
     /// Paused, RESUME takes Paused to Running, and STOP takes each open state to Opened and empties the queue. Refused
     /// where the stream is closed (WrongState), for another number (Invalid), and in any other state (WrongState).

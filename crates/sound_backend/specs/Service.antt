@@ -1,5 +1,5 @@
 -- The sound device as a service of the order of work of every device.
-use Rattle.std.specs.Prelude.{◌≡◌, ℕ, ◌&&◌, nat_lt, ℤ, pos, Bool, true, false, List, [], length, map, replicate, Option, Some, None, if◌then◌else◌}
+use Rattle.std.specs.Prelude.{◌≡◌, ℕ, ◌%◌, ◌&&◌, nat_lt, ℤ, pos, Bool, true, false, List, [], length, map, replicate, Option, Some, None, if◌then◌else◌}
 use Rattle.pv_words.specs.declared.device.Said.{Said}
 use Rattle.pv_words.specs.declared.device.Said.TheVariants as said
 use Rattle.pv_words.specs.declared.device.StreamKind.{StreamKind}
@@ -9,13 +9,13 @@ use Rattle.pv_words.specs.Plan.{Finished, Plan, mapped}
 use Rattle.snd_wire.specs.declared.types.Asked.{Asked}
 use Rattle.snd_wire.specs.declared.types.Asked.TheVariants as asked
 use Rattle.snd_wire.specs.declared.types.Params.{Params}
-use Rattle.snd_wire.specs.Wire.{reply_words, request_of}
+use Rattle.snd_wire.specs.Wire.{event_words, reply_words, request_of}
 use Rattle.page_directory.specs.declared.walk.Walked.{Walked}
 use Rattle.page_directory.specs.declared.walk.Walked.TheVariants as walked
 use Rattle.page_directory.specs.Laws as walk
 use Rattle.page_directory.specs.Walking.{walk_plan}
 use Rattle.page_directory.specs.Walking as walking
-use Rattle.pcm_stream.specs.Stream.{Pcm, closed}
+use Rattle.pcm_stream.specs.Stream.{Pcm, closed, told}
 use Rattle.host_events.specs.Queue.{refusal_of}
 use Rattle.link_core.specs.Activities.{unmaps}
 use Rattle.device_core.specs.Names.{cells_of}
@@ -24,20 +24,21 @@ use Rattle.device_service.specs.Mapping.{denied_by}
 use Rattle.device_service.specs.Nodes.{Ringed}
 use Rattle.device_service.specs.Reading.{Shows}
 use Rattle.device_service.specs.Rows.{Table, Evidence}
-use Rattle.device_service.specs.Service.{Job, Works, Starves, Runs, Service}
+use Rattle.device_service.specs.Service.{Job, Works, Starves, Owed, Runs, Service}
 use Rattle.sound_backend.specs.declared.course.Demand.{Demand}
 use Rattle.page_directory.specs.declared.progress.Progress.{Progress}
 use Rattle.page_directory.specs.declared.progress.Progress.TheVariants as progress
+use Rattle.sound_backend.specs.declared.waiting.Due.{Due}
 use Rattle.sound_backend.specs.declared.waiting.Waiting.{Waiting}
 use Rattle.sound_backend.specs.declared.waiting.Waiting.TheVariants as waiting
 use Rattle.sound_backend.specs.Held.{list_at}
 use Rattle.sound_backend.specs.Names.{Numbered, live_names, names_under, number_under, numbered_after}
 use Rattle.device_service.specs.Named.{numbers}
-use Rattle.sound_backend.specs.Stock.{Stock, all_closed, bared, kinds_in, pages_of, stock_after, streams_after}
+use Rattle.sound_backend.specs.Stock.{Stock, all_closed, bared, changed, kinds_in, pages_of, raised, stock_after, streams_after, undue}
 use Rattle.sound_backend.specs.Stock as stock
 use Rattle.sound_backend.specs.Verdict.{IsStatus, answer_in, is_opening, mode_at, verdict}
 use Rattle.page_directory.specs.Progress.{is_accepted, is_denied, status_in, ready_at}
-use Rattle.sound_backend.specs.Waiting.{said_of, stock_ticked, streams_ticked, waiting_of}
+use Rattle.sound_backend.specs.Waiting.{due_ticked, said_of, stock_ticked, streams_ticked, waiting_of}
 
 -- the streams and the pages that are held; the request in hand, and how far it has come
 pub record Known : Type 0 where
@@ -120,6 +121,33 @@ answered_for x (Some d) =
       progress = progress.Decided;
     }
 
+-- the event that is due: none while a request is in hand
+abbrev pub due_for : Option Demand → Option Due → Option Due
+due_for None due = due
+due_for (Some d) due = None
+
+abbrev pub due_of : Known → Option Due
+due_of x = due_for x.demand x.stock.due
+
+abbrev pub not_due : Known → Known
+not_due x = record x { stock = undue x.stock }
+
+-- it is owed to the part of the tick, and tells the position after that
+abbrev pub pos_words : ℕ → ℕ → List ℕ
+pos_words position prod = event_words (prod % 65536) position
+
+abbrev pub owed_for : Option Due → Option Owed
+owed_for None = None
+owed_for (Some d) = Some (record { part = d.part; words = pos_words d.position })
+
+abbrev pub pos_said : Option Due → Said
+pos_said None = said.Full 0
+pos_said (Some d) = said.Pos d.part d.position
+
+-- it is put
+abbrev pub paid : Known → Known
+paid x = record x { stock = raised x.stock }
+
 abbrev pub demanding : ℕ → List ℕ → Demand
 demanding part words = record { part = part; request = request_of words }
 
@@ -140,8 +168,8 @@ sound =
       begun = λ x nodes. closed_known x;
       pages = λ x. pages_of x.stock;
       stripped = λ x. record x { stock = stock.stripped x.stock };
-      dropped = λ x. record x { demand = None; progress = progress.Decided };
-      taken = λ x part words. record x { demand = Some (demanding part words); progress = progress.Decided };
+      dropped = λ x. record { stock = undue x.stock; demand = None; progress = progress.Decided };
+      taken = λ x part words. record { stock = undue x.stock; demand = Some (demanding part words); progress = progress.Decided };
       ready = λ x. ready_for x x.demand;
       job = λ site x. job_for site x x.demand;
       reply = λ x. reply_for x x.demand;
@@ -149,21 +177,23 @@ sound =
       answered = λ x. answered_for x x.demand;
       at = part_of;
       event = λ x e. Runs (Finished (Served e));
-      owes = λ x. None;
-      put = λ x e. said.Full 0;
-      after_put = λ x e. x;
-      after_full = λ x e. x;
+      owes = λ x. owed_for (due_of x);
+      put = λ x e. pos_said (due_of x);
+      after_put = λ x e. paid x;
+      after_full = λ x e. not_due x;
       says = says_at;
       after = after_end;
       waits = waiting_of;
       refusal = λ b es e. refusal_of b es;
     }
 
--- the rows of a sound device: the streams, the request in hand, and whether a page was denied to it
+-- the rows of a sound device: the streams, the request in hand, whether a page was denied to it, and the event that is due directly
+-- after a tick
 pub record Lines : Type 0 where
   pub streams : List Pcm
   pub demand : Option Demand
   pub denied : Bool
+  pub due : Option Due
 
 -- A page is denied to an accepted OPEN, once.
 pub record IsDenied (site : Site) (old : Lines) (told : Evidence) (why : GrantRefusal) (new : Lines) : Type 0 where
@@ -180,9 +210,20 @@ abbrev pub Tells : Site → Lines → Evidence → Said → Lines → Type 0
 Tells site old told (said.Denied why) new = IsDenied site old told why new
 Tells site old told other new = ⊥
 
--- A tick is told with what it moves, and the stream goes on.
+-- A tick is told with what it moves, and the stream goes on; where a position is owed to it then, its event is due.
 abbrev pub Serves : Site → Lines → Waiting → Evidence → Said → Lines → Type 0
-Serves site old e told what new = (what ≡ said_of old.streams e) × (new ≡ record old { streams = streams_ticked old.streams e })
+Serves site old e told what new =
+    (what ≡ said_of old.streams e) × (new ≡ record old { streams = streams_ticked old.streams e; due = due_ticked old.streams e })
+
+-- The event that is due tells its position, which then isn't owed any more; or there is no room for it, and it stays owed.
+abbrev pub IsPaid : Lines → Due → Said → Lines → Type 0
+IsPaid old d (said.Pos part position) new =
+    (part ≡ d.part) × (position ≡ d.position) × (new ≡ record old { streams = changed told old.streams d.part; due = None })
+IsPaid old d (said.Full part) new = (part ≡ d.part) × (new ≡ record old { due = None })
+IsPaid old d other new = ⊥
+
+abbrev pub Pays : Site → Lines → Evidence → Said → Lines → Type 0
+Pays site old told what new = (d : Due) × (old.due ≡ Some d) × IsPaid old d what new
 
 abbrev pub IsAnswer : Lines → ℤ → Type 0
 IsAnswer y status = (d : Demand) × (y.demand ≡ Some d) × IsStatus y.denied y.streams d status
@@ -190,7 +231,7 @@ IsAnswer y status = (d : Demand) × (y.demand ≡ Some d) × IsStatus y.denied y
 abbrev pub replied_for : Lines → Option Demand → ℤ → Lines
 replied_for y None status = y
 replied_for y (Some d) status =
-    record { streams = streams_after y.streams d.part d.request.asked (is_accepted status); demand = None; denied = false }
+    record { streams = streams_after y.streams d.part d.request.asked (is_accepted status); demand = None; denied = false; due = y.due }
 
 abbrev pub makes_for : Option Demand → ℤ → Bool
 makes_for None status = false
@@ -200,12 +241,12 @@ abbrev pub table : Table Lines Waiting
 table =
     record {
       kind = Ringed;
-      begun = λ y nodes. record { streams = map closed (kinds_in y.streams); demand = None; denied = false };
-      taken = λ y part words. record y { demand = Some (demanding part words); denied = false };
-      dropped = λ y. record y { demand = None; denied = false };
+      begun = λ y nodes. record { streams = map closed (kinds_in y.streams); demand = None; denied = false; due = None };
+      taken = λ y part words. record { streams = y.streams; demand = Some (demanding part words); denied = false; due = None };
+      dropped = λ y. record { streams = y.streams; demand = None; denied = false; due = None };
       Tells = Tells;
       Serves = Serves;
-      Pays = λ site old told what new. ⊥;
+      Pays = Pays;
       IsStatus = IsAnswer;
       replied = λ y n status. replied_for y y.demand status;
       makes = λ y status. makes_for y.demand status;
@@ -233,7 +274,7 @@ goes_for x m (Some d) = goes_of x m d.part d.request.asked
 abbrev pub shows : Shows Known Lines (List Numbered)
 shows =
     record {
-      rows = λ x m. record { streams = x.stock.streams; demand = x.demand; denied = is_denied x.progress };
+      rows = λ x m. record { streams = x.stock.streams; demand = x.demand; denied = is_denied x.progress; due = x.stock.due };
       names = λ x m. live_names x.stock.held m;
       number = λ x m key. number_under key m;
       named = λ x n m. named_for x x.demand n m;

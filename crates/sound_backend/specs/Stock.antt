@@ -1,18 +1,21 @@
 -- The streams of a sound device, and the pages that it holds for them.
-use Rattle.std.specs.Prelude.{ℕ, zero, suc, Bool, true, List, [], ◌∷◌, ◌++◌, length, map, replicate}
+use Rattle.std.specs.Prelude.{ℕ, zero, suc, Bool, true, List, [], ◌∷◌, ◌++◌, length, map, replicate, Option, Some, None}
 use Rattle.pv_words.specs.declared.device.StreamKind.{StreamKind}
 use Rattle.pv_words.specs.declared.grant.Hold.{Hold}
 use Rattle.snd_wire.specs.declared.types.Asked.{Asked}
 use Rattle.snd_wire.specs.declared.types.Asked.TheVariants as asked
-use Rattle.pcm_stream.specs.Stream.{Pcm, closed, opened}
+use Rattle.pcm_stream.specs.Stream.{Pcm, closed, opened, told, triggered}
+use Rattle.sound_backend.specs.declared.waiting.Due.{Due}
 use Rattle.sound_backend.specs.Held.{all_bared, pages_in, with_list}
 use Rattle.sound_backend.specs.Held as lists
 
--- The pages that were mapped for an OPEN that isn't answered; and by part the pages of each stream, and the streams.
+-- The pages that were mapped for an OPEN that isn't answered; by part the pages of each stream, and the streams; and the event that
+-- is due directly after a tick of one of them.
 pub record Stock : Type 0 where
   pub mapped : List Hold
   pub held : List (List Hold)
   pub streams : List Pcm
+  pub due : Option Due
 
 -- all pages that are held, in the order in which a Close unmaps them
 abbrev pub pages_of : Stock → List Hold
@@ -20,7 +23,7 @@ pages_of s = s.mapped ++ pages_in s.held
 
 -- all streams are closed, and none has a page
 abbrev pub all_closed : List StreamKind → Stock
-all_closed kinds = record { mapped = []; held = replicate (length kinds) []; streams = map closed kinds }
+all_closed kinds = record { mapped = []; held = replicate (length kinds) []; streams = map closed kinds; due = None }
 
 -- which way the octets of each stream go
 abbrev pub kinds_in : List Pcm → List StreamKind
@@ -28,15 +31,15 @@ kinds_in streams = map (λ (s : Pcm). s.kind) streams
 
 -- all pages are given up
 abbrev pub stripped : Stock → Stock
-stripped s = record { mapped = []; held = all_bared s.held; streams = s.streams }
+stripped s = record s { mapped = []; held = all_bared s.held }
 
 -- the first of all pages is gone
-abbrev pub without_first_of : List Hold → List (List Hold) → List Pcm → Stock
-without_first_of [] held streams = record { mapped = []; held = lists.without_first held; streams = streams }
-without_first_of (h ∷ hs) held streams = record { mapped = hs; held = held; streams = streams }
+abbrev pub without_first_of : List Hold → Stock → Stock
+without_first_of [] s = record s { mapped = []; held = lists.without_first s.held }
+without_first_of (h ∷ hs) s = record s { mapped = hs }
 
 abbrev pub without_first : Stock → Stock
-without_first s = without_first_of s.mapped s.held s.streams
+without_first s = without_first_of s.mapped s
 
 -- the stream of a part has no page; it has one less
 abbrev pub bared : ℕ → Stock → Stock
@@ -51,13 +54,27 @@ changed f [] k = []
 changed f (s ∷ ss) zero = f s ∷ ss
 changed f (s ∷ ss) (suc k) = s ∷ changed f ss k
 
--- after an accepted OPEN the stream has the pages that were mapped for it, after an accepted CLOSE it is closed
+-- no event is due any more
+abbrev pub undue : Stock → Stock
+undue s = record s { due = None }
+
+-- the event that is due is put: it isn't owed to its stream any more
+abbrev pub raised_by : Stock → Option Due → Stock
+raised_by s None = s
+raised_by s (Some d) = record s { streams = changed told s.streams d.part; due = None }
+
+abbrev pub raised : Stock → Stock
+raised s = raised_by s s.due
+
+-- after an accepted OPEN the stream has the pages that were mapped for it, after an accepted CLOSE it is closed, and an accepted
+-- TRIGGER leads it to another state
 abbrev pub streams_after : List Pcm → ℕ → Asked → Bool → List Pcm
 streams_after streams part (asked.Open p) true = changed (λ s. opened s.kind p) streams part
 streams_after streams part asked.Close true = changed (λ s. closed s.kind) streams part
+streams_after streams part (asked.Trigger kind) true = changed (λ s. triggered s kind) streams part
 streams_after streams part asks accepted = streams
 
 abbrev pub stock_after : Stock → ℕ → Asked → Bool → Stock
 stock_after s part (asked.Open p) true =
-    record { mapped = []; held = with_list s.held part s.mapped; streams = streams_after s.streams part (asked.Open p) true }
+    record s { mapped = []; held = with_list s.held part s.mapped; streams = streams_after s.streams part (asked.Open p) true }
 stock_after s part asks accepted = record s { streams = streams_after s.streams part asks accepted }

@@ -15,7 +15,7 @@ use Rattle.sound_backend.specs.Stock.{Stock}
 use Rattle.sound_backend.specs.Verdict.{mode_at}
 
 abbrev pub stock_of : Store → Stock
-stock_of s = record { mapped = s.mapped; held = s.held; streams = s.streams.items }
+stock_of s = record { mapped = s.mapped; held = s.held; streams = s.streams.items; due = s.due }
 
 -- the queue of an OPEN that isn't answered
 abbrev pub queue_of : Store → Option (Buffer ℕ)

@@ -7,6 +7,7 @@ use Rattle.pv_words.specs.declared.device.Said.TheVariants as said
 use Rattle.pcm_stream.specs.declared.state.Ticked.{Ticked}
 use Rattle.pcm_stream.specs.Stream.{Pcm}
 use Rattle.pcm_stream.specs.Tick.{after_tick, ticked_of}
+use Rattle.sound_backend.specs.declared.waiting.Due.{Due}
 use Rattle.sound_backend.specs.declared.waiting.Waiting.{Waiting}
 use Rattle.sound_backend.specs.declared.waiting.Waiting.TheVariants as waiting
 use Rattle.sound_backend.specs.Stock.{Stock, changed}
@@ -35,5 +36,17 @@ said_of streams (waiting.Tick part frames) = moved_of part (ticked_in (slice_get
 abbrev pub streams_ticked : List Pcm → Waiting → List Pcm
 streams_ticked streams (waiting.Tick part frames) = changed (λ s. after_tick s frames) streams part
 
+-- the event that is due directly after a tick: of the position that is owed to the stream then
+abbrev pub due_at : ℕ → Option ℕ → Option Due
+due_at part None = None
+due_at part (Some position) = Some (record { part = part; position = position })
+
+abbrev pub due_by : ℕ → ℕ → Option Pcm → Option Due
+due_by part frames None = None
+due_by part frames (Some s) = due_at part (after_tick s frames).owed
+
+abbrev pub due_ticked : List Pcm → Waiting → Option Due
+due_ticked streams (waiting.Tick part frames) = due_by part frames (slice_get streams part)
+
 abbrev pub stock_ticked : Stock → Waiting → Stock
-stock_ticked s e = record s { streams = streams_ticked s.streams e }
+stock_ticked s e = record s { streams = streams_ticked s.streams e; due = due_ticked s.streams e }

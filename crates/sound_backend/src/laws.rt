@@ -2,7 +2,7 @@
 //! service.
 
 ghost use Rattle.device_service.specs.Claims.{Keeps, RestsAsleep, Runs, Tells};
-ghost use Rattle.sound_backend.specs.Laws.{GivesUpInOrder, KindsStay, TellsWhatIsHeld};
+ghost use Rattle.sound_backend.specs.Laws.{GivesUpInOrder, KindsStay, MovesInRunning, RaisesAtOnce, TellsWhatIsHeld};
 ghost use Rattle.sound_backend.specs.Service.{shows, sound, table};
 
 use crate::service::Service;
@@ -16,6 +16,17 @@ pub fn gives_up_in_order()
 /// A stream is one of playback or of capture as it was declared, whatever comes, and over all connections.
 pub fn kinds_stay()
     ensures { KindsStay }
+{}
+
+/// Directly after a tick the position event that is then owed to its stream is due, and what is due is raised before the order of work is
+/// asked again.
+pub fn raises_at_once()
+    ensures { RaisesAtOnce }
+{}
+
+/// A tick that moves octets is one of a running stream.
+pub fn moves_in_running()
+    ensures { MovesInRunning }
 {}
 
 /// All that a device with the sound device's service does and hears by the order of work is a run of its machine; each of its accesses

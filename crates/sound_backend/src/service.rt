@@ -8,11 +8,11 @@ ghost use Rattle.sound_backend.specs.Store.{queue_of, stock_of};
 
 use crate::course::{Course, Demand};
 use crate::store::Store;
-use crate::waiting::{Waiting, waiting_of};
+use crate::waiting::{Due, Waiting, waiting_of};
 use device_service::{Deed, Now, Serve};
 use page_directory::{Progress, Walk, Walked};
 use pv_words::{Access, DomId, GrantRef, Hold, HostEvent, Said, StreamKind, Words};
-use snd_wire::{Asked, Params, decode, encode_reply};
+use snd_wire::{Asked, Params, decode, encode_event, encode_reply};
 use std::alloc::{AllocError, Global};
 use std::mem;
 use xenbus_states::Nodes;
@@ -51,7 +51,7 @@ impl Service {
     ghost use Rattle.sound_backend.specs.Over.{BeginsOpen, GoesOn, OpensBy, WalksOn, walk_for};
     ghost use Rattle.device_service.specs.Operating.{site_over};
     ghost use Rattle.device_service.specs.Mapping.{walk_over};
-    ghost use Rattle.sound_backend.specs.Service.{Freed, after_walk, first_known, sound};
+    ghost use Rattle.sound_backend.specs.Service.{Freed, after_walk, due_for, first_known, sound};
     ghost use Rattle.device_service.specs.Mapping.{denied_by};
     ghost use Rattle.sound_backend.specs.Verdict.{verdict};
     ghost use Rattle.page_directory.specs.Progress.{status_in};
@@ -71,6 +71,16 @@ impl Service {
             progress: Progress::Decided,
             course: Course::Rests,
         })
+    }
+
+    // The event that is due: none while a request is in hand.
+    fn due(&self) -> Option<Due>
+        ensures { result ≡ due_for self.now.hand (stock_of self.now.store).due }
+    {
+        match self.hand {
+            Some(_) => None,
+            None => self.store.due(),
+        }
     }
 
     // How many pages a walk holds.
@@ -214,7 +224,7 @@ impl Serve for Service {
     ghost use Rattle.pv_words.specs.declared.device.Said.TheVariants as said;
     ghost use Rattle.sound_backend.specs.Known.{known_of, going_of, left_of, is_of, held_of};
     ghost use Rattle.sound_backend.specs.Names.{Numbered};
-    ghost use Rattle.sound_backend.specs.Service.{Known, Ending, Lines, shows, sound, table};
+    ghost use Rattle.sound_backend.specs.Service.{Known, Ending, Lines, due_of, not_due, paid, pos_said, shows, sound, table};
     ghost use Rattle.sound_backend.specs.Kept.{begins_bare, facts, holds_pages, stays_bare, whole_replies};
 
     ghost Known = { Known };
@@ -280,6 +290,7 @@ impl Serve for Service {
     }
 
     fn take(&mut self, part: u8, words: &[u32; 16]) {
+        self.store.drop_due();
         self.hand = Some(Demand {
             part,
             request: decode(words),
@@ -335,27 +346,41 @@ impl Serve for Service {
     }
 
     fn owed_part(&self) -> Option<u8> {
-        None
+        match self.due() {
+            Some(due) => Some(due.part),
+            None => None,
+        }
     }
 
     fn owed_words(&self, prod: u32) -> [u32; 16] {
-        [0; 16]
+        match self.due() {
+            Some(due) => encode_event(prod as u16, due.position),
+            None => [0; 16],
+        }
     }
 
     fn put(&mut self, event: Option<Waiting>) -> Said
         requires idle { going_of self.old ≡ false }
-        ensures said { result ≡ said.Full 0 }
-        ensures knows { known_of self.new ≡ known_of self.old }
+        ensures said { result ≡ pos_said (due_of (known_of self.old)) }
+        ensures knows { known_of self.new ≡ paid (known_of self.old) }
         ensures idle { going_of self.new ≡ false }
     {
-        Said::Full(0)
+        let due = self.due();
+        self.store.raised();
+        match due {
+            Some(due) => Said::Pos(due.part, due.position),
+            None => Said::Full(0),
+        }
     }
 
     fn found_full(&mut self, event: Option<Waiting>)
         requires idle { going_of self.old ≡ false }
-        ensures knows { known_of self.new ≡ known_of self.old }
+        ensures knows { known_of self.new ≡ not_due (known_of self.old) }
         ensures idle { going_of self.new ≡ false }
-    {}
+    {
+        // The event stays owed to its stream, and the next tick tries it again.
+        self.store.drop_due();
+    }
 
     fn go_on<W: Words>(&mut self, dom: DomId, parts: u8, words: &mut W) -> Deed {
         if let Course::Frees(part) = self.course {
@@ -411,6 +436,7 @@ impl Serve for Service {
     }
 
     fn drop_hand(&mut self) {
+        self.store.drop_due();
         self.hand = None;
         self.progress = Progress::Decided;
     }

@@ -7,6 +7,7 @@ ghost use Rattle.sound_backend.specs.Verdict.{answer_by, answer_to, mode_for};
 
 use crate::held::{LeftPages, PageLists};
 use crate::verdict::{EOPNOTSUPP, checked, refused};
+use crate::waiting::Due;
 use page_directory::{Pages, Walk};
 use pcm_params::{Answer, answer_query};
 use pcm_stream::{Queue, Stream, Ticked, queue};
@@ -23,6 +24,8 @@ pub struct Store {
     // The pages of each stream, and the streams.
     held: PageLists,
     streams: Vec<Stream>,
+    // The event that is due directly after a tick.
+    due: Option<Due>,
     ghost same: { length held ≡ length streams.items },
 }
 
@@ -33,6 +36,7 @@ fn answer_by(stream: &Stream, asked: &Asked) -> Answer
     match asked {
         Asked::Open(params) => checked(stream.can_begin(params)),
         Asked::Close => checked(stream.can_finish()),
+        Asked::Trigger(kind) => checked(stream.can_trigger(*kind)),
         Asked::Query(ranges) => answer_query(ranges),
         _ => refused(EOPNOTSUPP),
     }
@@ -41,7 +45,7 @@ fn answer_by(stream: &Stream, asked: &Asked) -> Answer
 impl Store {
     ghost use Rattle.pv_words.specs.Release.{Drops, MayDrop};
     ghost use Rattle.sound_backend.specs.Held.{list_at};
-    ghost use Rattle.sound_backend.specs.Stock.{all_closed, kinds_in, less_one, pages_of, stock_after, without_first};
+    ghost use Rattle.sound_backend.specs.Stock.{all_closed, kinds_in, less_one, pages_of, raised, stock_after, undue, without_first};
     ghost use Rattle.sound_backend.specs.Store.{BeginsFor, NeedsQueue, queue_of, stock_of};
     ghost use Rattle.sound_backend.specs.Waiting.{stock_ticked, ticked_in};
     ghost use Rattle.snd_wire.specs.declared.types.Asked.TheVariants as asked;
@@ -62,6 +66,7 @@ impl Store {
             queue: None,
             held,
             streams,
+            due: None,
         })
     }
 
@@ -137,6 +142,14 @@ impl Store {
         self.streams[usize::from(part)].finish();
     }
 
+    // The stream of this part is started, paused, stopped or resumed.
+    fn trigger(&mut self, part: u8, kind: u8)
+        requires { (answer_to (slice_get (stock_of self.old).streams part) (asked.Trigger kind)).status ≡ pos 0 }
+        ensures { stock_of self.new ≡ stock_after (stock_of self.old) part (asked.Trigger kind) true }
+    {
+        let _ = self.streams[usize::from(part)].trigger(kind);
+    }
+
     /// A request by this part is answered with status 0, which makes this of its stream.
     pub fn answered(&mut self, part: u8, asked: &Asked)
         requires accepted { (answer_to (slice_get (stock_of self.old).streams part) asked.now).status ≡ pos 0 }
@@ -146,6 +159,7 @@ impl Store {
         match asked {
             Asked::Open(params) => self.open(part, params),
             Asked::Close => self.close(part),
+            Asked::Trigger(kind) => self.trigger(part, *kind),
             _ => {}
         }
     }
@@ -157,17 +171,53 @@ impl Store {
         self.queue = None;
     }
 
-    /// The clock of the stream of this part goes on by so many frames.
+    /// The clock of the stream of this part goes on by so many frames. Where an event is owed to it then, that is due.
     pub fn tick(&mut self, part: u8, frames: u32) -> Ticked
         ensures ticked { result ≡ ticked_in (slice_get (stock_of self.old).streams part) frames }
         ensures stock { stock_of self.new ≡ stock_ticked (stock_of self.old) (waiting.Tick part frames) }
         ensures queue { queue_of self.new ≡ queue_of self.old }
     {
         let k = usize::from(part);
+        self.due = None;
         if k >= self.streams.len() {
             return Ticked { moved: 0, mark: 0 };
         }
-        self.streams[k].tick(frames)
+        let stream = &mut self.streams[k];
+        let ticked = stream.tick(frames);
+        if let Some(position) = stream.owed() {
+            self.due = Some(Due { part, position });
+        }
+        ticked
+    }
+
+    /// The event that is due.
+    pub fn due(&self) -> Option<Due>
+        ensures { result ≡ (stock_of self.now).due }
+    {
+        self.due
+    }
+
+    /// No event is due any more.
+    pub fn drop_due(&mut self)
+        ensures stock { stock_of self.new ≡ undue (stock_of self.old) }
+        ensures queue { queue_of self.new ≡ queue_of self.old }
+    {
+        self.due = None;
+    }
+
+    /// The event that is due is put, so that it isn't owed to its stream any more.
+    pub fn raised(&mut self)
+        ensures stock { stock_of self.new ≡ raised (stock_of self.old) }
+        ensures queue { queue_of self.new ≡ queue_of self.old }
+    {
+        let Some(due) = self.due else {
+            return;
+        };
+        self.due = None;
+        let k = usize::from(due.part);
+        if k < self.streams.len() && self.streams[k].owed().is_some() {
+            self.streams[k].raised();
+        }
     }
 
     /// All streams are closed, once all pages are given up.
@@ -177,6 +227,7 @@ impl Store {
     {
         let _ = self.mapped.take();
         self.queue = None;
+        self.due = None;
         self.held.clear();
         for stream in self.streams.iter_mut() {
             *stream = Stream::new(stream.kind());

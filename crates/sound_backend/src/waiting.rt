@@ -12,6 +12,15 @@ pub enum Waiting {
     Tick(u8, u32),
 }
 
+/// The position that an event is to tell directly after a tick of the stream of a part.
+#[derive(Clone, Copy)]
+pub struct Due {
+    /// The part.
+    pub part: u8,
+    /// The position after the tick.
+    pub position: u64,
+}
+
 /// What of a host's event waits, where it is one of a sound device's.
 pub fn waiting_of(e: &HostEvent) -> Option<Waiting>
     ensures { result ≡ waiting_of e.now }

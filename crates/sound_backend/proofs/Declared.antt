@@ -2,7 +2,7 @@
 use Rattle.std.proofs.Common.{◌≡◌, ℕ, Bool, true, false, Option, Some, None, refl}
 use Rattle.snd_wire.specs.declared.types.Asked.{Asked}
 use Rattle.snd_wire.specs.declared.types.Asked.TheVariants as asked
-use Rattle.pcm_stream.specs.Stream.{closed, opened}
+use Rattle.pcm_stream.specs.Stream.{closed, opened, triggered}
 use Rattle.pcm_stream.specs.Tick.{after_tick}
 use Rattle.page_directory.specs.declared.walk.Walked.TheVariants as walked
 use Rattle.sound_backend.specs.declared.course.Demand.{Demand}
@@ -11,7 +11,7 @@ use Rattle.sound_backend.specs.Laws.{KindsStay, kinds_of}
 use Rattle.sound_backend.specs.Service.{Known, Ending, Listed, Freed, Served, after_end, answered_for, status_of}
 use Rattle.sound_backend.specs.Stock.{Stock, kinds_in, stock_after}
 use Rattle.page_directory.specs.Progress.{is_accepted}
-use Rattle.sound_backend.proofs.Streams.{kinds_changed, kinds_closed, tick_kind}
+use Rattle.sound_backend.proofs.Streams.{kinds_changed, kinds_closed, tick_kind, trigger_kind}
 
 ended : (x : Known) (a : Ending) → kinds_of (after_end x a) ≡ kinds_of x
 ended x (Listed (walked.Pages ps)) = refl
@@ -24,6 +24,8 @@ after_answer s part (asked.Open p) true = kinds_changed (λ s. opened s.kind p) 
 after_answer s part (asked.Open p) false = refl
 after_answer s part asked.Close true = kinds_changed (λ s. closed s.kind) (λ s. refl) s.streams part
 after_answer s part asked.Close false = refl
+after_answer s part (asked.Trigger n) true = kinds_changed (λ s. triggered s n) (trigger_kind n) s.streams part
+after_answer s part (asked.Trigger n) false = refl
 after_answer s part (asked.Read o z) b = refl
 after_answer s part a b = refl
 

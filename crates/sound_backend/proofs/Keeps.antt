@@ -14,7 +14,7 @@ use Rattle.snd_wire.specs.declared.types.Asked.TheVariants as asked
 use Rattle.snd_wire.specs.declared.types.Params.{Params}
 use Rattle.pcm_params.specs.Format.{frame_of}
 use Rattle.pcm_params.specs.Params.{is_accepted as are_accepted}
-use Rattle.pcm_stream.specs.Stream.{Pcm}
+use Rattle.pcm_stream.specs.Stream.{Pcm, triggered}
 use Rattle.pcm_stream.specs.Tick.{after_tick}
 use Rattle.page_directory.specs.declared.walk.Walked.{Walked}
 use Rattle.page_directory.specs.declared.walk.Walked.TheVariants as walked
@@ -29,7 +29,7 @@ use Rattle.device_core.specs.Names.{Sight, all_drawn, cells_of, drawn, with_name
 use Rattle.device_core.specs.Site.{Site}
 use Rattle.device_core.specs.Touched.{Touch}
 use Rattle.device_service.specs.Claims.{KeepsLaws, site_of}
-use Rattle.device_service.specs.Laws.{AreHeld, AreLost, FitsBeside, IsOfService, IsRaise, IsTouching, Laws, Leads, Same, WantsFor, evidence}
+use Rattle.device_service.specs.Laws.{AreHeld, AreLost, FitsBeside, IsOfService, IsTouching, Laws, Leads, Same, WantsFor, evidence}
 use Rattle.device_service.specs.Rows.{made_if}
 use Rattle.device_service.specs.Service.{Runs}
 use Rattle.device_service.proofs.Mapping.Keeping.{are_parted, beside, freed_fits, made_cond, page_are, same_parted, walk_fits, walk_found}
@@ -37,6 +37,7 @@ use Rattle.device_service.proofs.Soundness.Same.{are_append, are_right, are_same
 use Rattle.sound_backend.specs.declared.course.Demand.{Demand}
 use Rattle.page_directory.specs.declared.progress.Progress.{Progress}
 use Rattle.page_directory.specs.declared.progress.Progress.TheVariants as progress
+use Rattle.sound_backend.specs.declared.waiting.Due.{Due}
 use Rattle.sound_backend.specs.declared.waiting.Waiting.{Waiting}
 use Rattle.sound_backend.specs.declared.waiting.Waiting.TheVariants as waiting
 use Rattle.sound_backend.specs.Held.{all_bared, bared, list_at, pages_in}
@@ -44,15 +45,16 @@ use Rattle.sound_backend.specs.Kept as kept
 use Rattle.sound_backend.specs.Kept.{AreKept, Come, HasCome, HasComeTo, IsClosing, IsFreeing, IsNamed, IsWalking, facts, whole_replies}
 use Rattle.sound_backend.specs.Names.{Numbered, live_names, names_under, numbered_after}
 use Rattle.device_service.specs.Named.{numbers}
-use Rattle.sound_backend.specs.Service.{Known, Ending, Listed, Freed, Served, after_end, freeing, goes_of, has_work, job_for, job_of, open_walk, ready_for, says_at, shows, sound, table}
+use Rattle.sound_backend.specs.Service.{Known, Ending, Listed, Freed, Served, after_end, freeing, goes_of, has_work, job_for, job_of, open_walk, ready_for, says_at, shows, sound, table, Lines}
 use Rattle.page_directory.specs.Progress.{ready_at}
-use Rattle.sound_backend.specs.Stock.{Stock, kinds_in, pages_of, stock_after, streams_after}
+use Rattle.sound_backend.specs.Stock.{Stock, kinds_in, pages_of, raised, stock_after, streams_after, undue}
 use Rattle.sound_backend.specs.Verdict.{IsStatus, answer_to, is_opening, mode_at, verdict}
 use Rattle.page_directory.specs.Progress.{is_accepted, is_denied, status_in}
-use Rattle.sound_backend.specs.Waiting.{said_of, streams_ticked}
+use Rattle.sound_backend.specs.Waiting.{said_of, stock_ticked}
 use Rattle.sound_backend.proofs.Lists.{filled, list_bared, none_among, none_in, parted}
 use Rattle.sound_backend.proofs.Names.{names_closed, names_freed, names_none, names_opened}
-use Rattle.sound_backend.proofs.Streams.{kept_bared, kept_changed, kept_closed, kept_length, kept_none, kept_opened, kept_bare, kept_shut, named_apart, named_changed, named_closed, named_opened, open_accepted, stream_within, tick_closed}
+use Rattle.sound_backend.proofs.Raised.{due_there, full_told, none_due, pos_short, put_told, raised_kept, raised_mapped, raised_named, raised_names, raised_pages}
+use Rattle.sound_backend.proofs.Streams.{kept_bared, kept_changed, kept_closed, kept_length, kept_none, kept_opened, kept_bare, kept_shut, named_apart, named_changed, named_closed, named_opened, open_accepted, stream_within, tick_closed, trigger_closed}
 use Rattle.page_directory.specs.Lists.{right_nil}
 use Rattle.page_directory.proofs.Ready.{accepted_is, and_rest, none_left, ready_decided}
 
@@ -134,6 +136,8 @@ module _ (s : Stock) (d : Demand) (keep : AreKept s.streams s.held) where
   answer_kept (asked.Open p) false done = keep
   answer_kept asked.Close true done = kept_closed s.streams s.held d.part keep done.0
   answer_kept asked.Close false done = keep
+  answer_kept (asked.Trigger k) true done = kept_changed (λ t. triggered t k) (trigger_closed k) s.streams s.held d.part keep
+  answer_kept (asked.Trigger k) false done = keep
   answer_kept (asked.Read o z) b done = keep
   answer_kept a b done = keep
 
@@ -153,6 +157,8 @@ module _ (s : Stock) (d : Demand) (keep : AreKept s.streams s.held) where
     answer_named (asked.Open p) false done = named
     answer_named asked.Close true done = named_closed s.streams d.part m named
     answer_named asked.Close false done = named
+    answer_named (asked.Trigger k) true done = named_changed (λ t. triggered t k) (trigger_closed k) s.streams d.part m named
+    answer_named (asked.Trigger k) false done = named
     answer_named (asked.Read o z) b done = named
     answer_named a b done = named
 
@@ -176,6 +182,18 @@ answer_streams s part (asked.Open p) false = refl
 answer_streams s part asked.Close b = refl
 answer_streams s part (asked.Read o z) b = refl
 answer_streams s part a b = refl
+
+answer_due : (s : Stock) (part : ℕ) (a : Asked) (b : Bool) → (stock_after s part a b).due ≡ s.due
+answer_due s part (asked.Open p) true = refl
+answer_due s part (asked.Open p) false = refl
+answer_due s part asked.Close b = refl
+answer_due s part (asked.Read o z) b = refl
+answer_due s part a b = refl
+
+-- no request is in hand still
+come_still : (s t : Stock) (p : Progress) (o : Option Demand) → is_some o ≡ false → t.mapped ≡ s.mapped → Come s p o → Come t p o
+come_still s t p None idle same come = (come.0, same ∙ come.1)
+come_still s t p (Some d) idle same come = absurd (true≢false idle)
 
 module _ (frames grants : ℕ → ℕ) (dom parts : ℕ) where
   abbrev site : Site
@@ -219,7 +237,8 @@ module _ (frames grants : ℕ → ℕ) (dom parts : ℕ) where
       let a = d.request.asked in (
         answer_named s d sane.1 n m named a b is.0,
         (d, refl, is.1),
-        ap (λ (streams : List Pcm). record { streams = streams; demand = None; denied = false }) (answer_streams s d.part a b),
+        ap (λ (streams : List Pcm). let y : Lines = record { streams = streams; demand = None; denied = false; due = (stock_after s d.part a b).due } in y) (answer_streams s d.part a b)
+            ∙ ap (λ (due : Option Due). let y : Lines = record { streams = streams_after s.streams d.part a b; demand = None; denied = false; due = due } in y) (answer_due s d.part a b),
         λ sight.
             answer_names s d sane.1 n m named a b sight is.0
             ∙ ap (λ made. with_name (all_drawn sight (live_names s.held m)) made (words_in sight (cond (is_opening a && b) (cells_of s.mapped) []))) (made_cond (is_opening a && b) n),
@@ -463,20 +482,21 @@ module _ (frames grants : ℕ → ℕ) (dom parts : ℕ) where
   served : (x : Known) (e : Waiting) (f : Found) (ts : List Touch) (a : Ending) → IsSane x → HasCome false x → EndsDone e x f ts a → IsSane (after_end x a) × HasCome false (after_end x a)
   served x e f ts (Listed came) sane h d = absurd d
   served x e f ts Freed sane h d = absurd d
-  served x e f ts (Served v) sane h d = ((sane.0, ticked_kept x.stock v sane.1), (h.0, come_still x.stock (record x.stock { streams = streams_ticked x.stock.streams v }) x.progress x.demand h.0 refl h.1))
-    where
-      come_still : (s t : Stock) (p : Progress) (o : Option Demand) → is_some o ≡ false → t.mapped ≡ s.mapped → Come s p o → Come t p o
-      come_still s t p None idle same come = (come.0, same ∙ come.1)
-      come_still s t p (Some d) idle same come = absurd (true≢false idle)
+  served x e f ts (Served v) sane h d = ((sane.0, ticked_kept x.stock v sane.1), (h.0, come_still x.stock (stock_ticked x.stock v) x.progress x.demand h.0 refl h.1))
 
   served_says : (x : Known) (e : Waiting) (f : Found) (ts : List Touch) (a : Ending) → EndsDone e x f ts a → says_at x a ≡ None → ⊥
   served_says x e f ts (Listed came) d i = d
   served_says x e f ts Freed d i = d
   served_says x e f ts (Served v) d i = cc
 
-  never : (x : Known) (e : Option Waiting) (part : ℕ) → IsRaise sound x e part → ⊥
-  never x None part i = let owes = i.1 in cc
-  never x (Some e) part i = let event = i.1 in cc
+  -- the position event
+  raises : (x : Known) (e : Option Waiting) → IsSane x → HasCome false x → (IsSane (sound.after_put x e) × HasCome false (sound.after_put x e) × (pages_of (sound.after_put x e).stock ≡ pages_of x.stock)) × (IsSane (sound.after_full x e) × HasCome false (sound.after_full x e) × (pages_of (sound.after_full x e).stock ≡ pages_of x.stock))
+  raises x e sane h =
+      let pages = raised_pages x.stock x.stock.due in
+      let mapped = raised_mapped x.stock x.stock.due in (
+        ((subst (AreOf (grants dom) dom) (sym pages) sane.0, raised_kept x.stock x.stock.due sane.1), (h.0, come_still x.stock (raised x.stock) x.progress x.demand h.0 mapped h.1), pages),
+        ((sane.0, sane.1), (h.0, come_still x.stock (undue x.stock) x.progress x.demand h.0 refl h.1), refl),
+      )
 
   takes : (s : Stock) (o : Option Demand) (p : Progress) (part : ℕ) (words : List ℕ) → HasCome false (known s o p) → HasCome true (sound.taken (known s o p) part words)
   takes s None p part words h = (refl, h.1.1)
@@ -529,14 +549,14 @@ module _ (frames grants : ℕ → ℕ) (dom parts : ℕ) where
         served = λ x e f ts a s h d. served x e f ts a s h d;
         served_told = λ x e f ts a m what s h d named i. served_told x e f ts a m what d named i;
         served_says = λ x e f ts a d i. served_says x e f ts a d i;
-        owes_idle = λ x o b owes h. let wrong : ⊥ = cc in absurd wrong;
-        owes_short = λ x o n owes. let wrong : ⊥ = cc in absurd wrong;
+        owes_idle = λ x o b owes h. sym h.0 ∙ ap (λ (d : Option Demand). is_some d) (due_there x.demand x.stock.due o owes).idle;
+        owes_short = λ x o n owes. pos_short x.demand x.stock.due o n owes;
         event_short = λ x e words n event. let wrong : ⊥ = cc in absurd wrong;
-        raises = λ x e part s h i. absurd (never x e part i);
-        raises_shows = λ x e part m s h i named. absurd (never x e part i);
-        put_told = λ x e part m told s h i named. absurd (never x e part i);
-        full_told = λ x e part m told s h i named. absurd (never x e part i);
-        full_ends = λ x o s owes. refl;
+        raises = λ x e part s h i. raises x e s h;
+        raises_shows = λ x e part m s h i named. ((raised_named x.stock x.stock.due m named, raised_names x.stock x.stock.due m), (named, refl));
+        put_told = λ x e part m told s h i named. put_told site x.stock.mapped x.stock.held x.stock.streams x.stock.due x.demand x.progress e part m told i;
+        full_told = λ x e part m told s h i named. full_told site x.stock.mapped x.stock.held x.stock.streams x.stock.due x.demand x.progress e part m told i;
+        full_ends = λ x o s owes. none_due x.demand;
         meets_plain = λ x want note u. u;
         meets = λ x m want note s named u. meets x m want note u;
       }

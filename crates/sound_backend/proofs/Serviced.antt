@@ -86,15 +86,15 @@ stands_less (Frees part) hand p held left queue now idle e st = absurd (true≢f
 stands_less Rests hand p held left queue now idle e st = subst (λ q. InHand hand p q) (sym e) st
 
 -- and so does what is left once all are
-stripped_of : (mapped : List Hold) (s : Stock) → s.mapped ≡ mapped → stripped (stock.without_first_of mapped s.held s.streams) ≡ stripped s
-stripped_of [] s e = ap (λ (held : List (List Hold)). let t : Stock = record { mapped = []; held = held; streams = s.streams } in t) (bared_first s.held)
+stripped_of : (mapped : List Hold) (s : Stock) → s.mapped ≡ mapped → stripped (stock.without_first_of mapped s) ≡ stripped s
+stripped_of [] s e = ap (λ (held : List (List Hold)). let t : Stock = record s { mapped = []; held = held } in t) (bared_first s.held)
 stripped_of (h ∷ hs) s e = refl
 
 pub streams_stay : (s : Stock) → stripped (stock.without_first s) ≡ stripped s
 streams_stay s = stripped_of s.mapped s refl
 
 -- the first page that is given up is the first of all
-first_of : (mapped : List Hold) (s : Stock) → pages_of (stock.without_first_of mapped s.held s.streams) ≡ drop 1 (mapped ++ pages_in s.held)
+first_of : (mapped : List Hold) (s : Stock) → pages_of (stock.without_first_of mapped s) ≡ drop 1 (mapped ++ pages_in s.held)
 first_of [] s = first_in s.held
 first_of (h ∷ hs) s = refl
 
@@ -128,6 +128,11 @@ streams_at : (course : Course) (s : Stock) → (stock_at course s).streams ≡ s
 streams_at Rests s = refl
 streams_at (Walks w) s = refl
 streams_at (Frees part) s = refl
+
+pub due_stays : (course : Course) (s : Stock) → (stock_at course s).due ≡ s.due
+due_stays Rests s = refl
+due_stays (Walks w) s = refl
+due_stays (Frees part) s = refl
 
 pub reply_is : (course : Course) (d : Demand) (hand : Option Demand) (p : Progress) (s : Stock) → hand ≡ Some d → reply_to s.streams d (status_in p (verdict s.streams d)) ≡ reply_for (knowing (stock_at course s) hand p) hand
 reply_is course d hand p s is =

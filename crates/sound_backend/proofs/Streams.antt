@@ -1,5 +1,5 @@
 -- Streams of which one is changed.
-use Rattle.std.proofs.Common.{◌≡◌, ◌≢◌, ℕ, zero, suc, ◌+◌, ◌%◌, ◌^◌, ◌==◌, ◌<◌, ◌≤◌, nat_lt, pos, Bool, true, false, cond, List, [], ◌∷◌, ◌++◌, get_or, length, map, replicate, slice_get, slice_set, Option, Some, None, Ok, Err, refl, sym, ap, ◌∙◌, arith}
+use Rattle.std.proofs.Common.{◌≡◌, ◌≢◌, ℕ, zero, suc, ◌+◌, ◌%◌, ◌^◌, ◌==◌, ◌<◌, ◌≤◌, nat_lt, pos, Bool, true, false, cond, List, [], ◌∷◌, ◌++◌, get_or, length, map, replicate, slice_get, slice_set, Option, Some, None, is_some, Ok, Err, refl, sym, ap, ◌∙◌, arith}
 use Rattle.std.proofs.lemmas.Bool.{true≢false, false≢true, eq-eqb}
 use Rattle.std.specs.List.{AllByRecursion}
 use Rattle.pv_words.specs.declared.device.StreamKind.{StreamKind}
@@ -9,14 +9,21 @@ use Rattle.snd_wire.specs.declared.types.Asked.TheVariants as asked
 use Rattle.snd_wire.specs.declared.types.Params.{Params}
 use Rattle.pcm_params.specs.Params.{is_accepted as are_accepted}
 use Rattle.pcm_stream.specs.declared.state.StreamRefusal.TheVariants.{WrongState, Invalid}
-use Rattle.pcm_stream.specs.State.{is_closed, is_running}
-use Rattle.pcm_stream.specs.Stream.{Pcm, closed, opened}
+use Rattle.pcm_stream.specs.declared.state.StreamState.{StreamState}
+use Rattle.pcm_stream.specs.declared.state.StreamState.TheVariants.{Closed, Opened, Running, Paused}
+use Rattle.pcm_stream.specs.declared.state.Trigger.{Trigger}
+use Rattle.pcm_stream.specs.declared.state.Trigger.TheVariants.{Start, Pause, Stop, Resume}
+use Rattle.pcm_stream.specs.State.{is_closed, is_running, leads, trigger_at}
+use Rattle.pcm_stream.specs.Stream.{Pcm, closed, led, opened, pulled, told, triggered}
 use Rattle.pcm_stream.specs.Tick.{after_tick, carried, counted, due}
+use Rattle.sound_backend.specs.declared.waiting.Due.{Due}
+use Rattle.sound_backend.specs.declared.waiting.Waiting.TheVariants as waiting
 use Rattle.sound_backend.specs.Held.{all_bared, bared, list_at, with_list}
 use Rattle.sound_backend.specs.Kept.{AreKept, AreNamed, IsOpen}
 use Rattle.sound_backend.specs.Names.{Numbered, without_part}
 use Rattle.sound_backend.specs.Stock.{Stock, all_closed, changed, kinds_in}
 use Rattle.sound_backend.specs.Verdict.{answer_to, checked}
+use Rattle.sound_backend.specs.Waiting.{due_by, stock_ticked}
 
 -- a stream that is put in the place of one that it comes from
 pub set_changed : (f : Pcm → Pcm) (ss : List Pcm) (k : ℕ) (old new : Pcm) → k < length ss → old ≡ get_or ss k old → new ≡ f old → slice_set ss k new ≡ changed f ss k
@@ -29,6 +36,19 @@ changed_past f [] k past = refl
 changed_past f (s ∷ ss) zero past = absurd (omega (arith, past))
 changed_past f (s ∷ ss) (suc k) past = ap (λ rest. s ∷ rest) (changed_past f ss k (omega (arith, past)))
 
+pub none_of : (o : Option ℕ) → is_some o ≡ false → o ≡ None
+none_of None e = refl
+none_of (Some n) e = absurd (true≢false e)
+
+-- a stream to which nothing is owed is as it is once it was told
+told_none : (s : Pcm) → s.owed ≡ None → told s ≡ s
+told_none s e = ap (λ o. record s { owed = o }) (sym e)
+
+pub told_there : (ss : List Pcm) (k : ℕ) (s : Pcm) → k < length ss → s ≡ get_or ss k s → s.owed ≡ None → changed told ss k ≡ ss
+told_there [] k s within at e = absurd (omega (arith, within))
+told_there (x ∷ ss) zero s within at e = ap (λ y. y ∷ ss) (told_none x (sym (ap (λ (y : Pcm). y.owed) at) ∙ e))
+told_there (x ∷ ss) (suc k) s within at e = ap (λ rest. x ∷ rest) (told_there ss k s (omega (arith, within)) at e)
+
 pub get_past : (ss : List Pcm) (k : ℕ) → length ss ≤ k → slice_get ss k ≡ None
 get_past [] k past = refl
 get_past (s ∷ ss) zero past = absurd (omega (arith, past))
@@ -38,6 +58,12 @@ pub get_there : (ss : List Pcm) (k : ℕ) (s : Pcm) → k < length ss → s ≡ 
 get_there [] k s within at = absurd (omega (arith, within))
 get_there (x ∷ ss) zero s within at = ap Some (sym at)
 get_there (x ∷ ss) (suc k) s within at = get_there ss k s (omega (arith, within)) at
+
+-- what was put in a place stands there
+pub set_there : (ss : List Pcm) (k : ℕ) (x y : Pcm) → k < length ss → y ≡ get_or (slice_set ss k x) k y → y ≡ x
+set_there [] k x y within at = absurd (omega (arith, within))
+set_there (s ∷ ss) zero x y within at = at
+set_there (s ∷ ss) (suc k) x y within at = set_there ss k x y (omega (arith, within)) at
 
 pub stream_within : (ss : List Pcm) (k : ℕ) (s : Pcm) → slice_get ss k ≡ Some s → k < length ss
 stream_within [] k s is = let wrong : ⊥ = cc in absurd wrong
@@ -113,6 +139,42 @@ tick_kind n s = (tick_same s n).0
 pub tick_closed : (n : ℕ) (s : Pcm) → is_closed (after_tick s n).state ≡ is_closed s.state
 tick_closed n s = ap is_closed (tick_same s n).1
 
+-- a trigger leaves the kind of a stream, and leads none from or to where it is closed
+led_kind : (s : Pcm) (t : Trigger) (next : Option StreamState) → (led s t next).kind ≡ s.kind
+led_kind s t None = refl
+led_kind s Start (Some next) = refl
+led_kind s Pause (Some next) = refl
+led_kind s Stop (Some next) = refl
+led_kind s Resume (Some next) = refl
+
+led_closed : (s : Pcm) (t : Trigger) (state : StreamState) → s.state ≡ state → is_closed (led s t (leads t state)).state ≡ is_closed state
+led_closed s Start Closed e = ap is_closed e
+led_closed s Start Opened e = refl
+led_closed s Start Running e = ap is_closed e
+led_closed s Start Paused e = ap is_closed e
+led_closed s Pause Closed e = ap is_closed e
+led_closed s Pause Opened e = ap is_closed e
+led_closed s Pause Running e = refl
+led_closed s Pause Paused e = ap is_closed e
+led_closed s Stop Closed e = ap is_closed e
+led_closed s Stop Opened e = refl
+led_closed s Stop Running e = refl
+led_closed s Stop Paused e = refl
+led_closed s Resume Closed e = ap is_closed e
+led_closed s Resume Opened e = ap is_closed e
+led_closed s Resume Running e = ap is_closed e
+led_closed s Resume Paused e = refl
+
+pulled_same : (s : Pcm) (o : Option Trigger) → ((pulled s o).kind ≡ s.kind) × (is_closed (pulled s o).state ≡ is_closed s.state)
+pulled_same s None = (refl, refl)
+pulled_same s (Some t) = (led_kind s t (leads t s.state), led_closed s t s.state refl)
+
+pub trigger_kind : (n : ℕ) (s : Pcm) → (triggered s n).kind ≡ s.kind
+trigger_kind n s = (pulled_same s (trigger_at n)).0
+
+pub trigger_closed : (n : ℕ) (s : Pcm) → is_closed (triggered s n).state ≡ is_closed s.state
+trigger_closed n s = (pulled_same s (trigger_at n)).1
+
 -- the lists of pages of the streams
 pub kept_length : (ss : List Pcm) (lists : List (List Hold)) → AreKept ss lists → length lists ≡ length ss
 kept_length [] [] h = refl
@@ -186,6 +248,10 @@ close_accepted (Some s) e = by_test (is_closed s.state) refl e
     by_test true f e = let wrong : ⊥ = cc in absurd wrong
     by_test false f e = (s, refl, f)
 
+pub trigger_accepted : (o : Option Pcm) (n : ℕ) → (answer_to o (asked.Trigger n)).status ≡ pos 0 → (s : Pcm) × (o ≡ Some s)
+trigger_accepted None n e = let wrong : ⊥ = cc in absurd wrong
+trigger_accepted (Some s) n e = (s, refl)
+
 -- open streams stay open
 open_changed : (f : Pcm → Pcm) → ((s : Pcm) → is_closed (f s).state ≡ is_closed s.state) → (ss : List Pcm) (k j : ℕ) → IsOpen ss j → IsOpen (changed f ss k) j
 open_changed f same [] k j o = o
@@ -235,11 +301,17 @@ named_closed ss k (e ∷ es) named = by_test (e.part == k) refl (named_closed ss
     by_test false f later = (open_other (λ s. closed s.kind) ss k e.part (λ same. true≢false (sym (eq-eqb _ _ same) ∙ f)) named.0, later)
 
 -- a stock by its parts
-pub stock_by : {a b : List Hold} {h k : List (List Hold)} {s t : List Pcm} → a ≡ b → h ≡ k → s ≡ t → (let old : Stock = record { mapped = a; held = h; streams = s } in let new : Stock = record { mapped = b; held = k; streams = t } in old ≡ new)
-stock_by {a} {b} {h} {k} {s} {t} e f g =
-    ap (λ (x : List Hold). let r : Stock = record { mapped = x; held = h; streams = s } in r) e
-    ∙ ap (λ (x : List (List Hold)). let r : Stock = record { mapped = b; held = x; streams = s } in r) f
-    ∙ ap (λ (x : List Pcm). let r : Stock = record { mapped = b; held = k; streams = x } in r) g
+pub stock_by : {a b : List Hold} {h k : List (List Hold)} {s t : List Pcm} {d : Option Due} → a ≡ b → h ≡ k → s ≡ t → (let old : Stock = record { mapped = a; held = h; streams = s; due = d } in let new : Stock = record { mapped = b; held = k; streams = t; due = d } in old ≡ new)
+stock_by {a} {b} {h} {k} {s} {t} {d} e f g =
+    ap (λ (x : List Hold). let r : Stock = record { mapped = x; held = h; streams = s; due = d } in r) e
+    ∙ ap (λ (x : List (List Hold)). let r : Stock = record { mapped = b; held = x; streams = s; due = d } in r) f
+    ∙ ap (λ (x : List Pcm). let r : Stock = record { mapped = b; held = k; streams = x; due = d } in r) g
+
+-- a stock after a tick
+pub ticked_as : (s : Stock) (part frames : ℕ) (ss : List Pcm) (due : Option Due) → ss ≡ changed (λ t. after_tick t frames) s.streams part → due ≡ due_by part frames (slice_get s.streams part) → (let t : Stock = record s { streams = ss; due = due } in t) ≡ stock_ticked s (waiting.Tick part frames)
+ticked_as s part frames ss due e f =
+    ap (λ (x : List Pcm). let t : Stock = record s { streams = x; due = due } in t) e
+    ∙ ap (λ (x : Option Due). let t : Stock = record s { streams = changed (λ t. after_tick t frames) s.streams part; due = x } in t) f
 
 -- what is known of a sound device that is declared
 pub fresh_stock : (kinds : List StreamKind) (s : Stock) → s ≡ all_closed kinds → all_closed (kinds_in s.streams) ≡ s

@@ -140,13 +140,13 @@ bare_lists (hs ∷ lists) e =
     ap (λ (ks : List Hold). ks ∷ all_bared lists) (sym (left_nil hs (pages_in lists) e))
     ∙ ap (λ rest. hs ∷ rest) (bare_lists lists (right_nil hs (pages_in lists) e))
 
-abbrev stock : List Hold → List (List Hold) → List Pcm → Stock
-stock mapped held streams = record { mapped = mapped; held = held; streams = streams }
+abbrev stock : Stock → List Hold → List (List Hold) → Stock
+stock s mapped held = record s { mapped = mapped; held = held }
 
 pub bare_stripped : (s : Stock) → pages_of s ≡ [] → stripped s ≡ s
 bare_stripped s e =
-    ap (λ hs. stock hs (all_bared s.held) s.streams) (sym (left_nil s.mapped (pages_in s.held) e))
-    ∙ ap (λ lists. stock s.mapped lists s.streams) (bare_lists s.held (right_nil s.mapped (pages_in s.held) e))
+    ap (λ hs. stock s hs (all_bared s.held)) (sym (left_nil s.mapped (pages_in s.held) e))
+    ∙ ap (λ lists. stock s s.mapped lists) (bare_lists s.held (right_nil s.mapped (pages_in s.held) e))
 
 -- none is held where a connection begins
 none_in : (n : ℕ) → pages_in (replicate n []) ≡ []

@@ -10,6 +10,8 @@ mod store;
 mod verdict;
 mod waiting;
 
-pub use laws::{gives_up_in_order, kinds_stay, moves_in_running, raises_at_once, sounds_run, tells_what_is_held};
+pub use laws::{
+    gives_up_in_order, kinds_stay, moves_in_running, raises_at_once, sounds_run, tells_what_is_held,
+};
 pub use service::Service;
 pub use sound::Sound;

@@ -354,7 +354,7 @@ impl Serve for Service {
 
     fn owed_words(&self, prod: u32) -> [u32; 16] {
         match self.due() {
-            Some(due) => encode_event(prod as u16, due.position),
+            Some(due) => encode_event((prod % 65536) as u16, due.position),
             None => [0; 16],
         }
     }

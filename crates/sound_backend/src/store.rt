@@ -7,7 +7,7 @@ ghost use Rattle.sound_backend.specs.Verdict.{answer_by, answer_to, mode_for};
 
 use crate::held::{LeftPages, PageLists};
 use crate::verdict::{EOPNOTSUPP, checked, refused};
-use crate::waiting::Due;
+use crate::waiting::{Due, due_at};
 use page_directory::{Pages, Walk};
 use pcm_params::{Answer, answer_query};
 use pcm_stream::{Queue, Stream, Ticked, queue};
@@ -178,15 +178,12 @@ impl Store {
         ensures queue { queue_of self.new ≡ queue_of self.old }
     {
         let k = usize::from(part);
-        self.due = None;
         if k >= self.streams.len() {
+            self.due = None;
             return Ticked { moved: 0, mark: 0 };
         }
-        let stream = &mut self.streams[k];
-        let ticked = stream.tick(frames);
-        if let Some(position) = stream.owed() {
-            self.due = Some(Due { part, position });
-        }
+        let ticked = self.streams[k].tick(frames);
+        self.due = due_at(part, self.streams[k].owed());
         ticked
     }
 
@@ -215,9 +212,13 @@ impl Store {
         };
         self.due = None;
         let k = usize::from(due.part);
-        if k < self.streams.len() && self.streams[k].owed().is_some() {
-            self.streams[k].raised();
+        if k >= self.streams.len() {
+            return;
         }
+        if self.streams[k].owed().is_none() {
+            return;
+        }
+        self.streams[k].raised();
     }
 
     /// All streams are closed, once all pages are given up.

@@ -1,7 +1,7 @@
 //! The host's events that wait.
 
 ghost use Rattle.std.specs.Prelude.{◌≡◌};
-ghost use Rattle.sound_backend.specs.Waiting.{waiting_of};
+ghost use Rattle.sound_backend.specs.Waiting.{due_at, waiting_of};
 
 use pv_words::HostEvent;
 
@@ -19,6 +19,16 @@ pub struct Due {
     pub part: u8,
     /// The position after the tick.
     pub position: u64,
+}
+
+/// The event that is due where this position is owed to the stream of a part.
+pub fn due_at(part: u8, owed: Option<u64>) -> Option<Due>
+    ensures { result ≡ due_at part owed }
+{
+    match owed {
+        Some(position) => Some(Due { part, position }),
+        None => None,
+    }
 }
 
 /// What of a host's event waits, where it is one of a sound device's.

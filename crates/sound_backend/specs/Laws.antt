@@ -3,7 +3,6 @@ use Rattle.std.specs.Prelude.{◌≡◌, ℕ, ◌<◌, false, true, List, [], So
 use Rattle.pv_words.specs.declared.device.NodeValue.{NodeValue}
 use Rattle.pv_words.specs.declared.device.Said.TheVariants as said
 use Rattle.pv_words.specs.declared.device.StreamKind.{StreamKind}
-use Rattle.pv_words.specs.declared.grant.Hold.{Hold}
 use Rattle.pcm_stream.specs.State.{is_running}
 use Rattle.pcm_stream.specs.Stream.{Pcm}
 use Rattle.pcm_stream.specs.Tick.{after_tick}
@@ -13,10 +12,10 @@ use Rattle.device_service.specs.Held as held
 use Rattle.device_service.specs.Rows.{Evidence, Rows}
 use Rattle.device_service.specs.Rows as rows
 use Rattle.device_service.specs.Work.{Work, choice, raises}
+use Rattle.sound_backend.specs.contracts.service.ServiceServe.TheImpl.{ghosts}
 use Rattle.sound_backend.specs.declared.waiting.Due.{Due}
 use Rattle.sound_backend.specs.declared.waiting.Waiting.{Waiting}
 use Rattle.sound_backend.specs.declared.waiting.Waiting.TheVariants as waiting
-use Rattle.sound_backend.specs.declared.sound.Sound.{Sound}
 use Rattle.sound_backend.specs.Service.{Known, Ending, Lines, Served, due_of, pos_words, sound, table}
 use Rattle.sound_backend.specs.Stock.{Stock, kinds_in, pages_of, stripped, without_first}
 
@@ -58,14 +57,7 @@ MovesInRunning =
     → rows.Tells table site old told (said.Moved part n mark) words new → 0 < n
     → (s : Pcm) × (slice_get old.service.streams part ≡ Some s) × (is_running s.state ≡ true)
 
--- Whatever it has done and heard, where it stands by that its accesses hold so many pages; and they hold this page.
-abbrev pub HoldsAsMany : Sound → ℕ → Type 0
-HoldsAsMany d n = held.HoldsAsMany d.backend n
-
-abbrev pub HoldsPage : Sound → Hold → Type 0
-HoldsPage d h = held.HoldsPage d.backend h
-
 -- Wherever a sound device stands by what it has done and heard, the pages that it tells are just those that its accesses hold, each
 -- as often.
 abbrev pub TellsWhatIsHeld : Type 0
-TellsWhatIsHeld = (d : Sound) → held.TellsWhatIsHeld d.backend
+TellsWhatIsHeld = held.AllTell ghosts

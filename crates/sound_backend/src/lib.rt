@@ -14,4 +14,4 @@ pub use laws::{
     gives_up_in_order, kinds_stay, moves_in_running, raises_at_once, sounds_run, tells_what_is_held,
 };
 pub use service::Service;
-pub use sound::Sound;
+pub use sound::{Sound, new_sound};

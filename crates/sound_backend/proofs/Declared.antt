@@ -2,14 +2,15 @@
 use Rattle.std.proofs.Common.{◌≡◌, ℕ, Bool, true, false, Option, Some, None, refl}
 use Rattle.snd_wire.specs.declared.types.Asked.{Asked}
 use Rattle.snd_wire.specs.declared.types.Asked.TheVariants as asked
-use Rattle.pcm_stream.specs.Stream.{closed, opened, triggered}
+use Rattle.pcm_stream.specs.Stream.{closed, opened, told, triggered}
 use Rattle.pcm_stream.specs.Tick.{after_tick}
 use Rattle.page_directory.specs.declared.walk.Walked.TheVariants as walked
 use Rattle.sound_backend.specs.declared.course.Demand.{Demand}
+use Rattle.sound_backend.specs.declared.waiting.Due.{Due}
 use Rattle.sound_backend.specs.declared.waiting.Waiting.TheVariants as waiting
 use Rattle.sound_backend.specs.Laws.{KindsStay, kinds_of}
 use Rattle.sound_backend.specs.Service.{Known, Ending, Listed, Freed, Served, after_end, answered_for, status_of}
-use Rattle.sound_backend.specs.Stock.{Stock, kinds_in, stock_after}
+use Rattle.sound_backend.specs.Stock.{Stock, kinds_in, raised_by, stock_after}
 use Rattle.page_directory.specs.Progress.{is_accepted}
 use Rattle.sound_backend.proofs.Streams.{kinds_changed, kinds_closed, tick_kind, trigger_kind}
 
@@ -33,6 +34,10 @@ answered : (x : Known) (o : Option Demand) → kinds_of (answered_for x o) ≡ k
 answered x None = refl
 answered x (Some d) = after_answer x.stock d.part d.request.asked (is_accepted (status_of x d))
 
+put : (s : Stock) (due : Option Due) → kinds_in (raised_by s due).streams ≡ kinds_in s.streams
+put s None = refl
+put s (Some d) = kinds_changed told (λ t. refl) s.streams d.part
+
 pub kinds_stay : KindsStay
 kinds_stay =
     record {
@@ -40,6 +45,8 @@ kinds_stay =
       taken = λ x part words. refl;
       ended = ended;
       answered = λ x. answered x x.demand;
+      put = λ x e. put x.stock x.stock.due;
+      full = λ x e. refl;
       stripped = λ x. refl;
       dropped = λ x. refl;
     }

@@ -1,5 +1,5 @@
 -- What the pages of streams come to, and which streams there are.
-use Rattle.std.specs.Prelude.{◌≡◌, ℕ, ◌<◌, false, true, List, [], Some, None, drop, slice_get}
+use Rattle.std.specs.Prelude.{◌≡◌, ℕ, ◌<◌, false, true, List, [], Option, Some, None, drop, slice_get}
 use Rattle.pv_words.specs.declared.device.NodeValue.{NodeValue}
 use Rattle.pv_words.specs.declared.device.Said.TheVariants as said
 use Rattle.pv_words.specs.declared.device.StreamKind.{StreamKind}
@@ -26,7 +26,8 @@ GivesUpInOrder =
     (s : Stock) → (pages_of (without_first s) ≡ drop 1 (pages_of s)) × (stripped (without_first s) ≡ stripped s) × (pages_of (stripped s) ≡ [])
 
 -- Which way the octets of each stream go stays as it was declared, whatever the device does and hears, and over all connections: by a
--- request that comes, is answered or is dropped, by all that its activities come to, and where a connection begins and ends.
+-- request that comes, is answered or is dropped, by all that its activities come to, by an event that is raised or finds no room, and
+-- where a connection begins and ends.
 abbrev pub kinds_of : Known → List StreamKind
 kinds_of x = kinds_in x.stock.streams
 
@@ -35,6 +36,8 @@ pub record KindsStay : Type 0 where
   pub taken : (x : Known) (part : ℕ) (words : List ℕ) → kinds_of (sound.taken x part words) ≡ kinds_of x
   pub ended : (x : Known) (a : Ending) → kinds_of (sound.after x a) ≡ kinds_of x
   pub answered : (x : Known) → kinds_of (sound.answered x) ≡ kinds_of x
+  pub put : (x : Known) (e : Option Waiting) → kinds_of (sound.after_put x e) ≡ kinds_of x
+  pub full : (x : Known) (e : Option Waiting) → kinds_of (sound.after_full x e) ≡ kinds_of x
   pub stripped : (x : Known) → kinds_of (sound.stripped x) ≡ kinds_of x
   pub dropped : (x : Known) → kinds_of (sound.dropped x) ≡ kinds_of x
 

@@ -12,9 +12,10 @@ use Rattle.device_service.specs.Rows.{Evidence, Tells as SaysBy}
 use Rattle.device_service.specs.Truth.{IsSaid}
 use Rattle.pcm_stream.specs.Stream.{Pcm}
 use Rattle.sound_backend.specs.declared.course.Demand.{Demand}
+use Rattle.sound_backend.specs.declared.waiting.Due.{Due}
 use Rattle.sound_backend.specs.declared.waiting.Waiting.{Waiting}
 use Rattle.sound_backend.specs.declared.waiting.Waiting.TheVariants as waiting
-use Rattle.sound_backend.specs.Service.{Lines, Serves, Tells, replied_for, table}
+use Rattle.sound_backend.specs.Service.{IsPaid, Lines, Serves, Tells, replied_for, table}
 use Rattle.sound_backend.specs.Verdict.{IsStatus, is_opening, mode_at, verdict}
 use Rattle.sound_backend.specs.Waiting.{said_of}
 use Rattle.backend_core.specs.Answered.{IsAnswer}
@@ -38,6 +39,20 @@ status_answers : (denied : Bool) (streams : List Pcm) (d : Demand) (maps : Bool)
 status_answers true streams d maps status m c v x = (sym m ∙ c refl, x)
 status_answers false streams d maps status m c v (inl x) = inl (x ∙ v)
 status_answers false streams d maps status m c v (inr x) = inr (sym m ∙ x.0, x.2)
+
+-- an event that was due is put, or finds no room; a tick is none
+pub paid_fine : (old new : Lines) (d : Due) (what : Said) → IsPaid old d what new → IsFine old → IsFine new
+paid_fine old new d (said.Pos part position) x f = subst IsFine (sym x.2) f
+paid_fine old new d (said.Full part) x f = subst IsFine (sym x.1) f
+paid_fine old new d other x f = absurd x
+
+pub paid_same : (old a b : Lines) (d : Due) (what : Said) → IsPaid old d what a → IsPaid old d what b → a ≡ b
+paid_same old a b d (said.Pos part position) x y = x.2 ∙ sym y.2
+paid_same old a b d (said.Full part) x y = x.1 ∙ sym y.1
+paid_same old a b d other x y = absurd x
+
+pub none_paid : (old new : Lines) (d : Due) (e : Waiting) → IsPaid old d (said_of old.streams e) new → ⊥
+none_paid old new d (waiting.Tick part frames) x = x
 
 module _ (site : Site) where
   pub tells_fine : (old new : Lines) (told : Evidence) (what : Said) → Tells site old told what new → IsFine old → IsFine new
@@ -71,11 +86,12 @@ module _ (site : Site) where
         replied = λ y n status f. replied_fine y y.demand status f;
         tells = tells_fine;
         serves = λ old new e told what x f. subst IsFine (sym x.1) f;
-        pays = λ old new told what x f. absurd x;
+        pays = λ old new told what x f. paid_fine old new x.0 what x.2 f;
         tells_same = tells_same;
         serves_same = λ old a b e told what x y. x.1 ∙ sym y.1;
-        pays_same = λ old a b told what x y. absurd x;
-        apart = λ old a b e told what x y. y;
+        pays_same = λ old a b told what x y.
+            paid_same old a b x.0 what x.2 (subst (λ (d : Due). IsPaid old d what b) (same_Some y.0 x.0 (sym y.1 ∙ x.1)) y.2);
+        apart = λ old a b e told what x y. none_paid old b y.0 e (subst (λ (s : Said). IsPaid old y.0 s b) x.0 y.2);
         IsAccepted = HasAccepted;
         stays = stays;
         answers = answers;
@@ -95,4 +111,4 @@ module _ (site : Site) where
       by_rows : SaysBy table site x.old told (said.Denied why) x.taken x.new → (first : ℕ) × (mode : Mode) × walk.IsReason site.frames site.grants first mode f why
       by_rows (inl y) = (y.tells.params.gref_directory, mode_at x.old.service.streams y.tells.demand.part, y.tells.reason)
       by_rows (inr (inl y)) = absurd (no_denial x.old.service.streams y.event why y.serves.0)
-      by_rows (inr (inr y)) = absurd y.pays
+      by_rows (inr (inr y)) = absurd y.pays.2

@@ -89,7 +89,7 @@ sound_nature streams =
       table = sounds.table;
       shows = sounds.shows;
       first = sounds.first_known (kinds_in streams);
-      first_lines = record { streams = map closed (kinds_in streams); demand = None; denied = false };
+      first_lines = record { streams = map closed (kinds_in streams); demand = None; denied = false; due = None };
       HasAccepted = HasDemanded;
       denied = λ y. y.denied;
     }

@@ -46,7 +46,7 @@ use Rattle.backend_core.specs.Kinds.{AnswersAll, Continues, IsExplained, IsMachi
 use Rattle.backend_core.specs.Nature.{EndOf, WorkOf, events, first, first_snapshot, machine, nature_of, reading_of, rules, station, view}
 use Rattle.backend_core.proofs.Answers.{IsCalm, answers_then, bare_calm}
 use Rattle.backend_core.proofs.Going.{nothing_after}
-use Rattle.backend_core.proofs.Natures.{Keeping, keeping_of}
+use Rattle.backend_core.proofs.Natures.{keeping_of}
 
 -- how a device of a kind works, and where one stands
 abbrev Stood : DeviceKind → Type 0

@@ -1,5 +1,5 @@
 -- What is so of each kind of device: its service keeps its laws, and its rows settle the requests that it accepted.
-use Rattle.std.proofs.Common.{◌≡◌, ℕ, Bool, Some, refl, sym, ap}
+use Rattle.std.proofs.Common.{◌≡◌, ℕ, Bool, refl, ap}
 use Rattle.pv_words.specs.declared.device.Said.TheVariants as said
 use Rattle.pv_words.specs.declared.grant.GrantRefusal.{GrantRefusal}
 use Rattle.pv_words.specs.declared.setup.DeviceKind.{DeviceKind}

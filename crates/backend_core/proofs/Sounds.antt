@@ -15,7 +15,7 @@ use Rattle.sound_backend.specs.declared.course.Demand.{Demand}
 use Rattle.sound_backend.specs.declared.waiting.Due.{Due}
 use Rattle.sound_backend.specs.declared.waiting.Waiting.{Waiting}
 use Rattle.sound_backend.specs.declared.waiting.Waiting.TheVariants as waiting
-use Rattle.sound_backend.specs.Service.{IsPaid, Lines, Serves, Tells, replied_for, table}
+use Rattle.sound_backend.specs.Service.{IsPaid, Lines, Tells, replied_for, table}
 use Rattle.sound_backend.specs.Verdict.{IsStatus, is_opening, mode_at, verdict}
 use Rattle.sound_backend.specs.Waiting.{said_of}
 use Rattle.backend_core.specs.Answered.{IsAnswer}

@@ -1,12 +1,12 @@
 -- What a device's step adds to what it stands for, and where it begins.
-use Rattle.std.proofs.Common.{◌≡◌, ℕ, not, List, [], ◌∷◌, ◌++◌, length, Bool, Option, Some, None, refl, sym, subst, ◌∙◌, ap}
+use Rattle.std.proofs.Common.{◌≡◌, ℕ, not, List, [], ◌∷◌, ◌++◌, Bool, Option, Some, refl, sym, subst, ◌∙◌, ap}
 use Rattle.pv_words.specs.declared.access.Access.{Access}
 use Rattle.pv_words.specs.declared.device.Said.{Said}
 use Rattle.pv_words.specs.declared.setup.DeviceKind.{DeviceKind}
 use Rattle.pv_words.specs.declared.setup.DeviceKind.TheVariants as kind
 use Rattle.pv_words.specs.declared.setup.DeviceSetup.{DeviceSetup}
 use Rattle.pv_words.specs.Along.{after}
-use Rattle.device_core.specs.Order.{Own, Did, Rules, Stand, Between, Station, Steps, IsExplained, at_rest, at_stand, due_at, followed, next, steps_of}
+use Rattle.device_core.specs.Order.{Own, Did, Rules, Stand, Station, Steps, IsExplained, at_rest, at_stand, due_at, followed, steps_of}
 use Rattle.device_core.specs.Site.{Site}
 use Rattle.device_core.proofs.Stations.{steps_follow}
 use Rattle.device_service.specs.declared.backend.Backend.{Backend}

@@ -4,7 +4,8 @@ use std::test::Fail;
 
 // The ring page of device 2 is frame 0, of which it is to notify the frontend of reply 1, its event page frame 1, and frame 2 a page
 // directory that lists frame 3. It connects.
-const PAGES: &str = "put 1 0 1 1\nput 1 0 3 1\nput 1 2 1 3\nopen 1 0 0 rw 7\nnode 2 0 ring-ref 0\nnode 2 0 event-channel 1\n\
+const PAGES: &str =
+    "put 1 0 1 1\nput 1 0 3 1\nput 1 2 1 3\nopen 1 0 0 rw 7\nnode 2 0 ring-ref 0\nnode 2 0 event-channel 1\n\
                      node 2 0 evt-ring-ref 1\nnode 2 0 evt-event-channel 2\nbus 2 3\nserve 2\n";
 
 // The first request is an OPEN: 48000 frames in a second, of two samples of 16 bits; a buffer of one page, and a period of 4 octets.

@@ -2,7 +2,7 @@ ghost use Rattle.std.specs.Prelude.{◌≡◌, ◌≤◌};
 
 use super::*;
 use device_core::Step;
-use display_backend::Display;
+use display_backend::new_display;
 use pv_words::{
     DevId, DeviceKind, DeviceSetup, DomId, Frame, Half, HostEvent, HostRefusal, NodeValue, Place,
     Reason, Said, State, StreamKind, Streams, Words,
@@ -108,7 +108,7 @@ fn declared(alloc: Global, connectors: u8) -> Result<Box<Device>, AllocError>
     requires some { 1 ≤ connectors }
     requires few { connectors ≤ 4 }
 {
-    let display = Display::new(alloc, DevId(1), DomId(1), connectors)?;
+    let display = new_display(alloc, DevId(1), DomId(1), connectors)?;
     Ok(Box::new(alloc, Device::Display(display))?)
 }
 

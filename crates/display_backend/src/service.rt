@@ -57,11 +57,10 @@ impl Service {
     ghost use Rattle.display_backend.specs.declared.course.Course.TheVariants as course;
     ghost use Rattle.display_backend.specs.Course.{HasCreate};
     ghost use Rattle.display_backend.specs.Known.{known_of, going_of, left_of, is_of, held_of};
-    ghost use Rattle.display_backend.specs.Over.{BeginsCreate, GoesOn, HasCreateFor, HasCreateOf};
-    ghost use Rattle.display_backend.specs.Over.{WalksOn, create_walk};
-    ghost use Rattle.device_service.specs.Operating.{site_over};
-    ghost use Rattle.device_service.specs.Mapping.{walk_over};
-    ghost use Rattle.display_backend.specs.Service.{Freed, Listed, after_walk, nothing_known, says_at};
+    ghost use Rattle.display_backend.specs.Over.{BeginsCreate, HasCreateFor, HasCreateOf, create_walk};
+    ghost use Rattle.device_service.specs.Operating.{ContinuesBy, site_over};
+    ghost use Rattle.device_service.specs.Mapping.{WalksBy, walk_over};
+    ghost use Rattle.display_backend.specs.Service.{Freed, Listed, after_walk, display, nothing_known, says_at};
     ghost use Rattle.display_buffers.specs.Stock.{pages_under};
 
     /// The service of a display that isn't connected.
@@ -125,7 +124,7 @@ impl Service {
         requires creates { HasCreate self.old.hand (stock_of self.old.store).buffers (walk_count walk) }
         requires going { is_walked walk ≡ false }
         requires may { MayGo (W.may words.old) (walk_over W.Words words.old walk) }
-        ensures comes { WalksOn W.Words words.old self.old walk result self.new }
+        ensures comes { WalksBy display known_of left_of Listed W.Words words.old self.old walk result self.new }
         ensures made { Makes W.makes words.old result.access words.new }
         ensures stays { AccessIn (held_by walk) result.access }
         ensures going { going_of self.new ≡ is_going result.now }
@@ -237,7 +236,7 @@ impl Service {
     fn free<W: Words>(&mut self, words: &mut W, cookie: u64) -> Deed
         requires freeing { self.old.course ≡ course.Frees cookie }
         requires may { MayGo (W.may words.old) (unmaps (pages_under cookie (stock_of self.old.store).buffers) (Finished Freed)) }
-        ensures goes { (site : Site) → GoesOn site self.old result self.new }
+        ensures goes { (site : Site) → ContinuesBy display known_of left_of site self.old result self.new }
         ensures made { Makes W.makes words.old result.access words.new }
         ensures stays { (pages : List Hold) → AccessIn pages result.access }
         ensures going { going_of self.new ≡ is_going result.now }

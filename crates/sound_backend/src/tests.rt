@@ -1,5 +1,5 @@
 ghost use Rattle.std.specs.Prelude.{◌≡◌, true};
-ghost use Rattle.sound_backend.specs.Sound.{parts_of};
+ghost use Rattle.device_service.specs.Stand.{parts_of};
 ghost use Rattle.sound_backend.specs.Waiting.{is_for};
 
 use super::*;
@@ -190,7 +190,7 @@ fn connects(sound: &mut Sound, domain: &mut Domain) -> Option<Said> {
 
 // A sound device of one stream.
 fn one_stream(alloc: Global, kind: StreamKind) -> Result<Box<Sound>, AllocError> {
-    Ok(Box::new(alloc, Sound::new(alloc, DevId(2), DomId(1), &[kind])?)?)
+    Ok(Box::new(alloc, new_sound(alloc, DevId(2), DomId(1), &[kind])?)?)
 }
 
 const NOTHING: [u32; 10] = [0; 10];

@@ -26,6 +26,7 @@ use Rattle.device_core.proofs.Stations.{AreHeard, AreOthers, due_heard, heard_ma
 use Rattle.device_core.proofs.Telling.{told_all}
 use Rattle.device_service.specs.Reading.{told_of}
 use Rattle.device_service.specs.Rows.{Event}
+use Rattle.device_service.specs.Stand as stand
 use Rattle.device_service.specs.Truth.{IsSaidBy}
 use Rattle.device_service.specs.Work.{device}
 use Rattle.device_service.proofs.Claims.{services_keep, services_run}
@@ -33,11 +34,9 @@ use Rattle.device_service.proofs.Soundness.Work.{Lawful}
 use Rattle.device_service.proofs.Standing as standing
 use Rattle.device_service.proofs.Telling.{readings_tell}
 use Rattle.device_service.proofs.Truth.{closes_shown, services_tell_truly}
-use Rattle.display_backend.specs.Display as screen
 use Rattle.display_backend.specs.Service.{display}
 use Rattle.display_backend.specs.Waiting.{is_for}
 use Rattle.sound_backend.specs.Service.{sound}
-use Rattle.sound_backend.specs.Sound as sounds
 use Rattle.backend_core.specs.declared.device.Device.{Device}
 use Rattle.backend_core.specs.declared.device.Device.TheVariants.{Display, Sound}
 use Rattle.backend_core.specs.Device as backend
@@ -246,8 +245,8 @@ steps_any r (order.During w p) = goes_any p
 steps_any r (order.Telling t w o) = tt
 
 pub may_any : (site : Site) (d : Device) → MayMakeNext (λ want. Unit {0}) site d
-may_any site (Display d) = steps_any (device display site) (screen.stand_of site d)
-may_any site (Sound d) = steps_any (device sound site) (sounds.stand_of site d)
+may_any site (Display d) = steps_any (device display site) (stand.stand_of site d)
+may_any site (Sound d) = steps_any (device sound site) (stand.stand_of site d)
 
 -- what a device is tells its domain and its parts
 pub dom_of_one : (k : DeviceKind) (site : Site) (d : Device) (es : List Own) → StandsFor k site d es → backend.dom_of d ≡ site.dom

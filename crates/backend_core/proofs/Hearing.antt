@@ -10,11 +10,13 @@ use Rattle.host_events.specs.Queue.{refusal_in}
 use Rattle.device_core.specs.Order.{News, Sets, Hosts, Own, Heard, Refused, Rules, Stand, Station, IsExplained, at_stand, due_at, followed, next, refused_by, work_at}
 use Rattle.device_core.specs.Site.{Site}
 use Rattle.device_core.proofs.Stations.{due_heard}
+use Rattle.device_service.specs.declared.backend.Backend.{Backend}
+use Rattle.device_service.specs.declared.serve.Serve.{Ghosts}
+use Rattle.device_service.specs.Stand as backend
 use Rattle.device_service.specs.Work.{device, refused_at}
-use Rattle.display_backend.specs.Display as screen
+use Rattle.device_service.proofs.Hearing.{refuses_same}
 use Rattle.display_backend.specs.Service.{display}
 use Rattle.sound_backend.specs.Service.{sound}
-use Rattle.sound_backend.specs.Sound as sounds
 use Rattle.backend_core.specs.declared.device.Device.{Device}
 use Rattle.backend_core.specs.declared.device.Device.TheVariants.{Display, Sound}
 use Rattle.backend_core.specs.Device.{Adds, GoesOn, StandsAt, StandsFor, dom_of, hosted, parts_of}
@@ -28,16 +30,21 @@ StoodAt k = Stand (WorkOf (nature_of k)) (EndOf (nature_of k))
 abbrev Stood : DeviceKind → Type 0
 Stood k = Station (WorkOf (nature_of k)) (EndOf (nature_of k))
 
--- wherever a device is, it goes on from where it stands by this news; and its host's event is refused so
+module _ {S E : Type 0} {g : Ghosts S E} where
+  -- wherever a backend is, it goes on from where it stands by this news
+  abbrev HearsAt : Backend S E g → News → Backend S E g → Type 0
+  HearsAt old news new = (site : Site) → backend.stand_of site new ≡ next (device g.service site) (backend.stand_of site old) (Heard news)
+
+-- a device hears this news; and its host's event is refused so
 abbrev pub Hears : Device → News → Device → Type 0
-Hears (Display old) news (Display new) = screen.Hears old news new
-Hears (Sound old) news (Sound new) = sounds.Hears old news new
+Hears (Display old) news (Display new) = HearsAt old news new
+Hears (Sound old) news (Sound new) = HearsAt old news new
 Hears (Display old) news (Sound new) = ⊥
 Hears (Sound old) news (Display new) = ⊥
 
 abbrev pub Refuses : Device → HostEvent → Option HostRefusal → Type 0
-Refuses (Display d) e why = (site : Site) → why ≡ refused_at display (work_at (screen.stand_of site d)) e
-Refuses (Sound d) e why = (site : Site) → why ≡ refused_at sound (work_at (sounds.stand_of site d)) e
+Refuses (Display d) e why = why ≡ refused_at display (backend.work_of d) e
+Refuses (Sound d) e why = why ≡ refused_at sound (backend.work_of d) e
 
 hears_at : (k : DeviceKind) (site : Site) (old new : Device) (news : News) (p : StoodAt k) → Hears old news new → StandsAt k site old p → StandsAt k site new (next (rules (nature_of k) site) p (Heard news))
 hears_at (kind.Display n) site (Display old) (Display new) news p h s = h site ∙ ap (λ x. next (device display site) x (Heard news)) s
@@ -48,8 +55,8 @@ hears_at (kind.Display n) site (Display old) (Sound new) news p h s = absurd h
 hears_at (kind.Sound streams) site (Sound old) (Display new) news p h s = absurd h
 
 refuses_at : (k : DeviceKind) (site : Site) (d : Device) (e : HostEvent) (why : Option HostRefusal) (p : StoodAt k) → Refuses d e why → StandsAt k site d p → refused_by (rules (nature_of k) site) (work_at p) (Hosts e) ≡ why
-refuses_at (kind.Display n) site (Display d) e why p r s = sym (r site ∙ ap (λ x. refused_at display (work_at x) e) s)
-refuses_at (kind.Sound streams) site (Sound d) e why p r s = sym (r site ∙ ap (λ x. refused_at sound (work_at x) e) s)
+refuses_at (kind.Display n) site (Display d) e why p r s = sym (r ∙ (sym (refuses_same site d e) ∙ ap (λ x. refused_at display (work_at x) e) s))
+refuses_at (kind.Sound streams) site (Sound d) e why p r s = sym (r ∙ (sym (refuses_same site d e) ∙ ap (λ x. refused_at sound (work_at x) e) s))
 refuses_at (kind.Display n) site (Sound d) e why p r s = absurd s
 refuses_at (kind.Sound streams) site (Display d) e why p r s = absurd s
 

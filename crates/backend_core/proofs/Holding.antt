@@ -53,19 +53,19 @@ module _ {S E : Type 0} {g : Ghosts S E} (frames grants : ℕ → ℕ) (dom part
 abbrev Holding : Device → (Holds → Type 0) → Type 0
 Holding (Display d) P =
     (frames grants : ℕ → ℕ) (x : screen.Known) (es : List Own)
-    → held.StandsBy frames grants d.backend x es → P (holds_by screen.display frames (backend.site_at frames grants d.backend) x es)
+    → held.StandsBy frames grants d x es → P (holds_by screen.display frames (backend.site_at frames grants d) x es)
 Holding (Sound d) P =
     (frames grants : ℕ → ℕ) (x : sounds.Known) (es : List Own)
-    → held.StandsBy frames grants d.backend x es → P (holds_by sounds.sound frames (backend.site_at frames grants d.backend) x es)
+    → held.StandsBy frames grants d x es → P (holds_by sounds.sound frames (backend.site_at frames grants d) x es)
 
 module _ (P : Holds → Type 0) (frames grants : ℕ → ℕ) (dom : ℕ) (es : List Own) where
   holds_so : (k : DeviceKind) (d : Device) → Holding d P → StandsFor k (site_as frames grants dom k) d es → IsExplained k (site_as frames grants dom k) es → P (holds_as frames grants dom k es)
   holds_so (kind.Display n) (Display d) f s x =
       let first = (nature_of (kind.Display n)).first in
-      at_its_site frames grants dom n d.backend first es (λ site. P (holds_by screen.display frames site first es)) (f frames grants first es) s.dom_is s.parts_are ((keeping_of (kind.Display n)).fresh, x, s.stands)
+      at_its_site frames grants dom n d first es (λ site. P (holds_by screen.display frames site first es)) (f frames grants first es) s.dom_is s.parts_are ((keeping_of (kind.Display n)).fresh, x, s.stands)
   holds_so (kind.Sound streams) (Sound d) f s x =
       let first = (nature_of (kind.Sound streams)).first in
-      at_its_site frames grants dom (parts_of (kind.Sound streams)) d.backend first es (λ site. P (holds_by sounds.sound frames site first es)) (f frames grants first es) s.dom_is s.parts_are ((keeping_of (kind.Sound streams)).fresh, x, s.stands)
+      at_its_site frames grants dom (parts_of (kind.Sound streams)) d first es (λ site. P (holds_by sounds.sound frames site first es)) (f frames grants first es) s.dom_is s.parts_are ((keeping_of (kind.Sound streams)).fresh, x, s.stands)
   holds_so (kind.Display n) (Sound d) f s x = absurd s.stands
   holds_so (kind.Sound streams) (Display d) f s x = absurd s.stands
 

@@ -5,22 +5,20 @@ use Rattle.pv_words.specs.declared.device.Said.{Said}
 use Rattle.pv_words.specs.declared.setup.DeviceKind.{DeviceKind}
 use Rattle.pv_words.specs.declared.setup.DeviceKind.TheVariants as kind
 use Rattle.pv_words.specs.declared.setup.DeviceSetup.{DeviceSetup}
-use Rattle.pv_words.specs.declared.streams.Streams.{Streams}
 use Rattle.pv_words.specs.Along.{after}
-use Rattle.pv_words.specs.Streams.{kinds_in}
 use Rattle.device_core.specs.Order.{Own, Did, Rules, Stand, Between, Station, Steps, IsExplained, at_rest, at_stand, due_at, followed, next, steps_of}
 use Rattle.device_core.specs.Site.{Site}
 use Rattle.device_core.proofs.Stations.{steps_follow}
-use Rattle.device_service.specs.Work.{device, first_work}
-use Rattle.display_backend.specs.declared.display.Display.{Display as Screen}
-use Rattle.display_backend.specs.Display as screen
-use Rattle.display_backend.specs.Service.{display, nothing_known}
-use Rattle.sound_backend.specs.declared.sound.Sound.{Sound as Tones}
-use Rattle.sound_backend.specs.Service.{first_known, sound}
-use Rattle.sound_backend.specs.Sound as sounds
+use Rattle.device_service.specs.declared.backend.Backend.{Backend}
+use Rattle.device_service.specs.declared.serve.Serve.{Ghosts}
+use Rattle.device_service.specs.Stand as backend
+use Rattle.device_service.specs.Work.{device}
+use Rattle.display_backend.specs.Service.{display}
+use Rattle.sound_backend.specs.Service.{sound}
 use Rattle.backend_core.specs.declared.device.Device.{Device}
 use Rattle.backend_core.specs.declared.device.Device.TheVariants.{Display, Sound}
 use Rattle.backend_core.specs.Device.{AddsAt, GoesOn, IsDue, IsFresh, RidesAt, StandsAt, StandsFor, dom_of, parts_of}
+use Rattle.backend_core.specs.Kinds as kinds
 use Rattle.backend_core.specs.Kinds.{Continues, IsSettled, due_after}
 use Rattle.backend_core.specs.Nature.{EndOf, WorkOf, nature_of, rules, station}
 use Rattle.backend_core.proofs.EachKind.{rides_after, site_as, station_more, station_settled}
@@ -31,16 +29,21 @@ StoodAt k = Stand (WorkOf (nature_of k)) (EndOf (nature_of k))
 abbrev Stood : DeviceKind → Type 0
 Stood k = Station (WorkOf (nature_of k)) (EndOf (nature_of k))
 
+module _ {S E : Type 0} {g : Ghosts S E} where
+  -- whether something comes next, wherever a backend is
+  abbrev IsDueAt : Backend S E g → Bool → Type 0
+  IsDueAt d due = (site : Site) → site.parts ≡ backend.parts_of d → due ≡ not (at_rest (device g.service site) (backend.stand_of site d))
+
 -- a device of a kind makes this step, and whether something is left to be done
 abbrev pub StepsAt : Site → Device → Option Access → Option Said → Device → Type 0
-StepsAt site (Display old) access said (Display new) = Steps (device display site) (screen.stand_of site old) access said (screen.stand_of site new)
-StepsAt site (Sound old) access said (Sound new) = Steps (device sound site) (sounds.stand_of site old) access said (sounds.stand_of site new)
+StepsAt site (Display old) access said (Display new) = backend.StepsAt site old access said new
+StepsAt site (Sound old) access said (Sound new) = backend.StepsAt site old access said new
 StepsAt site (Display old) access said (Sound new) = ⊥
 StepsAt site (Sound old) access said (Display new) = ⊥
 
 abbrev pub HasMore : Device → Bool → Type 0
-HasMore (Display d) more = screen.IsDue d more
-HasMore (Sound d) more = sounds.IsDue d more
+HasMore (Display d) more = IsDueAt d more
+HasMore (Sound d) more = IsDueAt d more
 
 -- the stand of its kind that it has
 pub record Stepped (k : DeviceKind) (site : Site) (p : StoodAt k) (access : Option Access) (said : Option Said) (new : Device) : Type 0 where
@@ -50,9 +53,9 @@ pub record Stepped (k : DeviceKind) (site : Site) (p : StoodAt k) (access : Opti
 
 steps_at : (k : DeviceKind) (site : Site) (old new : Device) (access : Option Access) (said : Option Said) (p : StoodAt k) → StepsAt site old access said new → StandsAt k site old p → Stepped k site p access said new
 steps_at (kind.Display n) site (Display old) (Display new) access said p x s =
-    record { stand = screen.stand_of site new; is = refl; steps = subst (λ y. Steps (device display site) y access said (screen.stand_of site new)) s x }
+    record { stand = backend.stand_of site new; is = refl; steps = subst (λ y. Steps (device display site) y access said (backend.stand_of site new)) s x }
 steps_at (kind.Sound streams) site (Sound old) (Sound new) access said p x s =
-    record { stand = sounds.stand_of site new; is = refl; steps = subst (λ y. Steps (device sound site) y access said (sounds.stand_of site new)) s x }
+    record { stand = backend.stand_of site new; is = refl; steps = subst (λ y. Steps (device sound site) y access said (backend.stand_of site new)) s x }
 steps_at (kind.Display n) site (Sound old) new access said p x s = absurd s
 steps_at (kind.Sound streams) site (Display old) new access said p x s = absurd s
 steps_at (kind.Display n) site (Display old) (Sound new) access said p x s = absurd x
@@ -125,10 +128,6 @@ device_due self d is due x =
 abbrev IsNew : DeviceSetup → DeviceKind → Device → Type 0
 IsNew setup k d = (frames grants : ℕ → ℕ) → StandsFor k (site_as frames grants setup.dom.0 k) d []
 
-pub display_fresh : (setup : DeviceSetup) (connectors : ℕ) (d : Screen) → setup.kind ≡ kind.Display connectors → ((site : Site) → screen.stand_of site d ≡ Between (first_work nothing_known)) → screen.dom_of d ≡ setup.dom.0 → screen.parts_of d ≡ connectors → IsFresh setup (Display d)
-display_fresh setup connectors d is begins dom parts =
-    subst (λ k. IsNew setup k (Display d)) (sym is) (λ frames grants. record { dom_is = dom; parts_are = parts; declared = refl; stands = begins _ })
-
-pub sound_fresh : (setup : DeviceSetup) (streams : Streams) (d : Tones) → setup.kind ≡ kind.Sound streams → ((site : Site) → sounds.stand_of site d ≡ Between (first_work (first_known (kinds_in streams)))) → sounds.dom_of d ≡ setup.dom.0 → sounds.parts_of d ≡ length (kinds_in streams) → IsFresh setup (Sound d)
-sound_fresh setup streams d is begins dom parts =
-    subst (λ k. IsNew setup k (Sound d)) (sym is) (λ frames grants. record { dom_is = dom; parts_are = parts; declared = refl; stands = begins _ })
+pub fresh : (setup : DeviceSetup) (k : DeviceKind) (d : Device) → setup.kind ≡ k → ((site : Site) → StandsAt k site d (station (nature_of k) site []).stand) → dom_of d ≡ setup.dom.0 → parts_of d ≡ kinds.parts_of k → IsFresh setup d
+fresh setup k d is begins dom parts =
+    subst (λ j. IsNew setup j d) (sym is) (λ frames grants. record { dom_is = dom; parts_are = parts; declared = refl; stands = begins _ })

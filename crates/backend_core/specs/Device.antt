@@ -12,9 +12,8 @@ use Rattle.pv_words.specs.declared.words.Words.{Ghosts as Words}
 use Rattle.pv_words.specs.Plan.{Want}
 use Rattle.device_core.specs.Order.{Own, Did, Heard, Hosts, Refused, Stand}
 use Rattle.device_core.specs.Site.{Site}
-use Rattle.display_backend.specs.Display as screen
+use Rattle.device_service.specs.Stand as backend
 use Rattle.display_backend.specs.Waiting.{is_for}
-use Rattle.sound_backend.specs.Sound as sounds
 use Rattle.backend_core.specs.declared.device.Device.{Device}
 use Rattle.backend_core.specs.declared.device.Device.TheVariants.{Display, Sound}
 use Rattle.backend_core.specs.History.{site_of as site_of_setup}
@@ -24,18 +23,18 @@ use Rattle.backend_core.specs.Nature.{EndOf, WorkOf, nature_of, station}
 
 -- its number
 abbrev pub dev_of : Device → ℕ
-dev_of (Display d) = screen.dev_of d
-dev_of (Sound d) = sounds.dev_of d
+dev_of (Display d) = backend.dev_of d
+dev_of (Sound d) = backend.dev_of d
 
 -- the domain that it serves
 abbrev pub dom_of : Device → ℕ
-dom_of (Display d) = screen.dom_of d
-dom_of (Sound d) = sounds.dom_of d
+dom_of (Display d) = backend.dom_of d
+dom_of (Sound d) = backend.dom_of d
 
 -- how many parts it has
 abbrev pub parts_of : Device → ℕ
-parts_of (Display d) = screen.parts_of d
-parts_of (Sound d) = sounds.parts_of d
+parts_of (Display d) = backend.parts_of d
+parts_of (Sound d) = backend.parts_of d
 
 -- the device over these numbers of frames and grant entries
 abbrev pub site_of : (frames grants : ℕ → ℕ) → Device → Site
@@ -48,18 +47,18 @@ site_over m words d = site_of (m.frames_of words) (m.grants_of words) d
 
 -- all pages that it holds
 abbrev pub held_of : Device → List Hold
-held_of (Display d) = screen.held_of d
-held_of (Sound d) = sounds.held_of d
+held_of (Display d) = backend.held_of d
+held_of (Sound d) = backend.held_of d
 
 -- the event is one of the device's kind, and the device has its part
 abbrev pub fits_to : Device → HostEvent → Bool
-fits_to (Display d) e = is_for (screen.parts_of d) e
-fits_to (Sound d) e = sound_takes (sounds.parts_of d) e
+fits_to (Display d) e = is_for (backend.parts_of d) e
+fits_to (Sound d) e = sound_takes (backend.parts_of d) e
 
 -- a device of this kind is at this place of its order of work
 abbrev pub StandsAt : (k : DeviceKind) → Site → Device → Stand (WorkOf (nature_of k)) (EndOf (nature_of k)) → Type 0
-StandsAt (kind.Display connectors) site (Display d) s = screen.stand_of site d ≡ s
-StandsAt (kind.Sound streams) site (Sound d) s = sounds.stand_of site d ≡ s
+StandsAt (kind.Display connectors) site (Display d) s = backend.stand_of site d ≡ s
+StandsAt (kind.Sound streams) site (Sound d) s = backend.stand_of site d ≡ s
 StandsAt (kind.Display connectors) site (Sound d) s = ⊥
 StandsAt (kind.Sound streams) site (Display d) s = ⊥
 
@@ -72,8 +71,8 @@ pub record StandsFor (k : DeviceKind) (site : Site) (d : Device) (es : List Own)
 
 -- its next access may be made through a port
 abbrev pub MayMakeNext : (Want → Type 0) → Site → Device → Type 0
-MayMakeNext may site (Display d) = screen.MayStepAt may site d
-MayMakeNext may site (Sound d) = sounds.MayStepAt may site d
+MayMakeNext may site (Display d) = backend.MayStepAt may site d
+MayMakeNext may site (Sound d) = backend.MayStepAt may site d
 
 -- a device as it is declared: it stands for nothing yet, however many frames and grant entries its domain has
 abbrev pub IsFresh : DeviceSetup → Device → Type 0

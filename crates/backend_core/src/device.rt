@@ -3,11 +3,11 @@
 ghost use Rattle.std.specs.Prelude.{◌≡◌, ◌<◌, ◌≤◌, [], ◌∷◌, IfOk, OnErr, true, length, slice_get, Some};
 
 use device_core::Step;
-use display_backend::Display;
+use display_backend::{Display, new_display};
 use pv_words::{
     DevId, DeviceKind, DeviceSetup, DomId, Hold, HostEvent, HostRefusal, State, Streams, Words,
 };
-use sound_backend::Sound;
+use sound_backend::{Sound, new_sound};
 use std::alloc::{AllocError, Global};
 use xenbus_states::Nodes;
 
@@ -28,26 +28,21 @@ ghost use Rattle.device_core.specs.Order.{Between};
 ghost use Rattle.device_core.specs.Site.{Site};
 ghost use Rattle.device_service.specs.Work.{first_work};
 ghost use Rattle.sound_backend.specs.Service.{first_known};
-ghost use Rattle.sound_backend.specs.Sound as sounds;
+ghost use Rattle.device_service.specs.Stand as stand;
 
 // A sound device with these streams.
 fn sound_with(alloc: Global, dev: DevId, dom: DomId, streams: Streams) -> Result<Sound, AllocError>
-    ensures between { IfOk result (λ d. (site : Site) → sounds.stand_of site d ≡ Between (first_work (first_known (kinds_in streams)))) }
-    ensures dom { IfOk result (λ d. sounds.dom_of d ≡ dom.0) }
-    ensures parts { IfOk result (λ d. sounds.parts_of d ≡ length (kinds_in streams)) }
-    ensures bare { IfOk result (λ d. sounds.held_of d ≡ []) }
+    ensures between { IfOk result (λ d. (site : Site) → stand.stand_of site d ≡ Between (first_work (first_known (kinds_in streams)))) }
+    ensures dom { IfOk result (λ d. stand.dom_of d ≡ dom.0) }
+    ensures parts { IfOk result (λ d. stand.parts_of d ≡ length (kinds_in streams)) }
+    ensures bare { IfOk result (λ d. stand.held_of d ≡ []) }
 {
     match streams {
-        Streams::One(first) => Sound::new(alloc, dev, dom, &[first]),
-        Streams::Two(first, second) => Sound::new(alloc, dev, dom, &[first, second]),
-        Streams::Three(first, second, third) => Sound::new(
-            alloc,
-            dev,
-            dom,
-            &[first, second, third],
-        ),
+        Streams::One(first) => new_sound(alloc, dev, dom, &[first]),
+        Streams::Two(first, second) => new_sound(alloc, dev, dom, &[first, second]),
+        Streams::Three(first, second, third) => new_sound(alloc, dev, dom, &[first, second, third]),
         Streams::Four(first, second, third, fourth) => {
-            Sound::new(alloc, dev, dom, &[first, second, third, fourth])
+            new_sound(alloc, dev, dom, &[first, second, third, fourth])
         }
     }
 }
@@ -62,7 +57,7 @@ impl Device {
     {
         match &setup.kind {
             DeviceKind::Display(connectors) => {
-                let display = Display::new(alloc, setup.dev, setup.dom, *connectors)?;
+                let display = new_display(alloc, setup.dev, setup.dom, *connectors)?;
                 Ok(Device::Display(display))
             }
             DeviceKind::Sound(streams) => {

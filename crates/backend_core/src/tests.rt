@@ -2,7 +2,7 @@ ghost use Rattle.std.specs.Prelude.{◌≡◌, ◌≤◌};
 
 use super::*;
 use device_core::Step;
-use display_backend::Display;
+use display_backend::new_display;
 use pv_words::{
     DevId, DeviceKind, DeviceSetup, DomId, Frame, Half, HostEvent, HostRefusal, NodeValue, Place,
     Reason, Said, State, StreamKind, Streams, Words,
@@ -15,7 +15,7 @@ use xenbus_states::Nodes;
 // and each slot has these words; all other words of frames are 0.
 #[derive(Clone, Copy)]
 struct Domain {
-    asked: u32,
+    asked: u16,
     slot: [u32; 16],
 }
 
@@ -53,7 +53,7 @@ impl Words for Domain {
         match at {
             Place::Grant(_, _, Half::Flags) => 1,
             Place::Grant(_, gref, Half::FrameNo) => gref.0,
-            Place::Cell(_, Frame(0), 0) => self.asked,
+            Place::Cell(_, Frame(0), 0) => u32::from(self.asked),
             Place::Cell(_, Frame(0), word) if word >= 16 => {
                 self.slot.get(usize::from(word) % 16).copied().unwrap_or(0)
             }
@@ -108,7 +108,7 @@ fn declared(alloc: Global, connectors: u8) -> Result<Box<Device>, AllocError>
     requires some { 1 ≤ connectors }
     requires few { connectors ≤ 4 }
 {
-    let display = Display::new(alloc, DevId(1), DomId(1), connectors)?;
+    let display = new_display(alloc, DevId(1), DomId(1), connectors)?;
     Ok(Box::new(alloc, Device::Display(display))?)
 }
 
@@ -209,11 +209,11 @@ fn a_closed_connection_takes_its_events_away(rt: HostRuntime) -> Result<(), Fail
 // Whether the device answers a request of its part 0 by status 0: one of this operation, with these words behind word 1.
 fn accepts(device: &mut Device, words: &mut Domain, op: u32, body: [u32; 5]) -> bool {
     let [first, second, third, fourth, fifth] = body;
-    let head = op.wrapping_mul(65536).wrapping_add(words.asked);
+    let head = op.wrapping_mul(65536).wrapping_add(u32::from(words.asked));
     words.slot = [
         head, 0, first, second, third, fourth, fifth, 0, 0, 0, 0, 0, 0, 0, 0, 0,
     ];
-    let id = words.asked as u16;
+    let id = words.asked;
     words.asked = words.asked.wrapping_add(1);
     steps_to(device, words, Said::Replied(0, id, 0, false))
 }

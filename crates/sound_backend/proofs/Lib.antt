@@ -1,5 +1,5 @@
 mod HeldThroughout
-mod Hosts
+pub mod Hosts
 pub mod Keeps
 mod Declared
 mod Lists

@@ -49,10 +49,10 @@ impl Service {
     ghost use Rattle.sound_backend.specs.Course.{HasOpen};
     ghost use Rattle.sound_backend.specs.Held.{list_at};
     ghost use Rattle.sound_backend.specs.Known.{known_of, going_of, left_of, is_of, held_of};
-    ghost use Rattle.sound_backend.specs.Over.{BeginsOpen, GoesOn, OpensBy, WalksOn, walk_for};
-    ghost use Rattle.device_service.specs.Operating.{site_over};
-    ghost use Rattle.device_service.specs.Mapping.{walk_over};
-    ghost use Rattle.sound_backend.specs.Service.{Freed, after_walk, first_known, sound};
+    ghost use Rattle.sound_backend.specs.Over.{BeginsOpen, OpensBy, walk_for};
+    ghost use Rattle.device_service.specs.Operating.{ContinuesBy, site_over};
+    ghost use Rattle.device_service.specs.Mapping.{WalksBy, walk_over};
+    ghost use Rattle.sound_backend.specs.Service.{Freed, Listed, after_walk, first_known, sound};
     ghost use Rattle.device_service.specs.Mapping.{denied_by};
     ghost use Rattle.sound_backend.specs.Verdict.{verdict};
     ghost use Rattle.page_directory.specs.Progress.{status_in};
@@ -134,7 +134,7 @@ impl Service {
         requires opens { HasOpen self.old.hand (queue_of self.old.store) }
         requires going { is_walked walk ≡ false }
         requires may { MayGo (W.may words.old) (walk_over W.Words words.old walk) }
-        ensures comes { WalksOn W.Words words.old self.old walk result self.new }
+        ensures comes { WalksBy sound known_of left_of Listed W.Words words.old self.old walk result self.new }
         ensures made { Makes W.makes words.old result.access words.new }
         ensures stays { AccessIn (held_by walk) result.access }
         ensures going { going_of self.new ≡ is_going result.now }
@@ -184,7 +184,7 @@ impl Service {
     fn free<W: Words>(&mut self, words: &mut W, part: u8) -> Deed
         requires freeing { self.old.course ≡ course.Frees part }
         requires may { MayGo (W.may words.old) (unmaps (list_at (stock_of self.old.store).held part) (Finished Freed)) }
-        ensures goes { (site : Site) → GoesOn site self.old result self.new }
+        ensures goes { (site : Site) → ContinuesBy sound known_of left_of site self.old result self.new }
         ensures made { Makes W.makes words.old result.access words.new }
         ensures stays { (pages : List Hold) → AccessIn pages result.access }
         ensures going { going_of self.new ≡ is_going result.now }

@@ -50,6 +50,11 @@ pub unmap_lies : (hs left : List Hold) (a : Access) → Drops hs a left → (pag
 unmap_lies [] left a d pages = absurd d
 unmap_lies (h ∷ hs) left a d pages = in_unmap pages (Some a) a h refl d.0
 
+-- the first of these pages is given up, of which those of the service are the same
+pub drops_same : {K : Type 0} (pages : K → List Hold) (s t u v : K) (a : Access) → u ≡ s → v ≡ t → Drops (pages s) a (pages t) → Drops (pages u) a (pages v)
+drops_same pages s t u v a e f d =
+    subst (λ x. Drops (pages x) a (pages v)) (sym e) (subst (λ x. Drops (pages s) a (pages x)) (sym f) d)
+
 module _ {X A V : Type 0} (s : Service X A V) where
   -- the activity isn't over, and goes on by an access
   pub comes_further : {B : Type 0} (f : B → A) (x : X) (p : Plan B) (access : Option Access) (now : Now) (told : Option Said) (y : X) (left : Plan A) → IsUnfinished p → Comes s x (mapped f p) access now told y left → Continues s x (mapped f p) access now told y left

@@ -4,7 +4,7 @@ ghost use Rattle.pcm_stream.specs.Stream.{room};
 use super::*;
 use pcm_stream::{Stream, queue};
 use pv_words::{DomId, Frame, GrantRef, Hold, Mode, PageList, Place, StreamKind, Words};
-use snd_wire::Params;
+use pcm_params::Params;
 use std::alloc::{AllocError, Global};
 use std::test::Fail;
 

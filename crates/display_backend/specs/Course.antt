@@ -1,7 +1,7 @@
 -- What a display's service is at, and what that says of the request in hand.
 use Rattle.std.specs.Prelude.{◌≡◌, ℕ, ◌<◌, ◌==◌, Bool, true, false, List, [], length, Option, Some, None, Ok}
 use Rattle.pv_words.specs.declared.grant.Hold.{Hold}
-use Rattle.pv_words.specs.Plan.{Plan, Finished, mapped}
+use Rattle.pv_words.specs.Plan.{Plan, Finished, MayGo, Want, mapped}
 use Rattle.displ_wire.specs.declared.Asked.{Asked}
 use Rattle.displ_wire.specs.declared.Asked.TheVariants as asked
 use Rattle.displ_wire.specs.declared.Request.{Request}
@@ -54,6 +54,11 @@ stock_at (Reads r) s = s
 -- what is left of the reading of a picture, in the pages of the buffer at its place
 abbrev pub scan_left : List Held → Reading → Plan Shown
 scan_left bs r = scan.left_of (pages_at bs r.place) r.scan
+
+-- a picture is read, and its next load may be made
+abbrev pub ReadsPicture : (may : Want → Type 0) → List Held → Course → Type 0
+ReadsPicture may bs (Reads r) = MayGo may (scan_left bs r)
+ReadsPicture may bs course = ⊥
 
 abbrev pub reading_left : List Held → Reading → Plan Ending
 reading_left bs r = mapped (Pictured r.part) (scan_left bs r)

@@ -4,6 +4,7 @@ pub mod Keeps
 mod Declared
 mod Lists
 mod Names
+pub mod Ports
 mod Raised
 mod Serviced
 pub mod Streams

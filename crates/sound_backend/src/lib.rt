@@ -15,3 +15,6 @@ pub use laws::{
 };
 pub use service::Service;
 pub use sound::{Sound, new_sound};
+
+#[cfg(test)]
+mod tests;

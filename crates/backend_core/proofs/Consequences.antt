@@ -7,8 +7,8 @@ use Rattle.backend_core.specs.History.{AfterGoneIn, AnswersIn, InOrderIn, IsExpl
 use Rattle.backend_core.specs.Laws.{FlipsAreInOrder, FrontsAreHistories, HistoriesAreRuns, ListingSuffices, NothingComesAfterGone, ReadingsTellAll, RefusalsAreShown, PicturesAreNamed}
 use Rattle.backend_core.specs.Marked.{own}
 use Rattle.backend_core.proofs.Histories.{all_weaker, history_front, prompt_front}
-use Rattle.backend_core.proofs.EachKind.{answers, keeps, next_may, runs, tells, truly, names_shown}
-use Rattle.backend_core.proofs.Outcomes.{flips_in_order, nothing_after_gone}
+use Rattle.backend_core.proofs.EachKind.{answers, keeps, next_may, nothing_after_gone, runs, tells, truly}
+use Rattle.backend_core.proofs.Outcomes.{flips_in_order, names_shown}
 use Rattle.backend_core.proofs.Truth.{own_true}
 
 pub histories_are_runs : HistoriesAreRuns

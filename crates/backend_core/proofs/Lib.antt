@@ -10,7 +10,10 @@ pub mod Histories
 mod Holding
 pub mod Items
 pub mod OneNext
+mod Natures
 mod Outcomes
 mod Pending
 mod Pictures
+mod Sounds
+mod Stepping
 mod Truth

@@ -1,26 +1,29 @@
--- What follows from a device's run of its machine, by its kind.
-use Rattle.std.proofs.Common.{ℕ, List, refl}
+-- What follows from a display's run of its machine; no other device has flips, or tells pictures.
+use Rattle.std.proofs.Common.{ℕ, List}
 use Rattle.pv_words.specs.declared.setup.DeviceKind.{DeviceKind}
 use Rattle.pv_words.specs.declared.setup.DeviceKind.TheVariants as kind
 use Rattle.pv_words.specs.Memory.{zeros}
 use Rattle.device_core.specs.Machine.{AreTrueTo}
 use Rattle.device_core.specs.Names.{Words}
 use Rattle.device_core.specs.Order.{Own}
-use Rattle.display_backend.specs.Service.{table}
-use Rattle.backend_core.specs.Kinds.{FlipsAreInOrder, IsExplained, NothingAfterGone, display_events, first_snapshot}
-use Rattle.backend_core.proofs.EachKind.{runs, site_as}
-use Rattle.backend_core.proofs.Pictures.{display_flips}
-use Rattle.backend_core.proofs.Going.{nothing_after}
+use Rattle.backend_core.specs.Kinds.{FlipsAreInOrder, IsExplained, ShowsNamed}
+use Rattle.backend_core.specs.Nature.{display_nature, events}
+use Rattle.backend_core.proofs.Drawn.{display_takes}
+use Rattle.backend_core.proofs.EachKind.{run_of, site_as}
+use Rattle.backend_core.proofs.Pictures.{display_flips, display_names}
 
 module _ (frames grants : ℕ → ℕ) (dom : ℕ) where
   pub flips_in_order : (k : DeviceKind) (es : List Own) → IsExplained k (site_as frames grants dom k) es → AreTrueTo (Words zeros) es → FlipsAreInOrder k (site_as frames grants dom k) es
   flips_in_order (kind.Display n) es x true_to =
       let site = site_as frames grants dom (kind.Display n) in
-      let run = runs frames grants dom (kind.Display n) es x true_to in
-      display_flips site (display_events site es) run.0 run.1
+      let run = run_of frames grants dom (kind.Display n) es x true_to in
+      display_flips site (events display_nature site es) run.0 run.1
+  flips_in_order (kind.Sound streams) es x true_to = tt
 
-  pub nothing_after_gone : (k : DeviceKind) (es : List Own) → IsExplained k (site_as frames grants dom k) es → AreTrueTo (Words zeros) es → NothingAfterGone k (site_as frames grants dom k) es
-  nothing_after_gone (kind.Display n) es x true_to =
+  pub names_shown : (k : DeviceKind) (es : List Own) → IsExplained k (site_as frames grants dom k) es → AreTrueTo (Words zeros) es → ShowsNamed k (site_as frames grants dom k) es
+  names_shown (kind.Display n) es x true_to =
       let site = site_as frames grants dom (kind.Display n) in
-      let run = runs frames grants dom (kind.Display n) es x true_to in
-      nothing_after table site first_snapshot run.0 (display_events site es) refl run.1
+      let run = run_of frames grants dom (kind.Display n) es x true_to in
+      let happened = events display_nature site es in
+      (display_names site happened run.0 run.1, display_takes site happened run.0 run.1)
+  names_shown (kind.Sound streams) es x true_to = tt

@@ -28,10 +28,11 @@ use Rattle.display_backend.specs.declared.waiting.Waiting.TheVariants as waiting
 use Rattle.display_backend.specs.Picture.{AreShown, number_under, source_at, source_by, source_in, source_of}
 use Rattle.display_backend.specs.Scene.{LiesInLive, Scene, after_blank_at, connector_at, live_among}
 use Rattle.display_backend.specs.Service.{Lines, Serves, Tells, replied_for, table}
-use Rattle.display_backend.specs.Verdict.{IsStatus, is_accepted, verdict}
-use Rattle.display_backend.proofs.Numbered.{accepted_is}
+use Rattle.display_backend.specs.Verdict.{IsStatus, verdict}
+use Rattle.page_directory.specs.Progress.{is_accepted}
+use Rattle.page_directory.proofs.Ready.{accepted_is}
 use Rattle.display_backend.proofs.Scenes.{connector_sound}
-use Rattle.backend_core.specs.Kinds.{first_snapshot, machine}
+use Rattle.backend_core.specs.Nature.{display_nature, first_snapshot, machine}
 use Rattle.backend_core.specs.Flips.{FlipsKeepOrder}
 use Rattle.backend_core.specs.Pictures.{Asking, Change, IsPictureOf, IsShownAt, IsShownOf, Making, Past, ShowsNamed, answered_after, event_after, made, named, no_past, past_next, past_of, rectangle_at, said_after, shape_in}
 use Rattle.backend_core.proofs.Answers.{false_true, none_some, run_parts}
@@ -148,7 +149,7 @@ module _ (site : Site) where
   past_with : (p : Past) (r : Rows Lines Waiting) (ts : List Touch) → IsPast p r → IsPast (record p { touched = ts }) r
   past_with p r ts was = record { replies = was.replies; told = record { hand = was.told.hand; are = was.told.are } }
 
-  pub happens_now : (p : Past) (m k : Snapshot (Rows Lines Waiting)) (e : Happening Event) → HappensTo true (machine site) m e k → IsNow p m → IsNow (past_next p e) k
+  pub happens_now : (p : Past) (m k : Snapshot (Rows Lines Waiting)) (e : Happening Event) → HappensTo true (machine display_nature site) m e k → IsNow p m → IsNow (past_next p e) k
   happens_now p m k (Row e words) x now =
       record { rows = past_with (event_after p e) k.rows [] (moves_past p m.rows k.rows m.touched e x.move now.rows); touched = sym x.touched }
   happens_now p m k (Meanwhile e) x now =
@@ -167,10 +168,10 @@ module _ (site : Site) where
   happens_now p m k (Draw w) x now = record { rows = subst (λ r. IsPast p r) (sym x.0.rows) now.rows; touched = now.touched ∙ sym x.0.touched }
 
   -- at first
-  pub nothing_now : IsNow no_past first_snapshot
+  pub nothing_now : IsNow no_past (first_snapshot display_nature)
   nothing_now = record { rows = record { replies = refl; told = record { hand = refl; are = nothing_changed } }; touched = refl }
 
-  run_now : (p : Past) (m n : Snapshot (Rows Lines Waiting)) (es : List (Happening Event)) → IsRun (HappensTo true (machine site)) m es n → IsNow p m → IsNow (after past_next p es) n
+  run_now : (p : Past) (m n : Snapshot (Rows Lines Waiting)) (es : List (Happening Event)) → IsRun (HappensTo true (machine display_nature site)) m es n → IsNow p m → IsNow (after past_next p es) n
   run_now p m n [] x now = subst (λ k. IsNow p k) x now
   run_now p m n (e ∷ es) x now = run_now (past_next p e) x.0 n es x.2 (happens_now p m x.0 e x.1 now)
 
@@ -258,17 +259,17 @@ module _ (site : Site) where
       served_shows p old.service x.service x.event told part pixels mark x.serves small was.told same
   says_shows p old new told part pixels mark (inr (inr x)) small was same = absurd x.pays
 
-  pub display_names : (es : List (Happening Event)) (end : Snapshot (Rows Lines Waiting)) → IsRun (HappensTo true (machine site)) first_snapshot es end → ShowsNamed es
+  pub display_names : (es : List (Happening Event)) (end : Snapshot (Rows Lines Waiting)) → IsRun (HappensTo true (machine display_nature site)) (first_snapshot display_nature) es end → ShowsNamed es
   display_names es end run before later part pixels mark taken drawn found split small =
-      let whole = subst (λ (hs : List (Happening Event)). IsRun (HappensTo true (machine site)) first_snapshot hs end) split run in
-      let parts = run_parts (HappensTo true (machine site)) first_snapshot end before (Row (Says (said.Shown part pixels mark) taken found) drawn ∷ later) whole in
-      let now = run_now site no_past first_snapshot parts.0 before parts.1 (nothing_now site) in
+      let whole = subst (λ (hs : List (Happening Event)). IsRun (HappensTo true (machine display_nature site)) (first_snapshot display_nature) hs end) split run in
+      let parts = run_parts (HappensTo true (machine display_nature site)) (first_snapshot display_nature) end before (Row (Says (said.Shown part pixels mark) taken found) drawn ∷ later) whole in
+      let now = run_now site no_past (first_snapshot display_nature) parts.0 before parts.1 (nothing_now site) in
       says_shows (past_of before) parts.0.rows parts.2.0.rows (record { touched = parts.0.touched; found = found }) part pixels mark parts.2.1.move small now.rows now.touched
 
   -- what was accepted and done of flips
-  pub display_flips : (es : List (Happening Event)) (end : Snapshot (Rows Lines Waiting)) → IsRun (HappensTo true (machine site)) first_snapshot es end → FlipsKeepOrder es
+  pub display_flips : (es : List (Happening Event)) (end : Snapshot (Rows Lines Waiting)) → IsRun (HappensTo true (machine display_nature site)) (first_snapshot display_nature) es end → FlipsKeepOrder es
   display_flips es end run part before later split =
-      let whole = subst (λ (hs : List (Happening Event)). IsRun (HappensTo true (machine site)) first_snapshot hs end) split run in
-      let parts = run_parts (HappensTo true (machine site)) first_snapshot end before later whole in
-      let now = run_now site no_past first_snapshot parts.0 before parts.1 (nothing_now site) in
+      let whole = subst (λ (hs : List (Happening Event)). IsRun (HappensTo true (machine display_nature site)) (first_snapshot display_nature) hs end) split run in
+      let parts = run_parts (HappensTo true (machine display_nature site)) (first_snapshot display_nature) end before later whole in
+      let now = run_now site no_past (first_snapshot display_nature) parts.0 before parts.1 (nothing_now site) in
       in_order parts.0.rows.service.scene (past_of before).changes part now.rows.told.are.pends

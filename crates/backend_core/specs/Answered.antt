@@ -3,7 +3,7 @@ use Rattle.std.specs.Prelude.{◌≡◌, ◌⊎◌, ℕ, ℤ, pos, Bool, true, f
 use Rattle.pv_words.specs.declared.device.Said.TheVariants as said
 use Rattle.device_core.specs.Machine.{Happening, Row, Meanwhile}
 use Rattle.device_core.specs.Order.{Own, Spoke}
-use Rattle.display_backend.specs.Verdict.{no_memory, no_access}
+use Rattle.page_directory.specs.Progress.{no_memory, no_access}
 
 -- a request that was accepted: the part whose ring it came by, its id, and whether pages are mapped for it
 pub record Accepted : Type 0 where

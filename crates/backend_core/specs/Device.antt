@@ -10,29 +10,31 @@ use Rattle.pv_words.specs.declared.setup.DeviceSetup.{DeviceSetup}
 use Rattle.pv_words.specs.declared.setup.DeviceKind.TheVariants as kind
 use Rattle.pv_words.specs.declared.words.Words.{Ghosts as Words}
 use Rattle.pv_words.specs.Plan.{Want}
-use Rattle.device_core.specs.Order.{Own, Did, Heard, Hosts, Refused, MayStep}
+use Rattle.device_core.specs.Order.{Own, Did, Heard, Hosts, Refused, Stand}
 use Rattle.device_core.specs.Site.{Site}
-use Rattle.device_service.specs.Work.{device}
-use Rattle.display_backend.specs.declared.display.Display.{Display as Screen}
-use Rattle.display_backend.specs.Display as screen
+use Rattle.device_service.specs.Stand as backend
 use Rattle.display_backend.specs.Waiting.{is_for}
-use Rattle.display_backend.specs.Service.{display}
 use Rattle.backend_core.specs.declared.device.Device.{Device}
-use Rattle.backend_core.specs.declared.device.Device.TheVariants.{Display}
+use Rattle.backend_core.specs.declared.device.Device.TheVariants.{Display, Sound}
 use Rattle.backend_core.specs.History.{site_of as site_of_setup}
-use Rattle.backend_core.specs.Kinds.{Continues, IsSettled, display_station, due_after, rests_after}
+use Rattle.backend_core.specs.Kinds as kinds
+use Rattle.backend_core.specs.Kinds.{Continues, IsSettled, due_after, rests_after, sound_takes}
+use Rattle.backend_core.specs.Nature.{EndOf, WorkOf, nature_of, station}
 
 -- its number
 abbrev pub dev_of : Device → ℕ
-dev_of (Display d) = screen.dev_of d
+dev_of (Display d) = backend.dev_of d
+dev_of (Sound d) = backend.dev_of d
 
 -- the domain that it serves
 abbrev pub dom_of : Device → ℕ
-dom_of (Display d) = screen.dom_of d
+dom_of (Display d) = backend.dom_of d
+dom_of (Sound d) = backend.dom_of d
 
 -- how many parts it has
 abbrev pub parts_of : Device → ℕ
-parts_of (Display d) = screen.parts_of d
+parts_of (Display d) = backend.parts_of d
+parts_of (Sound d) = backend.parts_of d
 
 -- the device over these numbers of frames and grant entries
 abbrev pub site_of : (frames grants : ℕ → ℕ) → Device → Site
@@ -45,26 +47,32 @@ site_over m words d = site_of (m.frames_of words) (m.grants_of words) d
 
 -- all pages that it holds
 abbrev pub held_of : Device → List Hold
-held_of (Display d) = screen.held_of d
+held_of (Display d) = backend.held_of d
+held_of (Sound d) = backend.held_of d
 
 -- the event is one of the device's kind, and the device has its part
 abbrev pub fits_to : Device → HostEvent → Bool
-fits_to (Display d) e = is_for (screen.parts_of d) e
+fits_to (Display d) e = is_for (backend.parts_of d) e
+fits_to (Sound d) e = sound_takes (backend.parts_of d) e
 
--- a display of this site that stands where what it has done and heard leads
-pub record IsDisplay (site : Site) (connectors : ℕ) (d : Screen) (es : List Own) : Type 0 where
-  pub dom_is : screen.dom_of d ≡ site.dom
-  pub parts_are : screen.parts_of d ≡ site.parts
-  pub connectors_are : site.parts ≡ connectors
-  pub stands : screen.stand_of site d ≡ (display_station site es).stand
+-- a device of this kind is at this place of its order of work
+abbrev pub StandsAt : (k : DeviceKind) → Site → Device → Stand (WorkOf (nature_of k)) (EndOf (nature_of k)) → Type 0
+StandsAt (kind.Display connectors) site (Display d) s = backend.stand_of site d ≡ s
+StandsAt (kind.Sound streams) site (Sound d) s = backend.stand_of site d ≡ s
+StandsAt (kind.Display connectors) site (Sound d) s = ⊥
+StandsAt (kind.Sound streams) site (Display d) s = ⊥
 
 -- The device is one of this kind and site, and stands where what it has done and heard leads, the accesses of others among it.
-abbrev pub StandsFor : DeviceKind → Site → Device → List Own → Type 0
-StandsFor (kind.Display connectors) site (Display d) es = IsDisplay site connectors d es
+pub record StandsFor (k : DeviceKind) (site : Site) (d : Device) (es : List Own) : Type 0 where
+  pub dom_is : dom_of d ≡ site.dom
+  pub parts_are : parts_of d ≡ site.parts
+  pub declared : site.parts ≡ kinds.parts_of k
+  pub stands : StandsAt k site d (station (nature_of k) site es).stand
 
 -- its next access may be made through a port
 abbrev pub MayMakeNext : (Want → Type 0) → Site → Device → Type 0
-MayMakeNext may site (Display d) = MayStep may (device display site) (screen.stand_of site d)
+MayMakeNext may site (Display d) = backend.MayStepAt may site d
+MayMakeNext may site (Sound d) = backend.MayStepAt may site d
 
 -- a device as it is declared: it stands for nothing yet, however many frames and grant entries its domain has
 abbrev pub IsFresh : DeviceSetup → Device → Type 0

@@ -6,7 +6,8 @@ use Rattle.device_core.specs.Machine.{Happening, Row, Draw, Touches}
 use Rattle.device_core.specs.Names.{Stroke}
 use Rattle.device_core.specs.Touched.{Took}
 use Rattle.device_service.specs.Rows.{Event, Says}
-use Rattle.display_backend.specs.Verdict.{is_accepted, is_creation}
+use Rattle.display_backend.specs.Verdict.{is_creation}
+use Rattle.page_directory.specs.Progress.{is_accepted}
 use Rattle.backend_core.specs.Pictures.{Asking, Past, no_past, past_next}
 
 -- A name came, with these words, or somebody wrote a word of one.

@@ -7,4 +7,5 @@ pub mod History
 pub mod Kinds
 pub mod Laws
 pub mod Marked
+pub mod Nature
 pub mod Pictures

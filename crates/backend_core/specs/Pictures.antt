@@ -19,7 +19,7 @@ use Rattle.picture_scan.specs.Laws.{HasShown}
 use Rattle.device_core.specs.Machine.{Happening, Row, Meanwhile, Touches}
 use Rattle.device_core.specs.Touched.{Touch}
 use Rattle.device_service.specs.Rows.{Event, Says}
-use Rattle.display_backend.specs.Verdict.{is_accepted}
+use Rattle.page_directory.specs.Progress.{is_accepted}
 
 -- What comes to pass on a display. A request was answered by 0: a display buffer is made, whose name has this number, or is unmade; a
 -- framebuffer is attached, or detached; the connector of a part is configured, or is to flip to a framebuffer. Or such a flip is done.

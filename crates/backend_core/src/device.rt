@@ -3,8 +3,11 @@
 ghost use Rattle.std.specs.Prelude.{◌≡◌, ◌<◌, ◌≤◌, [], ◌∷◌, IfOk, OnErr, true, length, slice_get, Some};
 
 use device_core::Step;
-use display_backend::Display;
-use pv_words::{DeviceKind, DeviceSetup, Hold, HostEvent, HostRefusal, State, Words};
+use display_backend::{Display, new_display};
+use pv_words::{
+    DevId, DeviceKind, DeviceSetup, DomId, Hold, HostEvent, HostRefusal, State, Streams, Words,
+};
+use sound_backend::{Sound, new_sound};
 use std::alloc::{AllocError, Global};
 use xenbus_states::Nodes;
 
@@ -13,6 +16,35 @@ use xenbus_states::Nodes;
 pub enum Device {
     /// A display.
     Display(Display),
+    /// A sound device.
+    Sound(Sound),
+}
+
+// A tick is of this many frames at most.
+const TICK_LIMIT: u32 = 1048576;
+
+ghost use Rattle.pv_words.specs.Streams.{kinds_in};
+ghost use Rattle.device_core.specs.Order.{Between};
+ghost use Rattle.device_core.specs.Site.{Site};
+ghost use Rattle.device_service.specs.Work.{first_work};
+ghost use Rattle.sound_backend.specs.Service.{first_known};
+ghost use Rattle.device_service.specs.Stand as stand;
+
+// A sound device with these streams.
+fn sound_with(alloc: Global, dev: DevId, dom: DomId, streams: Streams) -> Result<Sound, AllocError>
+    ensures between { IfOk result (λ d. (site : Site) → stand.stand_of site d ≡ Between (first_work (first_known (kinds_in streams)))) }
+    ensures dom { IfOk result (λ d. stand.dom_of d ≡ dom.0) }
+    ensures parts { IfOk result (λ d. stand.parts_of d ≡ length (kinds_in streams)) }
+    ensures bare { IfOk result (λ d. stand.held_of d ≡ []) }
+{
+    match streams {
+        Streams::One(first) => new_sound(alloc, dev, dom, &[first]),
+        Streams::Two(first, second) => new_sound(alloc, dev, dom, &[first, second]),
+        Streams::Three(first, second, third) => new_sound(alloc, dev, dom, &[first, second, third]),
+        Streams::Four(first, second, third, fourth) => {
+            new_sound(alloc, dev, dom, &[first, second, third, fourth])
+        }
+    }
 }
 
 impl Device {
@@ -25,8 +57,12 @@ impl Device {
     {
         match &setup.kind {
             DeviceKind::Display(connectors) => {
-                let display = Display::new(alloc, setup.dev, setup.dom, *connectors)?;
+                let display = new_display(alloc, setup.dev, setup.dom, *connectors)?;
                 Ok(Device::Display(display))
+            }
+            DeviceKind::Sound(streams) => {
+                let sound = sound_with(alloc, setup.dev, setup.dom, *streams)?;
+                Ok(Device::Sound(sound))
             }
         }
     }
@@ -48,6 +84,7 @@ impl Device {
     {
         match self {
             Device::Display(display) => display.bus(front, nodes),
+            Device::Sound(sound) => sound.bus(front, nodes),
         }
     }
 
@@ -63,6 +100,7 @@ impl Device {
     {
         match self {
             Device::Display(display) => display.host(e),
+            Device::Sound(sound) => sound.host(e),
         }
     }
 
@@ -80,6 +118,7 @@ impl Device {
     {
         match self {
             Device::Display(display) => display.step(words),
+            Device::Sound(sound) => sound.step(words),
         }
     }
 
@@ -89,6 +128,7 @@ impl Device {
     {
         match self {
             Device::Display(display) => display.due(),
+            Device::Sound(sound) => sound.due(),
         }
     }
 
@@ -99,6 +139,7 @@ impl Device {
     {
         match self {
             Device::Display(display) => display.held(),
+            Device::Sound(sound) => sound.held(),
         }
     }
 
@@ -110,6 +151,7 @@ impl Device {
     {
         match self {
             Device::Display(display) => display.hold_at(i),
+            Device::Sound(sound) => sound.hold_at(i),
         }
     }
 
@@ -120,6 +162,12 @@ impl Device {
         match self {
             Device::Display(display) => match e {
                 HostEvent::Blank(part) | HostEvent::Show(part) => *part < display.parts(),
+                _ => false,
+            },
+            Device::Sound(sound) => match e {
+                HostEvent::Tick(part, frames) => {
+                    *part < sound.parts() && 1 <= *frames && *frames <= TICK_LIMIT
+                }
                 _ => false,
             },
         }

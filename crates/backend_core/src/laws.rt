@@ -56,4 +56,5 @@ pub fn tells_what_is_held()
     ensures { TellsWhatIsHeld }
 {
     display_backend::tells_what_is_held();
+    sound_backend::tells_what_is_held();
 }

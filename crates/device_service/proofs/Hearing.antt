@@ -1,4 +1,4 @@
--- What a backend hears, wherever it stands.
+-- What a backend hears, and which events of the host it refuses, wherever it stands.
 use Rattle.std.proofs.Common.{◌≡◌, ◌<◌, true, false, not, [], is_some, List, Some, Result, Ok, Err, OnErr, refl}
 use mathlib.Core.HLevel.{is_prop→PathP}
 use Rattle.std.proofs.Props.{props}
@@ -8,12 +8,13 @@ use Rattle.device_service.specs.Facts.{stands_prop, wait_prop}
 use Rattle.device_service.specs.Nodes.{Ringed}
 use Rattle.device_service.specs.Parts as of_parts
 use Rattle.device_service.specs.Waits.{WaitAt}
+use Rattle.pv_words.specs.declared.device.HostEvent.{HostEvent}
 use Rattle.pv_words.specs.declared.device.HostRefusal.TheVariants.{NotConnected}
 use Rattle.pv_words.specs.declared.device.State.{State}
 use Rattle.pv_words.specs.declared.device.State.TheVariants as state
 use Rattle.pv_words.specs.Plan.{Plan, Finished, Make}
 use Rattle.host_events.specs.Queue.{refusal_of}
-use Rattle.device_core.specs.Order.{Heard, Hosts, News, Sets, at_rest, next}
+use Rattle.device_core.specs.Order.{Heard, Hosts, News, Sets, at_rest, next, work_at}
 use Rattle.device_core.specs.Site.{Site}
 use Rattle.device_service.specs.declared.backend.Activity.{Activity}
 use Rattle.device_service.specs.declared.backend.Activity.TheVariants as activity
@@ -21,8 +22,8 @@ use Rattle.device_service.specs.declared.backend.Backend.{Backend}
 use Rattle.device_service.specs.declared.serve.Serve.{Ghosts}
 use Rattle.device_service.specs.Service.{Service}
 use Rattle.device_service.specs.Raising.{raises_on}
-use Rattle.device_service.specs.Stand.{stand_at, stand_in}
-use Rattle.device_service.specs.Work.{Work, End, choice, device, part_in, told}
+use Rattle.device_service.specs.Stand.{stand_at, stand_in, stand_of, work_of}
+use Rattle.device_service.specs.Work.{Work, End, choice, device, part_in, refused_at, told}
 
 heard_at : {X A V : Type 0} (s : Service X A V) (site : Site) (w : Work X V) (news : News) (p : Plan (End A V)) → stand_at (told s w news) p ≡ next (device s site) (stand_at w p) (Heard news)
 heard_at s site w (Sets front nodes) (Finished end) = refl
@@ -129,3 +130,24 @@ module _ {S E : Type 0} {g : Ghosts S E} where
   stand_busy site d w activity.Answering n = refl
   stand_busy site d w (activity.Raising part) n = refl
   stand_busy site d w activity.Sleeping n = refl
+
+refuses_at : {X A V : Type 0} (s : Service X A V) (w : Work X V) (p : Plan (End A V)) (e : HostEvent) → refused_at s (work_at (stand_at w p)) e ≡ refused_at s w e
+refuses_at s w (Make want note more) e = refl
+refuses_at s w (Finished end) e = refl
+
+module _ {S E : Type 0} {g : Ghosts S E} where
+  refuses_in : (site : Site) (d : Backend S E g) (w : Work g.Known E) (a : Activity) (e : HostEvent) → refused_at g.service (work_at (stand_in site d w a)) e ≡ refused_at g.service w e
+  refuses_in site d w activity.Between e = refl
+  refuses_in site d w activity.Connecting e = refuses_at g.service w _ e
+  refuses_in site d w (activity.Leaving why) e = refuses_at g.service w _ e
+  refuses_in site d w activity.Taking e = refl
+  refuses_in site d w activity.Working e = refl
+  refuses_in site d w activity.Serving e = refl
+  refuses_in site d w activity.Answering e = refl
+  refuses_in site d w (activity.Raising part) e = refl
+  refuses_in site d w activity.Sleeping e = refl
+
+  -- an activity that is under way changes nothing of what is refused
+  pub refuses_same : (site : Site) (d : Backend S E g) (e : HostEvent) → refused_at g.service (work_at (stand_of site d)) e ≡ refused_at g.service (work_of d) e
+  unfolding stand_of
+  refuses_same site d e = refuses_in site d (work_of d) d.activity e

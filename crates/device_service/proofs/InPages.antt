@@ -8,11 +8,13 @@ use Rattle.pv_words.specs.Plan as plan
 use Rattle.pv_words.specs.Plan.{Plan, Finished, Make, Want, Load, Store, Swap, Clear, Note, FitsFrom, aim_of, found, joined, mapped}
 use Rattle.link_core.specs.declared.link.Link.{Link}
 use Rattle.link_core.specs.Activities.{Joined, Page, page_at, check_plan, event_plan, loads, publish_plan, sleep_plan, slot_place, stores}
-use Rattle.link_core.specs.Link.{answer_left, answer_rest, joined_of, page_of, raise_left, raise_rest, rsp_of, sleep_left, sleep_rest, take_left, take_rest}
+use Rattle.link_core.specs.Link.{answer_left, answer_rest, joined_of, page_of, put_rest, raise_left, rsp_of, sleep_left, sleep_rest, take_left, take_rest}
+use Rattle.link_core.specs.declared.link.Put.{Put}
 use Rattle.link_core.specs.declared.link.Put.TheVariants as put
 use Rattle.link_core.specs.declared.link.Stage.{Stage}
 use Rattle.link_core.specs.declared.link.Stage.TheVariants as stage
-use Rattle.link_core.specs.Raise.{event_place, limit, publish_event, put_plan, raise_in, raise_plan, slots}
+use Rattle.link_core.specs.declared.link.event.Layout.{Layout}
+use Rattle.link_core.specs.Raise.{event_layout, event_place, events_plan, limit, obstacle_of, publish_events, put_events, unless_barred}
 use Rattle.ring_words.specs.Ring.{since}
 use Rattle.device_core.specs.Order.{is_in_page}
 use Rattle.device_service.specs.Parts.{answer_from, raise_from, sleep_from, take_from}
@@ -48,28 +50,28 @@ in_answer_rest page rsp n reply =
     in_either (n == 17) (event_plan page rsp) (stores (slot_place page rsp) (publish_plan page rsp) n (drop n reply)) (refl, λ v. tt)
     (in_stores (slot_place page rsp) (λ i. refl) n (publish_plan page rsp) (drop n reply) (refl, λ v. (refl, λ w. tt)))
 
-in_puts : (page : Page) (prod n : ℕ) (words : List ℕ) → StaysInPages (stores (event_place page prod) (publish_event page prod) n words)
-in_puts page prod n words = in_stores (event_place page prod) (λ i. refl) n (publish_event page prod) words (refl, λ v. tt)
+module _ (layout : Layout) (page : Page) (prod n : ℕ) (words : List ℕ) where
+  in_puts : (i : ℕ) (left : List ℕ) → StaysInPages (stores (event_place layout page prod) (publish_events page prod n) i left)
+  in_puts i left = in_stores (event_place layout page prod) (λ k. refl) i (publish_events page prod n) left (refl, λ v. tt)
 
-in_room : (page : Page) (prod : ℕ) (words : List ℕ) (cons n : ℕ) → StaysInPages (raise_in page prod words cons n)
-in_room page prod words cons n =
-    in_either (nat_lt slots n) (Finished (put.BadCons prod cons)) (if n == slots then Finished put.Full else stores (event_place page prod) (publish_event page prod) 0 words) tt
-    (in_either (n == slots) (Finished put.Full) (stores (event_place page prod) (publish_event page prod) 0 words) tt (in_puts page prod 0 words))
+  in_bar : (o : Option Put) → StaysInPages (unless_barred o (stores (event_place layout page prod) (publish_events page prod n) 0 words))
+  in_bar None = in_puts 0 words
+  in_bar (Some end) = tt
 
-in_raise_plan : (page : Page) (prod : ℕ) (words : List ℕ) → StaysInPages (raise_plan page prod words)
-in_raise_plan page prod words =
-    in_either (nat_lt prod limit) (put_plan page prod words) (Finished (put.Spent prod)) (refl, λ cons. in_room page prod words cons (since cons prod)) tt
+  in_events_plan : StaysInPages (events_plan layout page prod n words)
+  in_events_plan =
+      in_either (nat_lt prod limit) (put_events layout page prod n words) (Finished (put.Spent prod)) (refl, λ cons. in_bar (obstacle_of layout.slots prod n cons (since cons prod))) tt
 
-in_raise_rest : (page : Page) (prod : ℕ) (at : Stage) (n : ℕ) (words : List ℕ) → StaysInPages (raise_rest page prod at n words)
-in_raise_rest page prod stage.Raise n words = in_puts page prod n (drop n words)
-in_raise_rest page prod stage.Rest n words = in_raise_plan page prod words
-in_raise_rest page prod stage.Take n words = in_raise_plan page prod words
-in_raise_rest page prod stage.Answer n words = in_raise_plan page prod words
-in_raise_rest page prod stage.Sleep n words = in_raise_plan page prod words
-in_raise_rest page prod stage.Ring n words = in_raise_plan page prod words
-in_raise_rest page prod stage.Index n words = in_raise_plan page prod words
-in_raise_rest page prod stage.Event n words = in_raise_plan page prod words
-in_raise_rest page prod stage.Prod n words = in_raise_plan page prod words
+  in_put_rest : (at : Stage) (stored : ℕ) → StaysInPages (put_rest layout page prod at stored n words)
+  in_put_rest stage.Raise stored = in_puts stored (drop stored words)
+  in_put_rest stage.Rest stored = in_events_plan
+  in_put_rest stage.Take stored = in_events_plan
+  in_put_rest stage.Answer stored = in_events_plan
+  in_put_rest stage.Sleep stored = in_events_plan
+  in_put_rest stage.Ring stored = in_events_plan
+  in_put_rest stage.Index stored = in_events_plan
+  in_put_rest stage.Event stored = in_events_plan
+  in_put_rest stage.Prod stored = in_events_plan
 
 in_sleep_rest : (page : Page) (rsp n : ℕ) → StaysInPages (sleep_rest page rsp n)
 in_sleep_rest page rsp n = in_either (n == 1) (check_plan page rsp) (sleep_plan page rsp) (refl, λ v. tt) (refl, λ v. (refl, λ w. tt))
@@ -87,7 +89,7 @@ in_answer reply (Some l) = in_answer_rest (page_of l) (rsp_of l) _ reply
 pub in_raise : (words : List ℕ) (o : Option Link) → StaysInPages (raise_from words o)
 unfolding raise_left
 in_raise words None = tt
-in_raise words (Some l) = in_raise_rest (page_at l.event_page) l.prod l.stage l.count words
+in_raise words (Some l) = in_put_rest event_layout (page_at l.event_page) l.prod 1 words l.stage l.stored
 
 in_on : (more : Plan Bool) (b : Bool) → StaysInPages more → StaysInPages (sleeps_on more b)
 in_on more true h = h

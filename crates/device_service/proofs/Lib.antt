@@ -9,6 +9,7 @@ pub mod Hearing
 pub mod InPages
 pub mod Leaving
 pub mod Lists
+pub mod Mapping
 pub mod Opened
 pub mod Out
 pub mod PartsLaws
@@ -22,7 +23,6 @@ pub mod Standing
 pub mod Telling
 pub mod Throughout
 pub mod Truth
-pub mod Unmapping
 pub mod Wholes
 pub mod Works
 pub mod Soundness

@@ -42,7 +42,8 @@ use Rattle.device_service.proofs.Soundness.Plans.{Fit}
 use Rattle.device_service.proofs.Soundness.Same.{same_append}
 use Rattle.device_service.proofs.Soundness.Serves.{raise_pages}
 use Rattle.device_service.proofs.Soundness.Work.{Lawful, EndsSo, IsSane, held_pages, learned, site, sleep_pages}
-use Rattle.device_service.proofs.Unmapping.{unmaps_come}
+use Rattle.device_service.proofs.Mapping.Unmaps.{unmaps_come}
+use Rattle.page_directory.specs.Lists.{left_nil}
 
 -- parts that rest hold the pages of what they are joined to
 parts_held : (p : Parts) (o : Bool) → doing_of p ≡ resting o → all_pages (joined_of p) ≡ of_parts.held_of p
@@ -229,14 +230,10 @@ module _ {S E : Type 0} {g : Ghosts S E} (laws : KeepsLaws g.service g.table g.s
     alone : g.going d.service ≡ false → g.service.pages (g.knows d.service) ≡ [] → of_parts.held_of d.parts ≡ told
     alone idle bare = ap (λ hs. hs ++ of_parts.held_of d.parts) (sym (g.holds_pages d.service idle ∙ bare))
 
-    nothing_before : (xs ys : List Hold) → xs ++ ys ≡ [] → xs ≡ []
-    nothing_before [] ys e = refl
-    nothing_before (x ∷ xs) ys e = let wrong : ⊥ = cc in absurd wrong
-
     gone : given_up d ≡ [] → g.service.pages (known_at true) ≡ []
     unfolding given_up
     gone e =
-        let bare = nothing_before (g.service.pages (g.knows d.service)) (of_parts.held_of d.parts) e in
+        let bare = left_nil (g.service.pages (g.knows d.service)) (of_parts.held_of d.parts) e in
         ap g.service.pages (g.stays_bare (g.knows d.service) bare) ∙ bare
 
     all_given : g.going d.service ≡ false → given_up d ≡ told

@@ -21,3 +21,5 @@ pub mod Throughout
 pub mod Truth
 pub mod Waits
 pub mod Work
+pub mod Mapping
+pub mod Named

@@ -1,5 +1,5 @@
 -- What an answer makes of the buffers, their pages and their names.
-use Rattle.std.proofs.Common.{◌≡◌, inl, inr, ℕ, ◌<◌, ◌&&◌, ℤ, pos, Bool, true, false, cond, List, [], ◌∷◌, Ok, Some, None, refl, sym, ◌∙◌, ap, subst, length}
+use Rattle.std.proofs.Common.{◌≡◌, inl, inr, ℕ, ◌<◌, ◌&&◌, Bool, true, false, cond, List, [], ◌∷◌, Ok, Some, None, refl, sym, ◌∙◌, ap, subst, length}
 use Rattle.std.proofs.lemmas.List.{map-append}
 use Rattle.displ_wire.specs.declared.Asked.{Asked}
 use Rattle.displ_wire.specs.declared.Asked.TheVariants as asked
@@ -11,15 +11,16 @@ use Rattle.display_buffers.specs.Stock.{Stock, Held, pages_of, pages_under}
 use Rattle.display_buffers.proofs.Order.{creating_keeps, destroying_keeps}
 use Rattle.page_directory.specs.Same.{AreSame}
 use Rattle.device_core.specs.Names.{Name, Sight, all_drawn, cells_of, drawn, with_name, words_in}
-use Rattle.display_backend.specs.declared.course.Progress.{Progress}
-use Rattle.display_backend.specs.declared.course.Progress.TheVariants as progress
+use Rattle.page_directory.specs.declared.progress.Progress.{Progress}
+use Rattle.page_directory.specs.declared.progress.Progress.TheVariants as progress
 use Rattle.display_backend.specs.Kept.{HasComeTo, IsCreating, IsDestroying}
 use Rattle.display_backend.specs.Names.{ids_after, live_names, numbered}
 use Rattle.display_backend.specs.Reply.{replied_to, stock_after}
 use Rattle.display_backend.specs.Scene.{Scene}
-use Rattle.display_backend.specs.Verdict.{IsStatus, is_accepted, is_creation, is_denied, status_in, verdict}
+use Rattle.display_backend.specs.Verdict.{IsStatus, is_creation, verdict}
+use Rattle.page_directory.specs.Progress.{is_accepted, is_denied, status_in}
 use Rattle.display_backend.proofs.Names.{names_with, names_without}
-use Rattle.display_backend.proofs.Numbered.{AreAll, accepted_is, all_with, all_without, numbered_with, numbered_without, passes_by}
+use Rattle.display_backend.proofs.Numbered.{AreAll, all_with, all_without, numbered_with, numbered_without, passes_by}
 
 -- What there is once a request is answered by a status that accepts it, or by another: a CREATE that passed its checks with its
 -- pages, or a DESTROY of a buffer without any.
@@ -33,14 +34,6 @@ abbrev pub IsAnswerAt : Stock → Scene → Request → Progress → Type 0
 IsAnswerAt stock sc q p =
     IsDone stock q.asked (is_accepted (status_in p (verdict stock.buffers sc q.asked)))
     × IsStatus (is_denied p) stock.buffers sc q.asked (status_in p (verdict stock.buffers sc q.asked))
-
--- a status that accepts is the verdict
-pub accepted_at : (p : Progress) (v : ℤ) → is_accepted (status_in p v) ≡ true → v ≡ pos 0
-accepted_at progress.Decided v h = accepted_is v h
-accepted_at progress.NoMemory v h = let wrong : ⊥ = cc in absurd wrong
-accepted_at progress.Denied v h = let wrong : ⊥ = cc in absurd wrong
-accepted_at progress.Mapped v h = accepted_is v h
-accepted_at progress.Released v h = accepted_is v h
 
 -- the buffers alone
 pub answer_buffers : (stock : Stock) (asks : Asked) (accepted : Bool) → (stock_after stock asks accepted).buffers ≡ replied_to stock.buffers stock.mapped asks accepted

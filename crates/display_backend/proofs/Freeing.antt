@@ -1,17 +1,7 @@
 -- Pages of buffers are unmapped.
-use Rattle.std.proofs.Common.{◌≡◌, ℕ, Bool, true, false, cond, List, [], ◌∷◌, Some, refl, sym, ap}
-use Rattle.pv_words.specs.declared.access.Access.{Access}
-use Rattle.pv_words.specs.declared.grant.Hold.{Hold}
-use Rattle.pv_words.specs.Release.{Drops}
+use Rattle.std.proofs.Common.{◌≡◌, ℕ, Bool, true, false, cond, List, [], ◌∷◌, refl, sym, ap}
 use Rattle.display_buffers.specs.Buffers.{has_cookie}
-use Rattle.link_core.specs.Stays.{AccessIn}
-use Rattle.device_service.proofs.Holding.Held.{in_unmap}
 use Rattle.display_buffers.specs.Stock.{Held, pages_under, with_pages, bared}
-
--- the first page of a list is given up by an access to no page
-pub unmap_lies : (hs left : List Hold) (a : Access) → Drops hs a left → (pages : List Hold) → AccessIn pages (Some a)
-unmap_lies [] left a d pages = absurd d
-unmap_lies (h ∷ hs) left a d pages = in_unmap pages (Some a) a h refl d.0
 
 -- a buffer without pages stays as it is
 pub bare_freed : (cookie : ℕ) (bs : List Held) → pages_under cookie bs ≡ [] → bared cookie bs ≡ bs

@@ -1,6 +1,6 @@
 -- The display keeps the laws of a service.
 use Rattle.std.proofs.Common.{◌≡◌, inl, ℕ, ◌*◌, pos, map, ◌<◌, ◌≤◌, ◌&&◌, ◌||◌, ◌==◌, nat_lt, nat_le, Bool, true, false, cond, List, [], ◌∷◌, ◌++◌, Option, Some, None, IsSome, is_some, refl, sym, ◌∙◌, ap, subst, arith, length}
-use Rattle.std.proofs.lemmas.Bool.{true≢false, false≢true}
+use Rattle.std.proofs.lemmas.Bool.{true≢false, false≢true, and_parts}
 use Rattle.std.proofs.lemmas.List.{length-replicate, map-append}
 use Rattle.std.proofs.lemmas.Bool.Decides.{nat_tests}
 use Rattle.std.specs.List.{AllByRecursion}
@@ -9,7 +9,7 @@ use Rattle.pv_words.specs.declared.device.Said.TheVariants as said
 use Rattle.pv_words.specs.declared.grant.Hold.{Hold}
 use Rattle.pv_words.specs.declared.grant.Mode.TheVariants.{Read}
 use Rattle.pv_words.specs.Held.{Holds, IsProper, holding, holds_of}
-use Rattle.pv_words.specs.Found.{Found, finding}
+use Rattle.pv_words.specs.Found.{Found}
 use Rattle.pv_words.specs.Plan.{Plan, Finished, Make, Want, Load, Note, Plain, Begins, Frames, Undoes, Ends, Takes, Puts, IsUntouched, mapped, FitsFrom}
 use Rattle.displ_wire.specs.declared.Asked.{Asked}
 use Rattle.displ_wire.specs.declared.Asked.TheVariants as asked
@@ -21,32 +21,32 @@ use Rattle.display_buffers.specs.declared.live.Live.{Live}
 use Rattle.page_directory.specs.declared.walk.Walked.{Walked}
 use Rattle.page_directory.specs.declared.walk.Walked.TheVariants as walked
 use Rattle.page_directory.specs.Laws as walk
-use Rattle.page_directory.specs.Laws.{IsPage, Leaves}
+use Rattle.page_directory.specs.Laws.{IsPage, Leaves, pages_in}
 use Rattle.page_directory.specs.Same.{AreSame, times}
 use Rattle.page_directory.specs.Walking.{walk_plan}
 use Rattle.page_directory.specs.Walking as walking
 use Rattle.page_directory.proofs.Counts.{times_append}
-use Rattle.page_directory.proofs.Shown.{walks_show}
-use Rattle.page_directory.proofs.WalkAlong.{walks_exactly}
 use Rattle.link_core.specs.Laws.{AreOf}
 use Rattle.link_core.specs.Activities.{unmaps}
 use Rattle.device_core.specs.Learned.{Learned}
 use Rattle.device_core.specs.Names.{Name, Sight, cells_of, drawn, all_drawn, words_in, with_name}
 use Rattle.device_core.specs.Touched.{Carried, Touch}
-use Rattle.pv_words.proofs.Fits.{fits_mapped, fits_so}
+use Rattle.pv_words.proofs.Fits.{fits_mapped}
 use Rattle.link_core.proofs.Shown.{FitFound, unmaps_found}
-use Rattle.display_backend.specs.declared.course.Progress.{Progress}
-use Rattle.display_backend.specs.declared.course.Progress.TheVariants as progress
+use Rattle.page_directory.specs.declared.progress.Progress.{Progress}
+use Rattle.page_directory.specs.declared.progress.Progress.TheVariants as progress
 use Rattle.display_backend.specs.declared.waiting.Waiting.{Waiting}
 use Rattle.display_backend.specs.declared.waiting.Waiting.TheVariants as waiting
 use Rattle.display_buffers.specs.Stock.{Stock, Held, pages_of, buffer_pages, pages_under, bared, all_bared}
-use Rattle.display_backend.specs.Names.{live_names, names_under, numbers, numbered}
+use Rattle.display_backend.specs.Names.{live_names, names_under, numbered}
+use Rattle.device_service.specs.Named.{numbers}
 use Rattle.display_backend.specs.Reply.{replied_to, stock_after}
-use Rattle.display_backend.specs.Verdict.{is_accepted, is_creation, is_denied, status_in, verdict}
+use Rattle.display_backend.specs.Verdict.{is_creation, verdict}
+use Rattle.page_directory.specs.Progress.{is_accepted, is_denied, status_in}
 use Rattle.display_backend.specs.Waiting.{said_of}
 use Rattle.display_backend.specs.Kept as kept
 use Rattle.display_backend.specs.Scene.{IsSound, Scene, after_blank_at, pending_at, scene_after}
-use Rattle.display_backend.specs.Kept.{AreMapped, AreWholeBut, Come, HasCome, HasComeTo, IsCreating, IsDestroying, IsNamed, IsWalking, IsFreeing, WholeFor, facts, goes_by}
+use Rattle.display_backend.specs.Kept.{AreMapped, AreWholeBut, Come, HasCome, HasComeTo, IsDestroying, IsNamed, IsWalking, IsFreeing, WholeFor, facts, goes_by}
 use Rattle.display_backend.specs.declared.picture.Source.{Source}
 use Rattle.display_backend.specs.Picture.{AreShown, is_within, number_under, source_at}
 use Rattle.displ_wire.specs.Wire.{request_of}
@@ -60,7 +60,8 @@ use Rattle.picture_scan.specs.Scan.{LiesIn}
 use Rattle.picture_scan.specs.Scanning.{scan_plan}
 use Rattle.picture_scan.proofs.Showing.{shows_exactly}
 use Rattle.page_directory.proofs.WalkAlong.{all_weaker}
-use Rattle.display_backend.proofs.Answering.{IsAnswerAt, accepted_at, answer_buffers, answer_same, answer_sound, answer_none, answer_all, answer_rows, answer_names, answers_at, done_as}
+use Rattle.display_backend.proofs.Answering.{IsAnswerAt, answer_buffers, answer_same, answer_sound, answer_none, answer_all, answer_rows, answer_names, answers_at, done_as}
+use Rattle.page_directory.proofs.Ready.{accepted_at, ready_decided}
 use Rattle.display_backend.proofs.HasWork.{create_accepted, create_refused, destroy_accepted, destroy_bare}
 use Rattle.display_backend.proofs.Names.{GoesFrom, names_none, none_bared, name_goes}
 use Rattle.display_backend.proofs.Numbered.{AreLike, like_length, like_sound, like_verdict, no_buffers, numbered_bared, numbered_all_bared, same_scene, same_verdict, same_status, passes_by}
@@ -69,7 +70,6 @@ use Rattle.display_buffers.proofs.Order.{none_left, none_under, parted}
 use Rattle.display_backend.proofs.Taking.{may_take, word_of_name}
 use Rattle.display_backend.proofs.Wholes.{answered_whole, bared_whole, not_mapped, whole_any, whole_still}
 use Rattle.display_backend.proofs.Pictures.{picture_within, same_source, shown_numbered, within_so}
-use Rattle.device_service.proofs.Soundness.Plans.{fits_drop}
 use Rattle.device_service.proofs.Soundness.Same.{are_append, are_left, are_right, are_same}
 use Rattle.device_core.specs.Site.{Site}
 use Rattle.device_service.specs.Service.{Runs, Raises}
@@ -77,43 +77,21 @@ use Rattle.device_service.specs.Rows.{Evidence, made_if}
 use Rattle.device_service.specs.Claims.{KeepsLaws, site_of}
 use Rattle.device_service.specs.Laws as law
 use Rattle.device_service.specs.Laws.{AreHeld, AreLost, FitsBeside, IsOfService, IsRaise, IsTouching, Laws, Leads, Same, WantsFor, evidence}
-use Rattle.device_service.proofs.Fitting.{fits_carried}
-use Rattle.display_backend.specs.Service.{has_work, reply_for, ready_for, goes_of, Known, Ending, Listed, Freed, Served, Pictured, Lines, show_in, show_of, display, table, shows, freeing, blank_of, event_for, flip_words, flipped_at, flipped_for, put_for, raised_at, ready_at, job_of, job_for, says_at, after_end}
-
--- what isn't ready is decided
-ready_decided : (p : Progress) (working : Bool) → ready_at p working ≡ false → p ≡ progress.Decided
-ready_decided progress.Decided working h = refl
-ready_decided progress.NoMemory working h = absurd (true≢false h)
-ready_decided progress.Denied working h = absurd (true≢false h)
-ready_decided progress.Mapped working h = absurd (true≢false h)
-ready_decided progress.Released working h = absurd (true≢false h)
-
-and_right : (a b : Bool) → (a && b) ≡ true → b ≡ true
-and_right true b h = h
-and_right false b h = let wrong : ⊥ = cc in absurd wrong
-
-and_left : (a b : Bool) → (a && b) ≡ true → a ≡ true
-and_left true b h = refl
-and_left false b h = let wrong : ⊥ = cc in absurd wrong
+use Rattle.page_directory.specs.Lists.{right_nil}
+use Rattle.device_service.proofs.Mapping.Keeping.{are_parted, beside, freed_fits, made_cond, page_are, same_parted, walk_fits, walk_found}
+use Rattle.display_backend.specs.Service.{has_work, reply_for, ready_for, goes_of, Known, Ending, Listed, Freed, Served, Pictured, Lines, show_in, show_of, display, table, shows, freeing, blank_of, event_for, flip_words, flipped_at, flipped_for, put_for, raised_at, job_of, job_for, says_at, after_end}
+use Rattle.page_directory.specs.Progress.{ready_at}
 
 sized : (c : Create) → is_in_range (made_of c) ≡ true → 0 < walking.pages_of c.buffer_sz
 sized c h =
     let fits : Bool = nat_le (picture_octets (made_of c)) c.buffer_sz in
     let small : Bool = nat_le c.buffer_sz 33554432 in
-    let a = and_right ((c.bpp == 16) || ((c.bpp == 24) || (c.bpp == 32))) (nat_lt 0 c.width && (nat_lt 0 c.height && (nat_lt 0 c.buffer_sz && (small && fits)))) h in
-    let b = and_right (nat_lt 0 c.width) (nat_lt 0 c.height && (nat_lt 0 c.buffer_sz && (small && fits))) a in
-    let d = and_right (nat_lt 0 c.height) (nat_lt 0 c.buffer_sz && (small && fits)) b in
-    let e = and_left (nat_lt 0 c.buffer_sz) (small && fits) d in
+    let a = (and_parts ((c.bpp == 16) || ((c.bpp == 24) || (c.bpp == 32))) (nat_lt 0 c.width && (nat_lt 0 c.height && (nat_lt 0 c.buffer_sz && (small && fits)))) h).1 in
+    let b = (and_parts (nat_lt 0 c.width) (nat_lt 0 c.height && (nat_lt 0 c.buffer_sz && (small && fits))) a).1 in
+    let d = (and_parts (nat_lt 0 c.height) (nat_lt 0 c.buffer_sz && (small && fits)) b).1 in
+    let e = (and_parts (nat_lt 0 c.buffer_sz) (small && fits) d).0 in
     let some : 0 < c.buffer_sz = grind (arith, nat_tests, e) in
     omega (arith, some)
-
-page_are : (frames grants dom : ℕ) (ps : List Hold) → AllByRecursion (IsPage frames grants dom Read) ps → AreOf grants dom ps
-page_are frames grants dom [] all = tt
-page_are frames grants dom (p ∷ ps) all = (all.0.dom_is, all.0.gref_in, page_are frames grants dom ps all.1)
-
-made_cond : (b : Bool) (n : ℕ) → cond b (Some n) None ≡ made_if b n
-made_cond true n = refl
-made_cond false n = refl
 
 -- a name goes
 goes_lost : (sight : Sight) (gone old new : List Name) → GoesFrom gone old new → AreLost (numbers gone) (all_drawn sight old) (all_drawn sight new)
@@ -156,10 +134,6 @@ fits_under : {S A : Type 0} (after : S → Note → Access → S) (P Q : S → W
 fits_under after P Q U V may end s (Finished x) f = end s x f
 fits_under after P Q U V may end s (Make want note next) f =
     (may s want note f.0, λ v. fits_under after P Q U V may end _ (next v) (f.1 v))
-
-all_behind : (xs ys : List Hold) → xs ++ ys ≡ [] → ys ≡ []
-all_behind [] ys e = e
-all_behind (x ∷ xs) ys e = let wrong : ⊥ = cc in absurd wrong
 
 module _ (frames grants : ℕ → ℕ) (dom parts : ℕ) where
   abbrev site : Site
@@ -245,7 +219,7 @@ module _ (frames grants : ℕ → ℕ) (dom parts : ℕ) where
       )
 
   -- the walk of a CREATE
-  module _ (x : Known) (w : IsWalking x) (rest held : List Hold) (same : AreSame held (pages_of x.stock ++ rest)) where
+  module _ (x : Known) (w : IsWalking x) where
     abbrev count : ℕ
     count = walking.pages_of w.create.buffer_sz
 
@@ -254,25 +228,18 @@ module _ (frames grants : ℕ → ℕ) (dom parts : ℕ) where
         let passed = passes_by (check_of x.stock.buffers w.create) (ap (verdict x.stock.buffers x.scene) (sym w.creating.0) ∙ w.creating.1) in
         sized w.create (passes x.stock.buffers w.create passed).2
 
-    abbrev WalksSo : Holds → Ending → Type 0
-    WalksSo h a = AreHeld h (pages_of (after_end x a).stock ++ rest) × EndsHeld x a
-
     framed : (ps : List Hold) → AllByRecursion (IsPage (frames dom) (grants dom) dom Read) ps → AllByRecursion (λ (g : Hold). g.frame.0 < frames dom) ps
     framed ps all = all_weaker (IsPage (frames dom) (grants dom) dom Read) (λ (g : Hold). g.frame.0 < frames dom) (λ g is. is.frame_in) ps all
 
-    listed : (h : Holds) (came : Walked) → Leaves (frames dom) (grants dom) dom Read count held h came → WalksSo h (Listed came)
-    listed h (walked.Pages ps) l =
-        let bs = buffer_pages x.stock.buffers in
-        let before : (k : Hold) → times k held ≡ times k (bs ++ rest) = λ k. same k ∙ ap (λ hs. times k ((hs ++ bs) ++ rest)) w.none in
-        let all : AreSame h.held ((ps ++ bs) ++ rest) = λ k. omega (arith, l.1 k, before k, times_append k held ps, times_append k bs rest, times_append k (ps ++ bs) rest, times_append k ps bs) in
-        ((l.0, all), (w, (page_are (frames dom) (grants dom) dom ps l.2, omega (arith, l.3, some_pages), (l.3, framed ps l.2))))
-    listed h (walked.Refused why) l = ((l.0, (λ k. l.1 k ∙ same k)), (w, tt))
+    -- the pages of the buffer are there, beside those of the others
+    adds : (came : Walked) → AreSame (pages_of (after_end x (Listed came)).stock) (pages_in came ++ pages_of x.stock)
+    adds (walked.Pages ps) k = ap (λ hs. times k (ps ++ (hs ++ buffer_pages x.stock.buffers))) (sym w.none)
+    adds (walked.Refused why) k = refl
 
-    walk_fits : FitsFrom (IsProper frames grants dom) (holding frames) WalksSo (holds_of held) (mapped Listed (walk_plan (frames dom) (grants dom) dom w.create.gref_directory Read (walking.pages_of w.create.buffer_sz)))
-    walk_fits =
-        let n : ℕ = walking.pages_of w.create.buffer_sz in
-        fits_mapped (IsProper frames grants dom) (holding frames) (λ y. Listed y) WalksSo (holds_of held) (walk_plan (frames dom) (grants dom) dom w.create.gref_directory Read n)
-        (fits_so (IsProper frames grants dom) (holding frames) (Leaves (frames dom) (grants dom) dom Read n held) (λ h y. WalksSo h (Listed y)) listed (holds_of held) (walk_plan (frames dom) (grants dom) dom w.create.gref_directory Read n) (walks_exactly frames grants dom w.create.gref_directory Read n held))
+    listed : (held : List Hold) (h : Holds) (came : Walked) → Leaves (frames dom) (grants dom) dom Read count held h came → EndsHeld x (Listed came)
+    listed held h (walked.Pages ps) l =
+        (w, (page_are (frames dom) (grants dom) dom Read ps l.2, omega (arith, l.3, some_pages), (l.3, framed ps l.2)))
+    listed held h (walked.Refused why) l = (w, tt)
 
   -- the Release of a DESTROY
   module _ (x : Known) (q : Request) (cookie : ℕ) (s : IsSane x) (has : x.request ≡ Some q) (decided : x.progress ≡ progress.Decided) (destroying : IsDestroying x.stock x.scene q cookie) (none : x.stock.mapped ≡ []) where
@@ -282,13 +249,12 @@ module _ (frames grants : ℕ → ℕ) (dom parts : ℕ) where
     freed_like : AreLike (bared cookie bs) bs
     freed_like = numbered_bared cookie bs []
 
+    -- the pages of the buffer, and those of all others
+    freed_are : AreOf (grants dom) dom (pages_under cookie bs) × AreOf (grants dom) dom (pages_of (freeing x cookie).stock)
+    freed_are = are_parted (grants dom) dom x.stock.mapped (buffer_pages bs) (pages_under cookie bs) (buffer_pages (bared cookie bs)) (parted cookie bs) s.0
+
     freed_sane : IsSane (freeing x cookie)
-    freed_sane =
-        let under = pages_under cookie bs in
-        let left = buffer_pages (bared cookie bs) in
-        let mapped_are = are_left (grants dom) dom x.stock.mapped (buffer_pages bs) s.0 in
-        let all_are = are_same (grants dom) dom (buffer_pages bs) (under ++ left) (parted cookie bs) (are_right (grants dom) dom x.stock.mapped (buffer_pages bs) s.0) in
-        (are_append (grants dom) dom x.stock.mapped left mapped_are (are_right (grants dom) dom under left all_are), like_sound bs (bared cookie bs) (sym freed_like) s.1, like_scene bs (bared cookie bs) x.scene (sym freed_like) s.2)
+    freed_sane = (freed_are.1, like_sound bs (bared cookie bs) (sym freed_like) s.1, like_scene bs (bared cookie bs) x.scene (sym freed_like) s.2)
 
     freed_well : IsFreeing (freeing x cookie)
     freed_well =
@@ -302,15 +268,8 @@ module _ (frames grants : ℕ → ℕ) (dom parts : ℕ) where
           none = none;
         }
 
-    freed_fits : (rest held : List Hold) → AreSame held (pages_of x.stock ++ rest) → FitsFrom (IsProper frames grants dom) (holding frames) (λ h a. AreHeld h (pages_of (after_end (freeing x cookie) a).stock ++ rest) × EndsHeld (freeing x cookie) a) (holds_of held) (unmaps (pages_under cookie bs) (Finished Freed))
-    freed_fits rest held same =
-        let under = pages_under cookie bs in
-        let left = buffer_pages (bared cookie bs) in
-        let split = parted cookie bs in
-        let after = pages_of (freeing x cookie).stock ++ rest in
-        let are = are_left (grants dom) dom under left (are_same (grants dom) dom (buffer_pages bs) (under ++ left) split (are_right (grants dom) dom x.stock.mapped (buffer_pages bs) s.0)) in
-        let before : AreSame held (under ++ after) = λ g. omega (arith, same g, split g, times_append g (pages_of x.stock) rest, times_append g x.stock.mapped (buffer_pages bs), times_append g under left, times_append g under after, times_append g (x.stock.mapped ++ left) rest, times_append g x.stock.mapped left) in
-        fits_drop frames grants dom (λ h a. AreHeld h (pages_of (after_end (freeing x cookie) a).stock ++ rest) × EndsHeld (freeing x cookie) a) (Finished Freed) after under held are before (λ gone g. ((refl, g), freed_well))
+    freed_split : AreSame (pages_of x.stock) (pages_under cookie bs ++ pages_of (freeing x cookie).stock)
+    freed_split = same_parted x.stock.mapped (buffer_pages bs) (pages_under cookie bs) (buffer_pages (bared cookie bs)) (parted cookie bs)
 
   -- what touches no word of a name may be done
   meets_plain : (x : Known) (want : Want) (note : Note) → IsUntouched note → Meets x want note
@@ -322,12 +281,9 @@ module _ (frames grants : ℕ → ℕ) (dom parts : ℕ) where
   meets_plain x want (Takes key index) u = absurd u
   meets_plain x want (Puts key index) u = absurd u
 
-  -- what it holds, and what it finds
-  beside : (x y : Known) (pl : Plan Ending) → ((rest held : List Hold) → AreSame held (pages_of x.stock ++ rest) → FitsFrom (IsProper frames grants dom) (holding frames) (λ h a. AreHeld h (pages_of (after_end y a).stock ++ rest) × EndsHeld y a) (holds_of held) pl) → ((f : Found) → FitFound (EndsFound y) f pl) → FitsBeside display frames grants dom Meets EndsOwn x y pl
-  beside x y pl a b rest k held =
-      fits_carried frames (IsProper frames grants dom) (Meets y) (λ want note u. meets_plain y want note u) (λ h e. AreHeld h (pages_of (after_end y e).stock ++ rest) × EndsHeld y e) (EndsFound y) (λ (j : Carried Learned) e. AreHeld j.own.holds (pages_of (after_end y e).stock ++ rest) × EndsOwn y j.own.found j.touched e)
-      (λ j e p q. (p.0, (p.1, q))) k pl
-      (subst (λ (h : Holds). FitsFrom (IsProper frames grants dom) (holding frames) (λ h e. AreHeld h (pages_of (after_end y e).stock ++ rest) × EndsHeld y e) h pl) (sym held.0) (a rest k.own.holds.held held.1)) (b k.own.found)
+  -- an activity that holds and finds this keeps to the laws
+  keeps : (x y : Known) (pl : Plan Ending) → ((rest held : List Hold) → AreSame held (pages_of x.stock ++ rest) → FitsFrom (IsProper frames grants dom) (holding frames) (λ h a. AreHeld h (pages_of (after_end y a).stock ++ rest) × EndsHeld y a) (holds_of held) pl) → ((f : Found) → FitFound (EndsFound y) f pl) → FitsBeside display frames grants dom Meets EndsOwn x y pl
+  keeps x y pl = beside frames grants dom display Meets (EndsHeld y) (EndsFound y) EndsOwn x y pl (meets_plain y) (λ f ts a held found. (held, found))
 
   request_same : (q k : Request) → Some q ≡ Some k → q ≡ k
   request_same q k e = cc
@@ -335,18 +291,12 @@ module _ (frames grants : ℕ → ℕ) (dom parts : ℕ) where
   create_same : (c d : Create) → asked.Create c ≡ asked.Create d → c ≡ d
   create_same c d e = cc
 
-  walk_found : (x : Known) (w : IsWalking x) (f : Found) → FitFound (EndsFound x) f (mapped Listed (walk_plan (frames dom) (grants dom) dom w.create.gref_directory Read (walking.pages_of w.create.buffer_sz)))
-  walk_found x w f =
-      let plan = walk_plan (frames dom) (grants dom) dom w.create.gref_directory Read (walking.pages_of w.create.buffer_sz) in
-      fits_mapped (λ (g : Found) want note. IsUntouched note) (λ g (note : Note) a. finding g a) (λ y. Listed y) (EndsFound x) f plan
-      (fits_so (λ (g : Found) want note. IsUntouched note) (λ g (note : Note) a. finding g a) (walk.HasShown (frames dom) (grants dom) w.create.gref_directory Read) (λ g came. EndsFound x g (Listed came)) ended f plan (walks_show (frames dom) (grants dom) dom w.create.gref_directory Read (walking.pages_of w.create.buffer_sz) f))
-    where
-      ended : (g : Found) (came : Walked) → walk.HasShown (frames dom) (grants dom) w.create.gref_directory Read g came → EndsFound x g (Listed came)
-      ended g (walked.Pages ps) h = tt
-      ended g (walked.Refused why) h = λ q c has is.
-          let same : w.request ≡ q = request_same w.request q (sym w.in_hand ∙ has) in
-          let one : w.create ≡ c = create_same w.create c (sym w.creating.0 ∙ (ap (λ (z : Request). z.asked) same ∙ is)) in
-          subst (λ (z : Create). walk.IsReason (frames dom) (grants dom) z.gref_directory Read g why) one h
+  walk_shows : (x : Known) (w : IsWalking x) (g : Found) (came : Walked) → walk.HasShown (frames dom) (grants dom) w.create.gref_directory Read g came → EndsFound x g (Listed came)
+  walk_shows x w g (walked.Pages ps) h = tt
+  walk_shows x w g (walked.Refused why) h = λ q c has is.
+      let same : w.request ≡ q = request_same w.request q (sym w.in_hand ∙ has) in
+      let one : w.create ≡ c = create_same w.create c (sym w.creating.0 ∙ (ap (λ (z : Request). z.asked) same ∙ is)) in
+      subst (λ (z : Create). walk.IsReason (frames dom) (grants dom) z.gref_directory Read g why) one h
 
   -- what a request leads to
   abbrev Begun : Known → Known → Plan Ending → Type 0
@@ -357,13 +307,13 @@ module _ (frames grants : ℕ → ℕ) (dom parts : ℕ) where
       let none : x.stock.mapped ≡ [] = subst (λ z. HasComeTo x.stock x.scene q z) e come in
       let w : IsWalking x = record { request = q; create = c; in_hand = has; creating = (f, create_accepted x.stock.buffers x.scene q.asked c f h); decided = e; none = none } in
       subst (λ z. Begun x z pl) leads.0 (subst (λ z. Begun x x z) leads.1
-      (s, (ap (λ o. is_some o) has, subst (λ (o : Option Request). Come x.stock x.scene x.progress o) (sym has) come), beside x x (mapped (λ z. Listed z) (walk_plan (frames dom) (grants dom) dom c.gref_directory Read (walking.pages_of c.buffer_sz))) (λ rest held same. walk_fits x w rest held same) (λ f. walk_found x w f)))
+      (s, (ap (λ o. is_some o) has, subst (λ (o : Option Request). Come x.stock x.scene x.progress o) (sym has) come), keeps x x (mapped (λ z. Listed z) (walk_plan (frames dom) (grants dom) dom c.gref_directory Read (walking.pages_of c.buffer_sz))) (λ rest held same. walk_fits frames grants dom display Listed x (adds x w) (EndsHeld x) c.gref_directory (count x w) Read rest held (listed x w held) same) (walk_found frames grants dom Listed (EndsFound x) c.gref_directory (count x w) Read (walk_shows x w))))
   begins_in x q has s come progress.Decided (asked.Destroy cookie) e f h y pl leads =
       let none : x.stock.mapped ≡ [] = subst (λ z. HasComeTo x.stock x.scene q z) e come in
       let destroying : IsDestroying x.stock x.scene q cookie = (f, destroy_accepted x.stock.buffers x.scene q.asked cookie f h) in
       let new = freeing x cookie in
       subst (λ z. Begun x z pl) leads.0 (subst (λ z. Begun x new z) leads.1
-      (freed_sane x q cookie s has e destroying none, (ap (λ o. is_some o) has, subst (λ (o : Option Request). Come new.stock x.scene x.progress o) (sym has) (subst (λ z. HasComeTo new.stock x.scene q z) (sym e) none)), beside x new (unmaps (pages_under cookie x.stock.buffers) (Finished Freed)) (λ rest held same. freed_fits x q cookie s has e destroying none rest held same) (λ f. unmaps_found (EndsFound new) f (pages_under cookie x.stock.buffers) (Finished Freed) tt)))
+      (freed_sane x q cookie s has e destroying none, (ap (λ o. is_some o) has, subst (λ (o : Option Request). Come new.stock x.scene x.progress o) (sym has) (subst (λ z. HasComeTo new.stock x.scene q z) (sym e) none)), keeps x new (unmaps (pages_under cookie x.stock.buffers) (Finished Freed)) (λ rest held same. freed_fits frames grants dom display (EndsHeld new) Freed x new (pages_under cookie x.stock.buffers) rest held (freed_are x q cookie s has e destroying none).0 (freed_split x q cookie s has e destroying none) refl (freed_well x q cookie s has e destroying none) same) (λ f. unmaps_found (EndsFound new) f (pages_under cookie x.stock.buffers) (Finished Freed) tt)))
   begins_in x q has s come progress.Decided (asked.Config c) e f h y pl leads = absurd (true≢false h)
   begins_in x q has s come progress.Decided (asked.Attach c) e f h y pl leads = absurd (true≢false h)
   begins_in x q has s come progress.Decided (asked.Detach c) e f h y pl leads = absurd (true≢false h)
@@ -789,7 +739,7 @@ module _ (frames grants : ℕ → ℕ) (dom parts : ℕ) where
         strips_shows = λ x m s named. (named ∙ sym (like_length (all_bared x.stock.buffers) x.stock.buffers (numbered_all_bared x.stock.buffers [])), ap (λ z. record (shows.rows x m) { buffers = z }) (numbered_all_bared x.stock.buffers m), none_bared x.stock.buffers m, λ key. ap (number_under key) (numbered_all_bared x.stock.buffers m));
         drops = λ x s. (s, refl);
         drops_shows = λ x m named. (named, refl, refl);
-        bare = λ x m named none. names_none x.stock.buffers m (all_behind x.stock.mapped (buffer_pages x.stock.buffers) none);
+        bare = λ x m named none. names_none x.stock.buffers m (right_nil x.stock.mapped (buffer_pages x.stock.buffers) none);
         takes = λ x part words s h. let b = takes x.stock x.scene x.request x.progress part words s h.0 in (b.0, (b.1, takes_whole x.stock x.scene x.request x.progress part words h));
         takes_pages = λ x part words. refl;
         takes_shows = λ x part words m named. (named, refl, refl);

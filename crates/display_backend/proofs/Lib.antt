@@ -5,7 +5,6 @@ pub mod HasWork
 pub mod HeldThroughout
 pub mod Hosts
 pub mod Keeps
-pub mod Mapped
 pub mod Names
 pub mod Numbered
 pub mod Pending

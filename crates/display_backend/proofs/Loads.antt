@@ -14,7 +14,7 @@ use Rattle.device_service.specs.declared.deed.Now.TheVariants.{GoesOn, Over}
 use Rattle.device_service.specs.Operating.{Continues, Leaves, Serves}
 use Rattle.display_backend.specs.declared.waiting.Waiting.{Waiting}
 use Rattle.display_backend.specs.Waiting.{said_of}
-use Rattle.display_backend.proofs.Serviced.{goes_mapped}
+use Rattle.device_service.proofs.Mapping.Steps.{goes_mapped}
 use Rattle.device_service.specs.Service.{Deed, Runs}
 use Rattle.device_service.proofs.InPages.{StaysInPages}
 use Rattle.octet_window.specs.Octets.{words_of}

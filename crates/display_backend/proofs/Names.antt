@@ -6,7 +6,9 @@ use Rattle.display_buffers.specs.Buffers.{AreDistinct, IsFresh, cookies, has_coo
 use Rattle.display_buffers.proofs.Rows.{without_fresh}
 use Rattle.display_buffers.specs.Stock.{Held, buffer_pages, pages_under, with_pages, bared, all_bared}
 use Rattle.device_core.specs.Names.{Name, cells_of}
-use Rattle.display_backend.specs.Names.{ids_without, live_names, named_if, names_under}
+use Rattle.display_backend.specs.Names.{ids_without, live_names, names_under}
+use Rattle.device_service.specs.Named.{named_if}
+use Rattle.device_service.proofs.Mapping.Named.{named_behind, named_one}
 use Rattle.display_backend.proofs.Numbered.{AreAll, ids_fresh}
 
 -- buffers without pages have no names
@@ -23,14 +25,6 @@ pub none_bared : (bs : List Held) (ns : List ℕ) → live_names (all_bared bs) 
 none_bared [] ns = refl
 none_bared (b ∷ bs) [] = refl
 none_bared (b ∷ bs) (n ∷ ns) = none_bared bs ns
-
-named_behind : (pages : List Hold) (n : ℕ) (xs ys : List Name) → named_if pages n (xs ++ ys) ≡ named_if pages n xs ++ ys
-named_behind [] n xs ys = refl
-named_behind (h ∷ hs) n xs ys = refl
-
-named_one : (pages : List Hold) (n : ℕ) → 0 < length pages → named_if pages n [] ≡ record { number = n; cells = cells_of pages } ∷ []
-named_one [] n some = absurd (omega (arith, some))
-named_one (h ∷ hs) n some = refl
 
 -- a buffer of pages has a name of their words
 pub names_with : (bs : List Held) (ns : List ℕ) (b : Held) (n : ℕ) → AreAll bs ns → 0 < length b.pages → live_names (bs ++ b ∷ []) (ns ++ n ∷ []) ≡ live_names bs ns ++ record { number = n; cells = cells_of b.pages } ∷ []

@@ -1,5 +1,5 @@
 -- The buffers as the machine has them: each with its number in place of its pages.
-use Rattle.std.proofs.Common.{◌≡◌, inl, inr, ℕ, zero, suc, ◌≤◌, ◌==◌, ℤ, pos, negsuc, Bool, true, false, not, cond, nat_le, List, [], ◌∷◌, ◌++◌, Option, Some, option_map, is_some, Result, Ok, Err, refl, sym, ◌∙◌, ap, subst, arith, length, length-append}
+use Rattle.std.proofs.Common.{◌≡◌, inl, inr, ℕ, suc, ◌≤◌, ◌==◌, ℤ, pos, Bool, true, false, not, cond, nat_le, List, [], ◌∷◌, ◌++◌, Option, Some, option_map, is_some, Result, Ok, Err, refl, sym, ◌∙◌, ap, subst, arith, length, length-append}
 use Rattle.std.proofs.lemmas.Bool.{eqb-true}
 use Rattle.std.specs.List.{AllByRecursion}
 use Rattle.pv_words.specs.declared.grant.Hold.{Hold}
@@ -17,7 +17,7 @@ use Rattle.display_backend.specs.Names.{ids_without, numbered}
 use Rattle.framebuffers.specs.Frames.{attach_check, is_used, with_frame}
 use Rattle.display_backend.specs.Scene.{Scene, scene_after}
 use Rattle.display_buffers.specs.Buffers.{buffer_at}
-use Rattle.display_backend.specs.Verdict.{IsStatus, checked, destroy_verdict, is_accepted, verdict}
+use Rattle.display_backend.specs.Verdict.{IsStatus, checked, destroy_verdict, verdict}
 
 -- a number for each buffer
 abbrev pub AreAll : List Held → List ℕ → Type 0
@@ -196,11 +196,6 @@ not_refused (Pending f) h = cc
 pub passes_by : (x : Result (Unit {0}) Refused) → checked x ≡ pos 0 → x ≡ Ok tt
 passes_by (Ok tt) h = refl
 passes_by (Err why) h = absurd (not_refused why h)
-
-pub accepted_is : (z : ℤ) → is_accepted z ≡ true → z ≡ pos 0
-accepted_is (pos zero) h = refl
-accepted_is (pos (suc n)) h = let wrong : ⊥ = cc in absurd wrong
-accepted_is (negsuc n) h = let wrong : ⊥ = cc in absurd wrong
 
 -- none are sound
 pub no_buffers : AreSound {P = List Hold} []

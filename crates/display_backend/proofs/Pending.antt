@@ -7,7 +7,6 @@ use Rattle.displ_wire.specs.declared.Config.{Config}
 use Rattle.display_buffers.specs.declared.live.Live.{Live}
 use Rattle.framebuffers.specs.Frames.{frame_of}
 use Rattle.connectors.specs.declared.connector.Connector.{Connector}
-use Rattle.connectors.specs.declared.connector.Flip.{Flip}
 use Rattle.connectors.specs.Connectors.{after_blank, after_detach, after_flip, first_connector, flip_check, pending_of}
 use Rattle.connectors.proofs.Showing.{configured_pending, detached_pending, flips_alone}
 use Rattle.display_backend.specs.Scene.{Scene, after_blank_at, asking, configured, connector_at, detached, flipped, no_scene, pending_at}

@@ -1,5 +1,4 @@
 -- Ports that answer any access.
-use Rattle.pv_words.specs.Plan.{Want}
 use Rattle.pv_words.proofs.Plans as plans
 use Rattle.device_core.specs.Order.{Order, Act, Either, Rest, Rules, Stand, Between, During, Telling, MayChoose, MayStep}
 

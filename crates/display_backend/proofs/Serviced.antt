@@ -1,48 +1,43 @@
 -- What a step of a display's service comes to.
-use Rattle.std.proofs.Common.{◌≡◌, ℕ, ℤ, ◌<◌, ◌++◌, ◌&&◌, Bool, true, false, nat_lt, List, [], ◌∷◌, length, Option, Some, None, refl, sym, ap, subst, ◌∙◌, arith}
+use Rattle.std.proofs.Common.{◌≡◌, ℕ, ℤ, ◌++◌, ◌&&◌, true, false, nat_lt, List, [], length, Option, Some, None, refl, sym, ap, subst, ◌∙◌}
 use Rattle.std.proofs.lemmas.Bool.{true≢false}
 use Rattle.pv_words.specs.declared.access.Access.{Access}
 use Rattle.pv_words.specs.declared.device.Said.{Said}
-use Rattle.pv_words.specs.declared.device.Said.TheVariants as said
 use Rattle.pv_words.specs.declared.grant.Hold.{Hold}
-use Rattle.pv_words.specs.declared.place.Place.TheVariants.{Cell, Grant}
-use Rattle.pv_words.specs.Plan as plan
-use Rattle.pv_words.specs.Plan.{Plan, Finished, Make, Want, Load, Store, Swap, Clear, MayGo, Turns, IsUnfinished, joined, mapped, wanted}
+use Rattle.pv_words.specs.Plan.{Plan, mapped}
 use Rattle.displ_wire.specs.declared.Asked.{Asked}
 use Rattle.displ_wire.specs.declared.Asked.TheVariants as asked
 use Rattle.displ_wire.specs.declared.Create.{Create}
 use Rattle.displ_wire.specs.declared.Request.{Request}
 use Rattle.display_buffers.specs.Buffers.{check_of}
-use Rattle.page_directory.specs.declared.walk.Walked.{Walked}
-use Rattle.page_directory.specs.declared.walk.Walked.TheVariants as walked
-use Rattle.page_directory.specs.Joins.{TurnsOrEnds}
 use Rattle.page_directory.specs.declared.walk.Walk.{Walk}
-use Rattle.page_directory.specs.WalkLeft.{PagesByAccess, walk_left, dom_of, held_by}
-use Rattle.link_core.specs.Activities.{unmaps}
-use Rattle.link_core.specs.Stays.{LiesIn, AccessIn}
-use Rattle.pv_words.specs.Release.{Drops}
+use Rattle.page_directory.specs.WalkLeft.{walk_left, dom_of, held_by}
+use Rattle.link_core.specs.Stays.{AccessIn}
 use Rattle.device_service.specs.declared.deed.Now.{Now}
-use Rattle.device_service.specs.declared.deed.Now.TheVariants.{GoesOn, Over}
-use Rattle.device_service.specs.Operating.{Comes, Continues, Leaves}
+use Rattle.device_service.specs.Operating.{Comes, Continues}
 use Rattle.display_backend.specs.declared.course.Course.{Course}
 use Rattle.display_backend.specs.declared.course.Course.TheVariants.{Rests, Walks, Frees, Reads}
-use Rattle.display_backend.specs.declared.course.Progress.{Progress}
-use Rattle.display_backend.specs.declared.course.Progress.TheVariants as progress
-use Rattle.display_backend.specs.Course.{Goes, is_under_way, is_walk_of, pages_walked, stock_at, left_at, Creates, Destroys, ComesTo, InHand, HasDestroy, Releases, Stands}
-use Rattle.display_backend.specs.Service.{Known, Ending, Listed, Freed, after_walk, display, has_work, ready_at, ready_for, reply_for, says_at}
+use Rattle.page_directory.specs.declared.progress.Progress.{Progress}
+use Rattle.page_directory.specs.declared.progress.Progress.TheVariants as progress
+use Rattle.display_backend.specs.Course.{is_under_way, is_walk_of, pages_walked, stock_at, left_at, Creates, Destroys, ComesTo, InHand, HasDestroy, Releases, Stands}
+use Rattle.page_directory.specs.Going.{Goes}
+use Rattle.display_backend.specs.Service.{Known, Ending, Listed, display, has_work, ready_for, reply_for}
+use Rattle.page_directory.specs.Progress.{ready_at}
 use Rattle.display_buffers.specs.Stock.{Stock, Held, pages_of, pages_under, less_one, bared, stripped, without_first}
 use Rattle.display_backend.specs.Names.{numbered}
 use Rattle.display_backend.specs.Reply.{reply_to}
 use Rattle.display_backend.specs.Scene.{Scene}
-use Rattle.display_backend.specs.Verdict.{is_accepted, status_in, verdict}
-use Rattle.page_directory.proofs.Releases.{drops_goes}
+use Rattle.display_backend.specs.Verdict.{verdict}
+use Rattle.page_directory.specs.Progress.{is_accepted, status_in}
 use Rattle.display_backend.proofs.Freeing.{bare_freed}
 use Rattle.display_backend.proofs.Numbered.{AreLike, like_verdict, numbered_all_bared, numbered_bared, same_check}
 use Rattle.display_buffers.proofs.Order.{buffers_stay, none_under, others_stay, under_less}
+use Rattle.device_service.proofs.Mapping.Steps.{walk_on}
 use Rattle.device_service.proofs.Serving.{in_service}
 use Rattle.device_core.specs.Site.{Site}
 use Rattle.device_service.specs.Claims.{site_of}
 use Rattle.std.proofs.lemmas.Bool.{eqb-true}
+use Rattle.page_directory.proofs.Ready.{ready_bare}
 
 abbrev stock : List Hold → List Held → Stock
 stock mapped buffers = record { mapped = mapped; buffers = buffers }
@@ -56,85 +51,6 @@ at_rest Rests s e = refl
 at_rest (Walks w) s e = refl
 at_rest (Reads r) s e = refl
 at_rest (Frees cookie) s e = absurd (true≢false e)
-
-pub goes_mapped : {A B : Type 0} (f : A → B) (p : Plan A) (a : Access) (q : Plan A) → plan.Goes p a q → plan.Goes (mapped f p) a (mapped f q)
-goes_mapped f (Finished x) a q g = absurd g
-goes_mapped f (Make want note more) a q g = (g.0, ap (mapped f) g.1)
-
--- a walk goes on
-walk_left_on : (x y : Known) (q : Plan Walked) (left : Plan Ending) → IsUnfinished q → y ≡ x → left ≡ mapped Listed q → Leaves display x (mapped Listed q) GoesOn None y left
-walk_left_on x y (Finished came) left u e l = absurd u
-walk_left_on x y (Make want note more) left u e l = (refl, refl, e, l)
-
-pub walk_goes : (x y : Known) (p q : Plan Walked) (access : Option Access) (last : Option Walked) (left : Plan Ending) → last ≡ None → y ≡ x → TurnsOrEnds p access last q → left ≡ mapped Listed q → Comes display x (mapped Listed p) access GoesOn None y left
-walk_goes x y p q None last left e same t l = absurd (subst (λ (z : Option Walked). TurnsOrEnds p None z q) e t)
-walk_goes x y p q (Some a) last left e same t l =
-    let goes : Turns p (Some a) None q = subst (λ (z : Option Walked). TurnsOrEnds p (Some a) z q) e t in
-    (mapped Listed q, goes_mapped (λ z. Listed z) p a q goes.0, walk_left_on x y q left goes.1 same l)
-
--- it is over
-walk_refused : (x y : Known) (p : Plan Walked) (came : Walked) (told : Option Said) (left : Plan Ending) → p ≡ Finished came → PagesByAccess None (Some came) → told ≡ says_at (Listed came) → y ≡ after_walk x came → Comes display x (mapped Listed p) None Over told y left
-walk_refused x y p (walked.Pages ps) told left over h e n = absurd h
-walk_refused x y p (walked.Refused why) told left over h e n =
-    record {
-      end = Listed (walked.Refused why);
-      said = said.Denied why;
-      over = ap (λ (z : Plan Walked). mapped Listed z) over;
-      says = e;
-      said_is = refl;
-      now_is = refl;
-      left = n;
-    }
-
-pub walk_ends : (x y : Known) (p q : Plan Walked) (access : Option Access) (last : Option Walked) (came : Walked) (told : Option Said) (left : Plan Ending) → last ≡ Some came → TurnsOrEnds p access last q → PagesByAccess access last → told ≡ says_at (Listed came) → y ≡ after_walk x came → Comes display x (mapped Listed p) access Over told y left
-walk_ends x y p q None last came told left is t h e n =
-    walk_refused x y p came told left (subst (λ (z : Option Walked). TurnsOrEnds p None z q) is t) (subst (λ (z : Option Walked). PagesByAccess None z) is h) e n
-walk_ends x y p q (Some a) last came told left is t h e n =
-    let goes : Turns p (Some a) (Some came) q = subst (λ (z : Option Walked). TurnsOrEnds p (Some a) z q) is t in
-    (Finished (Listed came), goes_mapped (λ z. Listed z) p a (Finished came) goes, (refl, e, n))
-
--- a walk that isn't over goes on by an access
-pub comes_further : (x : Known) (p : Plan Walked) (access : Option Access) (now : Now) (told : Option Said) (y : Known) (left : Plan Ending) → IsUnfinished p → Comes display x (mapped Listed p) access now told y left → Continues display x (mapped Listed p) access now told y left
-comes_further x (Finished came) None now told y left u c = absurd u
-comes_further x (Make want note more) None now told y left u c = let over = c.over in let wrong : ⊥ = cc over in absurd wrong
-comes_further x p (Some a) now told y left u c = c
-
--- an access to no page
-lies_in_none : (want : Want) (pages : List Hold) → LiesIn [] want → LiesIn pages want
-lies_in_none (Load (Cell d f w)) pages h = absurd h
-lies_in_none (Store (Cell d f w) v) pages h = absurd h
-lies_in_none (Swap (Cell d f w) old new) pages h = absurd h
-lies_in_none (Clear (Cell d f w) mask) pages h = absurd h
-lies_in_none (Load (Grant d g half)) pages h = tt
-lies_in_none (Store (Grant d g half) v) pages h = tt
-lies_in_none (Swap (Grant d g half) old new) pages h = tt
-lies_in_none (Clear (Grant d g half) mask) pages h = tt
-
-pub in_none : (access : Option Access) (held pages : List Hold) → held ≡ [] → AccessIn held access → AccessIn pages access
-in_none None held pages e h = tt
-in_none (Some a) held pages e h = lies_in_none (wanted a) pages (subst (λ (hs : List Hold). LiesIn hs (wanted a)) e h)
-
--- the Release of a DESTROY
-free_left_on : (x y : Known) (hs : List Hold) (left : Plan Ending) → 0 < length hs → y ≡ x → left ≡ unmaps hs (Finished Freed) → Leaves display x (unmaps hs (Finished Freed)) GoesOn None y left
-free_left_on x y [] left some e l = absurd (omega (arith, some))
-free_left_on x y (h ∷ hs) left some e l = (refl, refl, e, l)
-
--- more pages are left
-pub free_goes : (x y : Known) (p : Plan Ending) (hs rest : List Hold) (a : Access) (left : Plan Ending) → p ≡ unmaps hs (Finished Freed) → Drops hs a rest → 0 < length rest → y ≡ x → left ≡ unmaps rest (Finished Freed) → Continues display x p (Some a) GoesOn None y left
-free_goes x y p hs rest a left is drops more same l = (
-  unmaps rest (Finished Freed),
-  subst (λ (z : Plan Ending). plan.Goes z a (unmaps rest (Finished Freed))) (sym is) (drops_goes hs rest a (Finished Freed) drops),
-  free_left_on x y rest left more same l,
-)
-
--- none is left
-pub free_ends : (x y : Known) (p : Plan Ending) (hs rest : List Hold) (a : Access) (left : Plan Ending) → p ≡ unmaps hs (Finished Freed) → Drops hs a rest → rest ≡ [] → y ≡ record x { progress = progress.Released } → Continues display x p (Some a) Over None y left
-free_ends x y p hs rest a left is drops e n = (
-  Finished Freed,
-  subst (λ (z : Plan Ending). plan.Goes z a (Finished Freed)) (sym is)
-      (subst (λ (z : List Hold). plan.Goes (unmaps hs (Finished Freed)) a (unmaps z (Finished Freed))) e (drops_goes hs rest a (Finished Freed) drops)),
-  (refl, refl, n),
-)
 
 module _ (course : Course) (cookie : ℕ) (s t : Stock) (is : course ≡ Frees cookie) (less : t ≡ stock s.mapped (less_one cookie s.buffers)) where
   -- what is given up stays the same
@@ -157,25 +73,13 @@ pub releases : (course : Course) (cookie : ℕ) (hand : Option Request) (p : Pro
 releases course cookie hand p bs count is st = (subst (λ (k : Course). Stands k hand p bs count) is st).1
 
 -- its request is to be answered
-ready_rest : (p : Progress) → ready_at p false ≡ true
-ready_rest progress.Decided = refl
-ready_rest progress.NoMemory = refl
-ready_rest progress.Denied = refl
-ready_rest progress.Mapped = refl
-ready_rest progress.Released = refl
-
-no_work : (b : Bool) → (b && false) ≡ false
-no_work true = refl
-no_work false = refl
-
 ready_destroy : (cookie : ℕ) (hand : Option Request) (p : Progress) (s : Stock) (sc : Scene) → HasDestroy hand cookie → ready_for (knowing (stock s.mapped (bared cookie s.buffers)) sc hand p) hand ≡ true
 ready_destroy cookie None p s sc h = refl
 ready_destroy cookie (Some q) p s sc h =
     let accepted = is_accepted (verdict (bared cookie s.buffers) sc (asked.Destroy cookie)) in
     ap (λ (a : Asked). ready_at p (has_work (bared cookie s.buffers) sc a)) h
     ∙ (ap (λ (hs : List Hold). ready_at p (accepted && nat_lt 0 (length hs))) (none_under cookie s.buffers)
-    ∙ (ap (ready_at p) (no_work accepted)
-    ∙ ready_rest p))
+    ∙ ready_bare p accepted)
 
 pub ready_freeing : (course : Course) (cookie : ℕ) (hand : Option Request) (p : Progress) (s : Stock) (sc : Scene) (count : ℕ) → course ≡ Frees cookie → Stands course hand p s.buffers count → ready_for (knowing (stock_at course s) sc hand p) hand ≡ true
 ready_freeing course cookie hand p s sc count is st =
@@ -238,11 +142,10 @@ pub walk_continues : (frames grants : ℕ → ℕ) (dom parts : ℕ) (course mid
 walk_continues frames grants dom parts course mid w hand p s sc count access now told y left is rests of st comes =
     let dom_is : dom_of w ≡ dom = eqb-true _ _ (subst (λ (k : Course). is_walk_of dom k ≡ true) is of) in
     let goes : Goes w = (subst (λ (k : Course). Stands k hand p s.buffers count) is st).2 in
-    let plan = walk_left (frames (dom_of w)) (grants (dom_of w)) w in
-    let from = subst (λ (k : Course). Comes display (knowing (stock_at k s) sc hand p) (mapped Listed plan) access now told y (left (site_of frames grants (dom_of w) parts))) rests (comes parts) in
-    let further = comes_further (knowing s sc hand p) plan access now told y (left (site_of frames grants (dom_of w) parts)) (goes.further (frames (dom_of w)) (grants (dom_of w))) from in
-    let at = subst (λ n. Continues display (knowing s sc hand p) (mapped Listed (walk_left (frames n) (grants n) w)) access now told y (left (site_of frames grants n parts))) dom_is further in
-    subst (λ (k : Course). Continues display (knowing (stock_at k s) sc hand p) (left_at (site_of frames grants dom parts) k s) access now told y (left (site_of frames grants dom parts))) (sym is) at
+    let at : (n : ℕ) → Comes display (knowing s sc hand p) (mapped Listed (walk_left (frames (dom_of w)) (grants (dom_of w)) w)) access now told y (left (site_of frames grants (dom_of w) n)) =
+    λ n. subst (λ (k : Course). Comes display (knowing (stock_at k s) sc hand p) (mapped Listed (walk_left (frames (dom_of w)) (grants (dom_of w)) w)) access now told y (left (site_of frames grants (dom_of w) n))) rests (comes n) in
+    subst (λ (k : Course). Continues display (knowing (stock_at k s) sc hand p) (left_at (site_of frames grants dom parts) k s) access now told y (left (site_of frames grants dom parts))) (sym is)
+    (walk_on display Listed frames grants dom parts w (knowing s sc hand p) y access now told left dom_is goes.further at)
 
 -- in a page that it holds
 pub in_walked : (access : Option Access) (course : Course) (w : Walk) (s : Stock) → course ≡ Walks w → AccessIn (held_by w) access → AccessIn (pages_walked course ++ pages_of s) access

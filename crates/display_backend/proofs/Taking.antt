@@ -11,7 +11,8 @@ use Rattle.page_directory.specs.Same.{times}
 use Rattle.page_directory.proofs.Counts.{covers_counted, has_counted, times_append, times_here}
 use Rattle.link_core.specs.Laws.{AreOf}
 use Rattle.device_core.specs.Names.{Name, cells_from, cells_of}
-use Rattle.display_backend.specs.Names.{live_names, named_if, numbered}
+use Rattle.display_backend.specs.Names.{live_names, numbered}
+use Rattle.device_service.specs.Named.{named_if}
 use Rattle.display_backend.specs.Picture.{number_under}
 use Rattle.display_buffers.specs.Stock.{Held, pages_under}
 

@@ -10,14 +10,15 @@ use Rattle.displ_wire.specs.declared.Create.{Create}
 use Rattle.displ_wire.specs.declared.Request.{Request}
 use Rattle.displ_wire.specs.declared.buffer.Buffer.{Buffer}
 use Rattle.display_buffers.specs.Buffers.{buffer_of, has_cookie, made_of, with_buffer, without_buffer}
-use Rattle.display_backend.specs.declared.course.Progress.{Progress}
-use Rattle.display_backend.specs.declared.course.Progress.TheVariants as progress
+use Rattle.page_directory.specs.declared.progress.Progress.{Progress}
+use Rattle.page_directory.specs.declared.progress.Progress.TheVariants as progress
 use Rattle.display_backend.specs.Kept.{AreAllOf, AreMapped, AreWholeBut, HasComeTo, WholeFor, goes_by}
 use Rattle.display_backend.specs.Reply.{stock_after}
 use Rattle.display_backend.specs.Scene.{Scene}
 use Rattle.display_buffers.specs.Buffers.{buffer_at}
 use Rattle.display_buffers.specs.Stock.{Stock, Held, bared, pages_under, with_pages}
-use Rattle.display_backend.specs.Verdict.{is_accepted, status_in, verdict}
+use Rattle.display_backend.specs.Verdict.{verdict}
+use Rattle.page_directory.specs.Progress.{is_accepted, status_in}
 use Rattle.display_backend.proofs.Answering.{IsDone}
 
 -- what is so of each buffer is so of the live one of a cookie, whose pages are those under it

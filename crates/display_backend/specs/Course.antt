@@ -1,19 +1,19 @@
 -- What a display's service is at, and what that says of the request in hand.
 use Rattle.std.specs.Prelude.{◌≡◌, ℕ, ◌<◌, ◌==◌, Bool, true, false, List, [], length, Option, Some, None, Ok}
 use Rattle.pv_words.specs.declared.grant.Hold.{Hold}
-use Rattle.pv_words.specs.Plan.{Plan, Finished, IsUnfinished, mapped}
+use Rattle.pv_words.specs.Plan.{Plan, Finished, MayGo, Want, mapped}
 use Rattle.displ_wire.specs.declared.Asked.{Asked}
 use Rattle.displ_wire.specs.declared.Asked.TheVariants as asked
 use Rattle.displ_wire.specs.declared.Request.{Request}
 use Rattle.display_buffers.specs.Buffers.{check_of}
 use Rattle.display_buffers.specs.Pixels.{page_count}
-use Rattle.page_directory.specs.declared.walk.Walk.{Walk}
+use Rattle.page_directory.specs.Going.{Goes}
 use Rattle.page_directory.specs.WalkLeft as walk
 use Rattle.page_directory.specs.WalkLeft.{walk_left, held_by, count_of}
 use Rattle.link_core.specs.Activities.{unmaps}
 use Rattle.device_core.specs.Site.{Site}
-use Rattle.display_backend.specs.declared.course.Progress.{Progress}
-use Rattle.display_backend.specs.declared.course.Progress.TheVariants as progress
+use Rattle.page_directory.specs.declared.progress.Progress.{Progress}
+use Rattle.page_directory.specs.declared.progress.Progress.TheVariants as progress
 use Rattle.display_backend.specs.declared.course.Course.{Course}
 use Rattle.display_backend.specs.declared.course.Course.TheVariants.{Rests, Walks, Frees, Reads}
 use Rattle.picture_scan.specs.Scan as scan
@@ -58,6 +58,11 @@ scan_left bs r = scan.left_of (pages_at bs r.place) r.scan
 abbrev pub reading_left : List Held → Reading → Plan Ending
 reading_left bs r = mapped (Pictured r.part) (scan_left bs r)
 
+-- a picture is read, and its next load may be made
+abbrev pub ReadsPicture : (may : Want → Type 0) → List Held → Course → Type 0
+ReadsPicture may bs (Reads r) = MayGo may (scan_left bs r)
+ReadsPicture may bs course = ⊥
+
 -- what is left of a walk, of a Release, and of a reading
 abbrev pub left_at : Site → Course → Stock → Plan Ending
 left_at site Rests s = Finished Freed
@@ -99,11 +104,6 @@ HasCreate (Some q) bs count = Creates q.asked bs count
 abbrev pub HasDestroy : Option Request → ℕ → Type 0
 HasDestroy None cookie = ⊥
 HasDestroy (Some q) cookie = q.asked ≡ asked.Destroy cookie
-
--- a walk of which an access is still to be made
-pub record Goes (w : Walk) : Type 0 where
-  pub going : walk.is_over w ≡ false
-  pub further : (frames grants : ℕ) → IsUnfinished (walk_left frames grants w)
 
 -- some page of the buffer of a DESTROY is held
 pub record Releases (cookie : ℕ) (hand : Option Request) (bs : List Held) : Type 0 where

@@ -1,22 +1,17 @@
 -- What is always true of the request in hand of a display's service is a fact.
 use Rattle.std.proofs.Common.{ℕ, List, Option, Some, None}
 use Rattle.std.proofs.Props.{props}
-use Rattle.pv_words.specs.Plan.{Plan, Finished, Make, IsUnfinished}
 use Rattle.displ_wire.specs.declared.Asked.{Asked}
 use Rattle.displ_wire.specs.declared.Asked.TheVariants as asked
 use Rattle.displ_wire.specs.declared.Request.{Request}
-use Rattle.page_directory.specs.declared.walk.Walk.{Walk}
 use Rattle.display_backend.specs.declared.course.Course.{Course}
 use Rattle.display_backend.specs.declared.course.Course.TheVariants.{Rests, Walks, Frees, Reads}
-use Rattle.display_backend.specs.declared.course.Progress.{Progress}
-use Rattle.display_backend.specs.declared.course.Progress.TheVariants as progress
-use Rattle.display_backend.specs.Course.{Creates, Destroys, ComesTo, InHand, HasCreate, HasDestroy, Goes, IsReading, Releases, Stands}
+use Rattle.page_directory.specs.declared.progress.Progress.{Progress}
+use Rattle.page_directory.specs.declared.progress.Progress.TheVariants as progress
+use Rattle.display_backend.specs.Course.{Creates, Destroys, ComesTo, InHand, HasCreate, HasDestroy, IsReading, Releases, Stands}
+use Rattle.page_directory.specs.Going.{goes_prop}
 use Rattle.display_backend.specs.declared.picture.Reading.{Reading}
 use Rattle.display_buffers.specs.Stock.{Held}
-
-further_prop : {A : Type 0} (p : Plan A) → IsProp (IsUnfinished p)
-further_prop (Finished x) = hlevel props
-further_prop (Make want note more) = hlevel props
 
 creates_prop : (asks : Asked) (bs : List Held) (count : ℕ) → IsProp (Creates asks bs count)
 creates_prop (asked.Create c) bs count = hlevel props
@@ -42,9 +37,6 @@ create_prop (Some q) bs count = creates_prop q.asked bs count
 destroy_prop : (hand : Option Request) (cookie : ℕ) → IsProp (HasDestroy hand cookie)
 destroy_prop None cookie = hlevel props
 destroy_prop (Some q) cookie = hlevel props
-
-goes_prop : (w : Walk) → IsProp (Goes w)
-goes_prop w = hlevel (props, further_prop)
 
 releases_prop : (cookie : ℕ) (hand : Option Request) (bs : List Held) → IsProp (Releases cookie hand bs)
 releases_prop cookie hand bs = hlevel (props, destroy_prop)

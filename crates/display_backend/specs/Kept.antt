@@ -19,10 +19,11 @@ use Rattle.page_directory.specs.Laws as walk
 use Rattle.link_core.specs.Laws.{AreOf}
 use Rattle.device_core.specs.Touched.{Touch}
 use Rattle.device_service.specs.Laws.{Facts}
+use Rattle.page_directory.specs.Lists.{left_nil, right_nil}
 use Rattle.display_backend.specs.declared.course.Course.{Course}
 use Rattle.display_backend.specs.declared.course.Course.TheVariants.{Rests, Walks, Frees, Reads}
-use Rattle.display_backend.specs.declared.course.Progress.{Progress}
-use Rattle.display_backend.specs.declared.course.Progress.TheVariants as progress
+use Rattle.page_directory.specs.declared.progress.Progress.{Progress}
+use Rattle.page_directory.specs.declared.progress.Progress.TheVariants as progress
 use Rattle.display_backend.specs.declared.waiting.Waiting.{Waiting}
 use Rattle.display_backend.specs.declared.waiting.Waiting.TheVariants as waiting
 use Rattle.display_backend.specs.Course.{is_under_way, pages_walked, stock_at}
@@ -33,7 +34,8 @@ use Rattle.display_backend.specs.Picture.{source_at}
 use Rattle.picture_scan.specs.declared.scan.Shown.{Shown}
 use Rattle.picture_scan.specs.Laws.{HasShown}
 use Rattle.device_core.specs.Names.{cells_of}
-use Rattle.display_backend.specs.Verdict.{is_accepted, verdict}
+use Rattle.display_backend.specs.Verdict.{verdict}
+use Rattle.page_directory.specs.Progress.{is_accepted}
 use Rattle.display_buffers.specs.Stock.{Stock, Held, pages_of, buffer_pages, pages_under, with_pages, all_bared, stripped}
 
 -- the request in hand is a CREATE that is accepted, or a DESTROY of this cookie
@@ -164,14 +166,6 @@ module _ (frames grants : ℕ → ℕ) (dom parts : ℕ) where
 
   abbrev pub facts : Facts Known Ending Waiting (List ℕ)
   facts = record { Sane = IsSane; Has = HasWhole; Named = IsNamed; EndsOwn = EndsOwn; EndsDone = EndsDone; Meets = Meets }
-
-pub left_nil : {A : Type 0} (xs ys : List A) → xs ++ ys ≡ [] → xs ≡ []
-left_nil [] ys e = refl
-left_nil (x ∷ xs) ys e = let wrong : ⊥ = cc in absurd wrong
-
-pub right_nil : {A : Type 0} (xs ys : List A) → xs ++ ys ≡ [] → ys ≡ []
-right_nil [] ys e = e
-right_nil (x ∷ xs) ys e = let wrong : ⊥ = cc in absurd wrong
 
 -- where no page is held, giving up all of them changes nothing
 bare_buffers : (bs : List Held) → buffer_pages bs ≡ [] → all_bared bs ≡ bs

@@ -1,7 +1,6 @@
 -- What a display tells that it holds, and what it shows.
 use Rattle.std.specs.Prelude.{◌≡◌, ℕ, ◌+◌, ◌<◌, ◌≤◌, ◌⊎◌, true, List, Option, Some}
 use Rattle.pv_words.specs.Along.{after}
-use Rattle.pv_words.specs.declared.grant.Hold.{Hold}
 use Rattle.displ_wire.specs.declared.buffer.Buffer.{Buffer}
 use Rattle.displ_wire.specs.declared.framebuffer.Framebuffer.{Framebuffer}
 use Rattle.display_buffers.specs.Buffers.{buffer_at}
@@ -13,21 +12,14 @@ use Rattle.device_core.specs.Site.{Site}
 use Rattle.device_service.specs.Claims.{IsWork, site_of}
 use Rattle.device_service.specs.Held as held
 use Rattle.device_service.specs.Work.{device, first_station}
-use Rattle.display_backend.specs.declared.display.Display.{Display}
+use Rattle.display_backend.specs.contracts.service.ServiceServe.TheImpl.{ghosts}
 use Rattle.display_backend.specs.Scene.{connector_at}
 use Rattle.display_backend.specs.Service.{Known, display, nothing_known, shows, table}
-
--- Whatever it has done and heard, where it stands by that its accesses hold so many pages; and they hold this page.
-abbrev pub HoldsAsMany : Display → ℕ → Type 0
-HoldsAsMany d n = held.HoldsAsMany d.backend n
-
-abbrev pub HoldsPage : Display → Hold → Type 0
-HoldsPage d h = held.HoldsPage d.backend h
 
 -- Wherever a display stands by what it has done and heard, the pages that it tells are just those that its accesses hold, each as
 -- often.
 abbrev pub TellsWhatIsHeld : Type 0
-TellsWhatIsHeld = (d : Display) → held.TellsWhatIsHeld d.backend
+TellsWhatIsHeld = held.AllTell ghosts
 
 -- what a display's service knows that has done and heard this since it was declared
 abbrev pub known_by : Site → List Own → Known

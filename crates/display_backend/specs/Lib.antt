@@ -1,6 +1,5 @@
 pub mod Course
 pub mod CourseFacts
-pub mod Display
 pub mod Kept
 pub mod Known
 pub mod Laws

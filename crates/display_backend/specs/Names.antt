@@ -1,11 +1,11 @@
 -- The names of live buffers.
-use Rattle.std.specs.Prelude.{ℕ, Bool, true, List, [], ◌∷◌, ◌++◌, map, if◌then◌else◌}
-use Rattle.pv_words.specs.declared.grant.Hold.{Hold}
+use Rattle.std.specs.Prelude.{ℕ, Bool, true, List, [], ◌∷◌, ◌++◌, if◌then◌else◌}
 use Rattle.displ_wire.specs.declared.Asked.{Asked}
 use Rattle.displ_wire.specs.declared.Asked.TheVariants as asked
 use Rattle.display_buffers.specs.declared.live.Live.{Live}
 use Rattle.display_buffers.specs.Buffers.{has_cookie}
-use Rattle.device_core.specs.Names.{Name, cells_of}
+use Rattle.device_core.specs.Names.{Name}
+use Rattle.device_service.specs.Named.{named_if}
 use Rattle.display_buffers.specs.Stock.{Held}
 
 -- the buffers, each with its number in place of its pages
@@ -15,17 +15,10 @@ numbered (b ∷ bs) [] = record { buffer = b.buffer; pages = 0 } ∷ numbered bs
 numbered (b ∷ bs) (n ∷ ns) = record { buffer = b.buffer; pages = n } ∷ numbered bs ns
 
 -- the names of the buffers that have pages
-abbrev pub named_if : List Hold → ℕ → List Name → List Name
-named_if [] n others = others
-named_if (h ∷ hs) n others = record { number = n; cells = cells_of (h ∷ hs) } ∷ others
-
 abbrev pub live_names : List Held → List ℕ → List Name
 live_names [] ns = []
 live_names (b ∷ bs) [] = []
 live_names (b ∷ bs) (n ∷ ns) = named_if b.pages n (live_names bs ns)
-
-abbrev pub numbers : List Name → List ℕ
-numbers names = map (λ (n : Name). n.number) names
 
 -- the name of the buffer of a cookie, if it has pages
 abbrev pub names_under : ℕ → List Held → List ℕ → List Name

@@ -3,19 +3,16 @@ use Rattle.std.specs.Prelude.{◌≡◌, ℕ, List, length, Option, Some, None}
 use Rattle.pv_words.specs.declared.grant.Hold.{Hold}
 use Rattle.pv_words.specs.declared.grant.Mode.TheVariants.{Read}
 use Rattle.pv_words.specs.declared.words.Words.{Ghosts as Words}
-use Rattle.pv_words.specs.Plan.{Plan, Finished, mapped}
+use Rattle.pv_words.specs.Plan.{Plan, Finished}
 use Rattle.displ_wire.specs.declared.Asked.TheVariants as asked
 use Rattle.displ_wire.specs.declared.Create.{Create}
 use Rattle.displ_wire.specs.declared.Request.{Request}
-use Rattle.page_directory.specs.declared.walk.Walk.{Walk}
 use Rattle.page_directory.specs.declared.walk.Walked.{Walked}
 use Rattle.page_directory.specs.declared.walk.Walked.TheVariants as walked
 use Rattle.page_directory.specs.Walking as walking
 use Rattle.page_directory.specs.Walking.{walk_plan}
-use Rattle.page_directory.specs.WalkLeft.{dom_of, walk_left}
 use Rattle.device_core.specs.Site.{Site}
-use Rattle.device_service.specs.Claims.{site_of}
-use Rattle.device_service.specs.Operating.{Begins, Comes, Continues, Serves}
+use Rattle.device_service.specs.Operating.{Begins, Continues, Serves}
 use Rattle.device_service.specs.Service.{Runs}
 use Rattle.device_service.specs.declared.deed.Deed.{Deed}
 use Rattle.display_backend.specs.declared.service.Service.{Service}
@@ -24,7 +21,7 @@ use Rattle.display_backend.specs.declared.waiting.Waiting.TheVariants as waiting
 use Rattle.display_buffers.specs.Store.{stock_of}
 use Rattle.display_backend.specs.Course.{HasCreate, IsReading, reading_left}
 use Rattle.display_backend.specs.Known.{known_of, left_of}
-use Rattle.display_backend.specs.Service.{Listed, Served, display, event_for, job_of}
+use Rattle.display_backend.specs.Service.{Served, display, event_for, job_of}
 use Rattle.display_buffers.specs.Stock.{Held}
 
 -- the request in hand is a CREATE of so many octets; of as many pages as a walk came to
@@ -41,11 +38,7 @@ ReadsFor d part (Some r) =
     (event_for (known_of d) (waiting.Show part) ≡ Runs (reading_left (stock_of d.store).buffers r)) × IsReading r (stock_of d.store).buffers
 
 module _ (site : Site) (old : Service) where
-  -- the next step of the reading of a picture; the first of a Show
-  abbrev pub ReadsOn : Reading → Deed → Service → Type 0
-  ReadsOn r deed new =
-      Continues display (known_of old) (reading_left (stock_of old.store).buffers r) deed.access deed.now deed.said (known_of new) (left_of site new)
-
+  -- the first step of a Show
   abbrev pub ShowsFor : (part : ℕ) → Deed → Service → Type 0
   ShowsFor part deed new =
       Serves display (known_of old) (event_for (known_of old) (waiting.Show part)) deed.access deed.now deed.said (known_of new) (left_of site new)
@@ -55,29 +48,8 @@ module _ (site : Site) (old : Service) where
   BeginsCreate c deed new =
       Begins display (job_of site (known_of old) (asked.Create c)) deed.access deed.now deed.said (known_of new) (left_of site new)
 
-  -- the next step of a walk of which this is left
-  abbrev pub ComesBy : Plan Walked → Deed → Service → Type 0
-  ComesBy left deed new =
-      Comes display (known_of old) (mapped Listed left) deed.access deed.now deed.said (known_of new) (left_of site new)
-
-  -- the next step of what is under way
-  abbrev pub GoesOn : Deed → Service → Type 0
-  GoesOn deed new =
-      Continues display (known_of old) (left_of site old) deed.access deed.now deed.said (known_of new) (left_of site new)
-
 module _ {W : Type 0} (m : Words W) (words : W) where
-  -- a device of this domain, of so many parts, by the numbers of frames and grant entries that these words have
-  abbrev pub site_over : (dom parts : ℕ) → Site
-  site_over dom parts = site_of (m.frames_of words) (m.grants_of words) dom parts
-
-  -- the walk of a CREATE, and what is left of a walk
+  -- the walk of a CREATE
   abbrev pub create_walk : ℕ → Create → Plan Walked
   create_walk dom c =
       walk_plan (m.frames_of words dom) (m.grants_of words dom) dom c.gref_directory Read (walking.pages_of c.buffer_sz)
-
-  abbrev pub walk_over : Walk → Plan Walked
-  walk_over walk = walk_left (m.frames_of words (dom_of walk)) (m.grants_of words (dom_of walk)) walk
-
-  -- the next step of a walk, however many parts the device has
-  abbrev pub WalksOn : Service → Walk → Deed → Service → Type 0
-  WalksOn old walk deed new = (parts : ℕ) → ComesBy (site_over (dom_of walk) parts) old (walk_over walk) deed new

@@ -1,5 +1,5 @@
 -- The display as a service of the order of work of every device.
-use Rattle.std.specs.Prelude.{◌≡◌, ℕ, ◌*◌, ◌%◌, ◌&&◌, nat_lt, ℤ, pos, Bool, true, false, not, List, [], length, replicate, Option, Some, None, IsSome, if◌then◌else◌}
+use Rattle.std.specs.Prelude.{◌≡◌, ℕ, ◌*◌, ◌%◌, ◌&&◌, nat_lt, ℤ, pos, Bool, true, false, List, [], length, replicate, Option, Some, None, IsSome, if◌then◌else◌}
 use Rattle.pv_words.specs.declared.device.Said.{Said}
 use Rattle.pv_words.specs.declared.device.Said.TheVariants as said
 use Rattle.pv_words.specs.declared.grant.GrantRefusal.{GrantRefusal}
@@ -21,22 +21,25 @@ use Rattle.page_directory.specs.Walking as walking
 use Rattle.host_events.specs.Queue.{refusal_of}
 use Rattle.link_core.specs.Activities.{unmaps}
 use Rattle.device_core.specs.Names.{cells_of}
-use Rattle.display_backend.specs.declared.course.Progress.{Progress}
-use Rattle.display_backend.specs.declared.course.Progress.TheVariants as progress
+use Rattle.page_directory.specs.declared.progress.Progress.{Progress}
+use Rattle.page_directory.specs.declared.progress.Progress.TheVariants as progress
 use Rattle.display_backend.specs.declared.waiting.Waiting.{Waiting}
 use Rattle.display_backend.specs.declared.waiting.Waiting.TheVariants as waiting
 use Rattle.display_backend.specs.Waiting.{said_of, waiting_of}
 use Rattle.display_buffers.specs.Stock.{Stock, Held, no_stock, pages_of, pages_under, bared}
 use Rattle.display_buffers.specs.Stock as stock
-use Rattle.display_backend.specs.Names.{ids_after, live_names, names_under, numbered, numbers}
+use Rattle.display_backend.specs.Names.{ids_after, live_names, names_under, numbered}
+use Rattle.device_service.specs.Named.{numbers}
 use Rattle.picture_scan.specs.declared.scan.Shown.{Shown}
 use Rattle.picture_scan.specs.Scanning.{scan_plan}
 use Rattle.display_backend.specs.declared.picture.Source.{Source}
 use Rattle.display_backend.specs.Picture.{AreShown, is_within, number_under, source_at}
 use Rattle.display_backend.specs.Reply.{replied_to, reply_to, stock_after}
 use Rattle.display_backend.specs.Scene.{Scene, after_blank_at, no_scene, pending_at, scene_after}
-use Rattle.display_backend.specs.Verdict.{IsStatus, is_accepted, is_creation, is_denied, status_in, verdict}
+use Rattle.display_backend.specs.Verdict.{IsStatus, is_creation, verdict}
+use Rattle.page_directory.specs.Progress.{is_accepted, is_denied, status_in, ready_at}
 use Rattle.device_core.specs.Site.{Site}
+use Rattle.device_service.specs.Mapping.{denied_by}
 use Rattle.device_service.specs.Nodes.{Ringed}
 use Rattle.device_service.specs.Service.{Deed, Job, Works, Starves, Runs, Raises, Service}
 use Rattle.device_service.specs.Rows.{Table, Evidence}
@@ -71,10 +74,6 @@ has_work bs sc (asked.Create c) = is_accepted (verdict bs sc (asked.Create c))
 has_work bs sc (asked.Destroy cookie) = is_accepted (verdict bs sc (asked.Destroy cookie)) && nat_lt 0 (length (pages_under cookie bs))
 has_work bs sc asks = false
 
-abbrev pub ready_at : Progress → Bool → Bool
-ready_at progress.Decided working = not working
-ready_at p working = true
-
 abbrev pub ready_for : Known → Option Request → Bool
 ready_for x None = true
 ready_for x (Some q) = ready_at x.progress (has_work x.stock.buffers x.scene q.asked)
@@ -91,11 +90,6 @@ job_of site x asks = Works x (Finished Freed)
 abbrev pub job_for : Site → Known → Option Request → Job Known Ending
 job_for site x None = Works x (Finished Freed)
 job_for site x (Some q) = job_of site x q.asked
-
--- the page that was denied, where a walk was refused
-abbrev pub denied_by : Walked → Option Said
-denied_by (walked.Pages pages) = None
-denied_by (walked.Refused why) = Some (said.Denied why)
 
 abbrev pub says_at : Ending → Option Said
 says_at (Listed came) = denied_by came

@@ -1,5 +1,5 @@
 -- The verdict on a request, and the status that answers it.
-use Rattle.std.specs.Prelude.{◌≡◌, ◌⊎◌, zero, ℤ, pos, negsuc, Bool, true, false, List, is_some, Result, Ok, Err}
+use Rattle.std.specs.Prelude.{ℤ, pos, negsuc, Bool, true, false, List, is_some, Result, Ok, Err}
 use Rattle.displ_wire.specs.declared.Asked.{Asked}
 use Rattle.displ_wire.specs.declared.Asked.TheVariants as asked
 use Rattle.displ_wire.specs.declared.buffer.Refused.{Refused}
@@ -11,8 +11,7 @@ use Rattle.framebuffers.specs.Frames.{attach_check, detach_check, frame_of, is_u
 use Rattle.connectors.specs.Connectors.{config_check, flip_check}
 use Rattle.display_backend.specs.Scene.{Scene, asking}
 use Rattle.display_buffers.specs.Buffers.{buffer_at}
-use Rattle.display_backend.specs.declared.course.Progress.{Progress}
-use Rattle.display_backend.specs.declared.course.Progress.TheVariants as progress
+use Rattle.page_directory.specs.Progress.{IsStatusOf}
 
 -- the status of a request, as its checks come out
 abbrev pub checked : Result (Unit {0}) Refused → ℤ
@@ -39,40 +38,11 @@ verdict bs sc (asked.Config c) = checked (config_check c (frame_of c.fb_cookie s
 verdict bs sc (asked.Flip fb) = checked (flip_check (asking sc) (frame_of fb sc.frames))
 verdict bs sc asked.Other = status_of NotSupported
 
--- want of memory (ENOMEM), and a page that is denied (EACCES)
-abbrev pub no_memory : ℤ
-no_memory = negsuc 11
-
-abbrev pub no_access : ℤ
-no_access = negsuc 12
-
-abbrev pub is_accepted : ℤ → Bool
-is_accepted (pos zero) = true
-is_accepted other = false
-
 abbrev pub is_creation : Asked → Bool
 is_creation (asked.Create c) = true
 is_creation asks = false
 
--- the status of the request in hand: its verdict, unless memory was wanting or a page was denied
-abbrev pub status_in : Progress → ℤ → ℤ
-status_in progress.Decided verdict = verdict
-status_in progress.NoMemory verdict = no_memory
-status_in progress.Denied verdict = no_access
-status_in progress.Mapped verdict = verdict
-status_in progress.Released verdict = verdict
-
--- a page was denied to it
-abbrev pub is_denied : Progress → Bool
-is_denied progress.Decided = false
-is_denied progress.NoMemory = false
-is_denied progress.Denied = true
-is_denied progress.Mapped = false
-is_denied progress.Released = false
-
 -- The status that answers a request: where a page was denied to it, just that; else its verdict, or, of an accepted CREATE,
 -- want of memory.
 abbrev pub IsStatus : {P : Type 0} → (denied : Bool) → List (Live P) → Scene → Asked → ℤ → Type 0
-IsStatus true bs sc asks status = status ≡ no_access
-IsStatus false bs sc asks status =
-    (status ≡ verdict bs sc asks) ⊎ ((is_creation asks ≡ true) × (verdict bs sc asks ≡ pos 0) × (status ≡ no_memory))
+IsStatus denied bs sc asks status = IsStatusOf denied (is_creation asks) (verdict bs sc asks) status

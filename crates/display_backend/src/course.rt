@@ -1,22 +1,7 @@
-//! What a display's service is at, and how far the request in hand has come.
+//! What a display's service is at.
 
 use crate::picture::Reading;
 use page_directory::Walk;
-
-/// How far the request in hand has come.
-#[derive(Clone, Copy, Debug, PartialEq, Eq)]
-pub enum Progress {
-    /// Its verdict stands, and nothing else is done yet.
-    Decided,
-    /// Memory was wanting for the list of its pages.
-    NoMemory,
-    /// A page was denied to it.
-    Denied,
-    /// The pages of its buffer are mapped.
-    Mapped,
-    /// The pages of its buffer are unmapped.
-    Released,
-}
 
 /// What a display's service is at.
 #[derive(Drop)]

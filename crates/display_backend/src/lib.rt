@@ -10,7 +10,7 @@ mod service;
 mod verdict;
 mod waiting;
 
-pub use display::Display;
+pub use display::{Display, new_display};
 pub use laws::{displays_run, shows_stay_sound, tells_what_is_held};
 pub use service::Service;
 

@@ -1,5 +1,5 @@
 ghost use Rattle.std.specs.Prelude.{◌≡◌, true};
-ghost use Rattle.display_backend.specs.Display.{parts_of};
+ghost use Rattle.device_service.specs.Stand.{parts_of};
 ghost use Rattle.display_backend.specs.Waiting.{is_for};
 
 use super::*;
@@ -126,6 +126,7 @@ fn fits(display: &Display, e: HostEvent) -> bool
 }
 
 // What a display says of an event of its host.
+#[tactic(auto, using(crate::proofs::Hosts::waits_for))]
 fn tells(display: &mut Display, domain: &mut Domain, e: HostEvent) -> Option<Said> {
     if !fits(display, e) || display.host(e).is_err() {
         return None;
@@ -168,7 +169,7 @@ fn connects(display: &mut Display, domain: &mut Domain) -> Option<Said> {
 
 // A display of one connector.
 fn one_connector(alloc: Global) -> Result<Box<Display>, AllocError> {
-    Ok(Box::new(alloc, Display::new(alloc, DevId(1), DomId(1), 1)?)?)
+    Ok(Box::new(alloc, new_display(alloc, DevId(1), DomId(1), 1)?)?)
 }
 
 const XR24: u32 = 0x3432_5258;

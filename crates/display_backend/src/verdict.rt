@@ -4,20 +4,17 @@ ghost use Rattle.std.specs.Prelude.{◌≡◌, pos};
 ghost use Rattle.display_backend.specs.Course.{MayAnswer};
 ghost use Rattle.display_backend.specs.Scene.{scene_after};
 ghost use Rattle.display_backend.specs.Showing.{scene_of};
-ghost use Rattle.display_backend.specs.Verdict.{checked, destroy_verdict, is_accepted, status_in, verdict};
+ghost use Rattle.display_backend.specs.Verdict.{checked, destroy_verdict, verdict};
+ghost use Rattle.page_directory.specs.Progress.{is_accepted, status_in};
 ghost use Rattle.display_buffers.specs.Store.{stock_of, count_of};
 ghost use Rattle.display_backend.specs.Reply.{stock_after};
 
-use crate::course::Progress;
 use crate::scene::Scene;
 use displ_wire::{Asked, Refused};
 use display_buffers::Store;
+use page_directory::Progress;
 
-// The statuses where memory was wanting, where a page was denied, and where a framebuffer is attached to a buffer.
-pub(crate) const ENOMEM: i32 = -12;
-
-pub(crate) const EACCES: i32 = -13;
-
+// The status where a framebuffer is attached to a buffer.
 pub(crate) const EBUSY: i32 = -16;
 
 // The status of a request whose checks come out so.
@@ -78,11 +75,5 @@ pub(crate) fn answered(store: &mut Store, scene: &mut Scene, asked: &Asked, stat
 pub(crate) fn status_at(store: &Store, scene: &Scene, progress: Progress, asked: &Asked) -> i32
     ensures { result ≡ status_in progress (verdict (stock_of store.now).buffers (scene_of scene.now) asked.now) }
 {
-    match progress {
-        Progress::NoMemory => ENOMEM,
-        Progress::Denied => EACCES,
-        Progress::Decided | Progress::Mapped | Progress::Released => {
-            verdict_on(store, scene, asked)
-        }
-    }
+    progress.status(verdict_on(store, scene, asked))
 }

@@ -6,4 +6,5 @@ pub mod Ports
 pub mod Stays
 pub mod Transitions
 pub mod Shown
+pub mod Slots
 pub mod Raises

@@ -1,5 +1,6 @@
 -- What a link holds, and what it has still to do of each activity.
 use Rattle.std.specs.Prelude.{◌≡◌, ℕ, ◌-◌, ◌==◌, Bool, true, false, List, [], ◌∷◌, take, drop, if◌then◌else◌, Option, Some, None, Result, Ok, Err, length}
+use Rattle.std.specs.List.{flat_map}
 use Rattle.pv_words.specs.declared.access.Access.{Access}
 use Rattle.pv_words.specs.declared.access.Turn.{Turn}
 use Rattle.pv_words.specs.declared.grant.GrantRefusal.{GrantRefusal}
@@ -7,6 +8,7 @@ use Rattle.pv_words.specs.declared.grant.Hold.{Hold}
 use Rattle.pv_words.specs.declared.place.GrantRef.{GrantRef}
 use Rattle.pv_words.specs.Plan.{Plan, Want, Finished, Goes, IsUnfinished, MayGo, joined}
 use Rattle.pv_words.specs.MapLeft.{map_left}
+use Rattle.event_ring.specs.Events.{index_after}
 use Rattle.ring_words.specs.Ring.{next_index}
 use Rattle.link_core.specs.declared.link.Link.{Link}
 use Rattle.link_core.specs.declared.link.Stage.{Stage}
@@ -14,8 +16,9 @@ use Rattle.link_core.specs.declared.link.Stage.TheVariants as stage
 use Rattle.link_core.specs.Activities.{Page, Joined, Connected, Joins, Refuses, page_at, slot_place, loads, stores, publish_plan, event_plan, check_plan, sleep_plan, prod_plan, with_event, rsp_plan, with_ring, connect_plan, unmaps, pages_of}
 use Rattle.link_core.specs.declared.link.Put.{Put}
 use Rattle.link_core.specs.declared.link.Put.TheVariants as put
-use Rattle.link_core.specs.Raise.{event_place, publish_event, raise_plan}
-use Rattle.link_core.specs.Stage.{taken_in, answered_in, slept_in, held_in, ring_in, ring_comes}
+use Rattle.link_core.specs.declared.link.event.Layout.{Layout}
+use Rattle.link_core.specs.Raise.{event_layout, event_place, events_plan, input_layout, publish_events}
+use Rattle.link_core.specs.Stage.{taken_in, answered_in, slept_in, held_in, ring_in, ring_comes, is_raise}
 
 -- the domain of its pages
 unfoldable pub dom_of : Link → ℕ
@@ -202,22 +205,42 @@ abbrev pub CameBy : Option ℕ → Bool → Option (Result (Unit {0}) GrantRefus
 CameBy None rung end new = Unit {0}
 CameBy (Some ring) rung end new = rung ≡ true → Came end new
 
--- what is left of a Raise of these words: all of it, or, of one that found room and stored n words, the stores of the others
-abbrev pub raise_rest : Page → (prod : ℕ) → Stage → (n : ℕ) → List ℕ → Plan Put
-raise_rest page prod stage.Raise n words = stores (event_place page prod) (publish_event page prod) n (drop n words)
-raise_rest page prod other n words = raise_plan page prod words
+-- the words of events are being stored
+unfoldable pub puts : Link → Bool
+puts l = is_raise l.stage
 
--- a Raise of these words, of which no access was made
-abbrev pub whole_raise : Link → List ℕ → Plan Put
-whole_raise l words = raise_plan (page_at l.event_page) l.prod words
+-- what is left of putting n events of these words: all of it, or, where they found room and some words are stored, the stores of the
+-- others
+abbrev pub put_rest : Layout → Page → (prod : ℕ) → Stage → (stored n : ℕ) → List ℕ → Plan Put
+put_rest layout page prod stage.Raise stored n words =
+    stores (event_place layout page prod) (publish_events page prod n) stored (drop stored words)
+put_rest layout page prod other stored n words = events_plan layout page prod n words
 
+-- such an activity of which no access was made
+abbrev pub whole_put : Layout → ℕ → List ℕ → Link → Plan Put
+whole_put layout n words l = events_plan layout (page_at l.event_page) l.prod n words
+
+abbrev pub put_left : Layout → ℕ → List ℕ → Link → Plan Put
+put_left layout n words l = put_rest layout (page_at l.event_page) l.prod l.stage l.stored n words
+
+-- what is left of a Raise of these words, and of a Publish of this group
 unfoldable pub raise_left : Link → List ℕ → Plan Put
-raise_left l words = raise_rest (page_at l.event_page) l.prod l.stage l.count words
+raise_left l words = put_left event_layout 1 words l
+
+unfoldable pub publish_left : Link → List (List ℕ) → Plan Put
+publish_left l group = put_left input_layout (length group) (flat_map (λ e. e) group) l
+
+-- n events more were published
+abbrev pub published_of : ℕ → Joined → Joined
+published_of n j = record j { prod = index_after j.prod n }
+
+abbrev pub published_if : ℕ → Option Put → Joined → Joined
+published_if n (Some put.Done) j = published_of n j
+published_if n other j = j
 
 -- one event more was published
 abbrev pub raised_of : Joined → Joined
-raised_of j = record j { prod = next_index j.prod }
+raised_of j = published_of 1 j
 
 abbrev pub raised_if : Option Put → Joined → Joined
-raised_if (Some put.Done) j = raised_of j
-raised_if other j = j
+raised_if end j = published_if 1 end j

@@ -12,7 +12,7 @@ length_of stage.Rest = 1
 length_of stage.Take = 16
 length_of stage.Answer = 18
 length_of stage.Sleep = 2
-length_of stage.Raise = 17
+length_of stage.Raise = 1
 length_of stage.Ring = 1
 length_of stage.Index = 1
 length_of stage.Event = 1
@@ -128,7 +128,12 @@ ring_comes stage.Index k = true
 ring_comes stage.Event k = has_ring_alone k
 ring_comes stage.Prod k = has_both k
 
--- the words of an event are stored only where in_prod isn't spent
+-- the words of events are being stored
+abbrev pub is_raise : Stage → Bool
+is_raise stage.Raise = true
+is_raise other = false
+
+-- they are stored only where in_prod isn't spent
 abbrev pub may_raise : Stage → (prod : ℕ) → Bool
 may_raise stage.Raise prod = nat_lt prod 4294967232
 may_raise other prod = true

@@ -28,7 +28,7 @@ enum Stage {
     Take,
     Answer,
     Sleep,
-    // The words of an event are stored, then it is published.
+    // The words of events are stored, then they are published.
     Raise,
     // A Connect maps the ring's page.
     Ring,
@@ -59,12 +59,12 @@ fn and_event(kept: Kept) -> Kept
     }
 }
 
-/// How a Raise ended.
+/// How a Raise or a Publish ended.
 #[derive(Clone, Copy, Debug, PartialEq, Eq)]
 pub enum Put {
-    /// The event is put.
+    /// The event is put, or all events of the group are.
     Done,
-    /// There was no room for it.
+    /// There was no room for it, or not for all of them.
     Full,
     /// The frontend's index is false: the index of the next event, and that up to which the frontend claims to have consumed.
     BadCons(u32, u32),
@@ -90,8 +90,10 @@ pub struct Link {
     stage: Stage,
     // The map of a Connect.
     map: MapStep,
-    // How many accesses of the activity are made.
+    // How many accesses of the activity on the ring are made.
     count: u8,
+    // How many words of the events are stored.
+    stored: u16,
     // The words taken so far.
     words: [u32; 16],
     ghost within: { count < length_of stage },
@@ -142,6 +144,7 @@ impl Link {
             stage: Stage::Rest,
             map: MapStep::new(dom, GrantRef(0), Mode::Write),
             count: 0,
+            stored: 0,
             words: [0; 16],
         }
     }

@@ -10,3 +10,5 @@ pub mod Transitions
 pub mod WalkAlong
 pub mod Shown
 pub mod Remaining
+pub mod Lists
+pub mod Ready

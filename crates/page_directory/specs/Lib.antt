@@ -8,3 +8,6 @@ pub mod Stages
 pub mod WalkLeft
 pub mod WalkSteps
 pub mod Walking
+pub mod Progress
+pub mod Going
+pub mod Lists

@@ -4,11 +4,13 @@
 
 pub mod laws;
 pub mod pages;
+pub mod progress;
 pub mod release;
 pub mod walk;
 
 pub use laws::{reads_exactly, releases_in_order, walks_exactly};
 pub use pages::Pages;
+pub use progress::Progress;
 pub use release::Release;
 pub use walk::{Walk, Walked};
 

@@ -19,3 +19,4 @@ pub mod Port
 pub mod Release
 pub mod Room
 pub mod Sizes
+pub mod Streams

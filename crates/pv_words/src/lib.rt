@@ -13,6 +13,7 @@ pub mod mark;
 pub mod page_list;
 pub mod place;
 pub mod setup;
+pub mod streams;
 pub mod words;
 
 pub use access::{Access, Turn};
@@ -29,6 +30,7 @@ pub use mark::{extend_mark, next_mark};
 pub use page_list::PageList;
 pub use place::{DevId, DomId, Frame, GrantRef, Half, Place, Who};
 pub use setup::{DeviceKind, DeviceSetup, Devices, DomainSize, Kind, Setup, Sizes};
+pub use streams::Streams;
 pub use words::{Machine, Words};
 
 #[cfg(test)]

@@ -3,6 +3,7 @@
 ghost use Rattle.std.specs.Prelude.{◌≡◌};
 
 use crate::place::{DevId, DomId, Frame};
+use crate::streams::Streams;
 use std::marker::Model;
 
 /// How a domain behaves.
@@ -32,6 +33,8 @@ pub struct DomainSize {
 pub enum DeviceKind {
     /// A display with this many connectors, 1 to 4.
     Display(u8),
+    /// A sound device with these streams.
+    Sound(Streams),
 }
 
 /// A device, and whose frontend it serves.

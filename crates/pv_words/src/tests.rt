@@ -97,6 +97,8 @@ fn lists_of_declarations(rt: HostRuntime) -> Result<(), Fail> {
     let mut sizes = Vec::new(rt.alloc());
     sizes.push(one_size())?;
     assert_eq!(rt; Sizes::new(sizes).as_slice(), [one_size()].as_slice());
+    let streams = Streams::Two(StreamKind::Playback, StreamKind::Capture);
+    assert_eq!(rt; streams.count(), 2);
     let mut devices = Vec::new(rt.alloc());
     devices.push(one_device())?;
     assert_eq!(rt; Devices::new(devices).as_slice(), [one_device()].as_slice());

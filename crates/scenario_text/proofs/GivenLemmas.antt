@@ -1,28 +1,34 @@
 -- What is true of each value that a reader of a line gives.
 use Rattle.std.proofs.Common.{◌≡◌, ℕ, ◌<◌, ◌≤◌, ◌^◌, true, false, List, [], ◌∷◌, Option, Some, None, Ok, refl, sym, subst, ◌∙◌, arith, inl, inr}
-use Rattle.std.specs.Prelude.{◌==◌, nat_lt, find, is_some}
+use Rattle.std.specs.Prelude.{◌==◌, nat_lt, nat_le, length, find, is_some}
 use Rattle.std.specs.List.{AllByRecursion}
-use Rattle.std.proofs.lemmas.Bool.{cases_Bool, ltb-true, eqb-true}
+use Rattle.std.proofs.lemmas.Bool.{cases_Bool, ltb-true, eqb-true, lt-ltb, le-leb}
 use Rattle.std.proofs.lemmas.Bool.Decides.{nat_tests}
 use Rattle.pv_words.specs.declared.device.HostEvent.{HostEvent}
-use Rattle.pv_words.specs.declared.device.HostEvent.TheVariants.{Blank, Show}
+use Rattle.pv_words.specs.declared.device.HostEvent.TheVariants.{Blank, Show, Tick}
 use Rattle.pv_words.specs.declared.device.NodeValue.{NodeValue}
 use Rattle.pv_words.specs.declared.place.DomId.{DomId}
 use Rattle.pv_words.specs.declared.place.DevId.{DevId}
 use Rattle.pv_words.specs.declared.setup.DeviceKind.{DeviceKind}
-use Rattle.pv_words.specs.declared.setup.DeviceKind.TheVariants.{Display}
+use Rattle.pv_words.specs.declared.setup.DeviceKind.TheVariants.{Display, Sound}
 use Rattle.pv_words.specs.declared.setup.DomainSize.{DomainSize}
 use Rattle.pv_words.specs.declared.setup.DeviceSetup.{DeviceSetup}
+use Rattle.pv_words.specs.declared.streams.Streams.{Streams}
+use Rattle.pv_words.specs.declared.streams.Streams.TheVariants.{One, Two, Three, Four}
 use Rattle.pv_words.specs.Sizes.{frames_by, grants_by}
+use Rattle.pv_words.specs.Streams.{kinds_in}
+use Rattle.scenario_text.specs.declared.lookup.Family.{Family}
+use Rattle.scenario_text.specs.declared.lookup.Family.TheVariants.{Displays, Sounds}
+use Rattle.scenario_text.specs.Limits.{tick_limit}
 use Rattle.script_tokens.specs.declared.fault.FaultKind.TheVariants.{Undeclared, BadWord, WrongDevice}
 use Rattle.script_tokens.specs.Flaws.{or_flaw}
 use Rattle.script_tokens.specs.Cursors.{Cursor, next_of}
 use Rattle.script_tokens.specs.Numbers.{digits_of}
-use Rattle.scenario_text.specs.Nodes.{keys, of_number, node_value}
+use Rattle.scenario_text.specs.Nodes.{display_keys, sound_keys, keys_of, of_number, node_value}
 use Rattle.script_tokens.specs.Next.{between_at, below_at, named}
 use Rattle.scenario_text.specs.Arguments.{key_at, node_value_at}
-use Rattle.scenario_text.specs.Lookups.{size_of, device_of, has_device, parts_of, connectors_of}
-use Rattle.scenario_text.specs.Lookups.{new_domain_at, size_at, new_device_at, device_at, connector_at}
+use Rattle.scenario_text.specs.Lookups.{size_of, device_of, has_device, parts_of, parts_in}
+use Rattle.scenario_text.specs.Lookups.{new_domain_at, size_at, new_device_at, device_at, part_at}
 use Rattle.scenario_text.specs.Playable.{parts_by, fits, takes_by, IsNodeValue}
 use Rattle.script_tokens.proofs.OkLemmas.{bind_ok, test_failed, or_flaw_ok, ok_one}
 use Rattle.script_tokens.proofs.NextLemmas.{between_gives, below_gives, named_is}
@@ -121,39 +127,83 @@ device_gives devices c x same =
     let one : (device.0, dev.0.1) ≡ x = cc in
     subst (λ (y : DeviceSetup × Cursor). IsAmong devices y.0 y.0.dev.0) one (subst (λ (n : ℕ). IsAmong devices device.0 n) (sym found.number) found)
 
--- a display takes the events of each of its connectors
-blanks_fit : (k : DeviceKind) (connectors n : ℕ) → connectors_of k ≡ Some connectors → n < connectors → (fits k (Blank n) ≡ true) × (fits k (Show n) ≡ true)
-blanks_fit (Display many) connectors n same below =
-    let one : many ≡ connectors = cc in
-    let inside : nat_lt n many ≡ true = grind (arith, nat_tests) in
-    (inside, inside)
+-- a device of this family among devices has this part, and takes what its kind takes
+pub record IsPartOf (family : Family) (devices : List DeviceSetup) (dev part : ℕ) : Type 0 where
+  pub kind : DeviceKind
+  pub many : ℕ
+  pub parts : parts_in family kind ≡ Some many
+  pub below : part < many
+  pub there : has_device dev devices ≡ true
+  pub takes : (e : HostEvent) → takes_by devices dev e ≡ fits kind e
 
-taken : (devices : List DeviceSetup) (device : DeviceSetup) (dev : ℕ) (e : HostEvent) → IsAmong devices device dev → fits device.kind e ≡ true → takes_by devices dev e ≡ true
-taken devices device dev e among fit = among.takes e ∙ fit
-
--- a connector that is found is one of a display, which takes its events
-pub connector_gives : (devices : List DeviceSetup) (c : Cursor) (x : (DevId × ℕ) × Cursor) → connector_at devices c ≡ Ok x → (has_device x.0.0.0 devices ≡ true) × (takes_by devices x.0.0.0 (Blank x.0.1) ≡ true) × (takes_by devices x.0.0.0 (Show x.0.1) ≡ true)
-unfolding connector_at device_of
-connector_gives devices c x same =
+-- so it is with a part that is found
+pub part_gives : (family : Family) (devices : List DeviceSetup) (c : Cursor) (x : (DevId × ℕ) × Cursor) → part_at family devices c ≡ Ok x → IsPartOf family devices x.0.0.0 x.0.1
+unfolding part_at device_of
+part_gives family devices c x same =
     let dev = bind_ok (between_at 1 16 c) _ x same in
     let column : ℕ = dev.0.0.column in
     let device = bind_ok (or_flaw (device_of dev.0.0.value devices) column Undeclared) _ x dev.2 in
-    let connectors = bind_ok (or_flaw (connectors_of device.0.kind) column WrongDevice) _ x device.2 in
-    let connector = bind_ok (below_at connectors.0 dev.0.1) _ x connectors.2 in
-    let n : ℕ = connector.0.0.value in
+    let parts = bind_ok (or_flaw (parts_in family device.0.kind) column WrongDevice) _ x device.2 in
+    let part = bind_ok (below_at parts.0 dev.0.1) _ x parts.2 in
+    let n : ℕ = part.0.0.value in
     let found = found_device dev.0.0.value devices device.0 (or_flaw_ok (device_of dev.0.0.value devices) _ _ device.0 device.1) in
-    let fit = blanks_fit device.0.kind connectors.0 n (or_flaw_ok (connectors_of device.0.kind) _ _ connectors.0 connectors.1) (below_gives connectors.0 dev.0.1 connector.0 connector.1) in
-    let one : ((device.0.dev, n), connector.0.1) ≡ x = ok_one (Ok ((device.0.dev, n), connector.0.1)) ((device.0.dev, n), connector.0.1) x refl connector.2 in
-    let blank = taken devices device.0 dev.0.0.value (Blank n) found fit.0 in
-    let show = taken devices device.0 dev.0.0.value (Show n) found fit.1 in
-    rw (← one, found.number) (found.there, blank, show)
+    let one : ((device.0.dev, n), part.0.1) ≡ x = ok_one (Ok ((device.0.dev, n), part.0.1)) ((device.0.dev, n), part.0.1) x refl part.2 in
+    rw (← one, found.number) (record {
+      kind = device.0.kind;
+      many = parts.0;
+      parts = or_flaw_ok (parts_in family device.0.kind) _ _ parts.0 parts.1;
+      below = below_gives parts.0 dev.0.1 part.0 part.1;
+      there = found.there;
+      takes = found.takes;
+    })
 
-pub key_gives : (c : Cursor) (x : ℕ × Cursor) → key_at c ≡ Ok x → x.0 < 4
+-- a display takes the events of each of its connectors
+connector_fits : (k : DeviceKind) (many n : ℕ) → parts_in Displays k ≡ Some many → n < many → (fits k (Blank n) ≡ true) × (fits k (Show n) ≡ true)
+connector_fits (Display connectors) many n same below =
+    let one : connectors ≡ many = cc in
+    let inside : nat_lt n connectors ≡ true = grind (arith, nat_tests) in
+    (inside, inside)
+connector_fits (Sound streams) many n same below = cc
+
+pub connector_takes : (devices : List DeviceSetup) (dev n : ℕ) → IsPartOf Displays devices dev n → (takes_by devices dev (Blank n) ≡ true) × (takes_by devices dev (Show n) ≡ true)
+connector_takes devices dev n part =
+    let fit = connector_fits part.kind part.many n part.parts part.below in
+    (part.takes (Blank n) ∙ fit.0, part.takes (Show n) ∙ fit.1)
+
+-- a sound device takes the ticks of each of its streams
+stream_fits : (k : DeviceKind) (many n frames : ℕ) → parts_in Sounds k ≡ Some many → n < many → 1 ≤ frames → frames ≤ tick_limit → fits k (Tick n frames) ≡ true
+stream_fits (Display connectors) many n frames same below some few = cc
+stream_fits (Sound streams) many n frames same below some few =
+    let one : length (kinds_in streams) ≡ many = cc in
+    let inside : nat_lt n (length (kinds_in streams)) ≡ true = rw one (lt-ltb n many below) in
+    let least : nat_le 1 frames ≡ true = le-leb 1 frames some in
+    let most : nat_le frames tick_limit ≡ true = le-leb frames tick_limit few in
+    rw (inside, least, most) refl
+
+pub stream_takes : (devices : List DeviceSetup) (dev n frames : ℕ) → IsPartOf Sounds devices dev n → 1 ≤ frames → frames ≤ tick_limit → takes_by devices dev (Tick n frames) ≡ true
+stream_takes devices dev n frames part some few =
+    part.takes (Tick n frames) ∙ stream_fits part.kind part.many n frames part.parts part.below some few
+
+-- a sound device has one to four streams
+pub few_streams : (streams : Streams) → (1 ≤ length (kinds_in streams)) × (length (kinds_in streams) ≤ 4)
+few_streams (One a) = (omega arith, omega arith)
+few_streams (Two a b) = (omega arith, omega arith)
+few_streams (Three a b c) = (omega arith, omega arith)
+few_streams (Four a b c d) = (omega arith, omega arith)
+
+-- a node's key is below 4
+key_below : (kind : DeviceKind) (octets : List ℕ) (key : ℕ) → named octets (keys_of kind) ≡ Some key → key < 4
+key_below (Display connectors) octets key same =
+    named_is (λ (k : ℕ). k < 4) octets display_keys key (omega arith, (omega arith, (omega arith, (omega arith, tt)))) same
+key_below (Sound streams) octets key same =
+    named_is (λ (k : ℕ). k < 4) octets sound_keys key (omega arith, (omega arith, (omega arith, (omega arith, tt)))) same
+
+pub key_gives : (kind : DeviceKind) (c : Cursor) (x : ℕ × Cursor) → key_at kind c ≡ Ok x → x.0 < 4
 unfolding key_at
-key_gives c x same =
+key_gives kind c x same =
     let word = bind_ok (next_of c) _ x same in
-    let key = bind_ok (or_flaw (named word.0.0.octets keys) word.0.0.column BadWord) _ x word.2 in
-    let below : key.0 < 4 = named_is (λ (k : ℕ). k < 4) word.0.0.octets keys key.0 (omega arith, (omega arith, (omega arith, (omega arith, tt)))) (or_flaw_ok (named word.0.0.octets keys) _ _ key.0 key.1) in
+    let key = bind_ok (or_flaw (named word.0.0.octets (keys_of kind)) word.0.0.column BadWord) _ x word.2 in
+    let below = key_below kind word.0.0.octets key.0 (or_flaw_ok (named word.0.0.octets (keys_of kind)) _ _ key.0 key.1) in
     let one : (key.0, word.0.1) ≡ x = cc in
     subst (λ (y : ℕ × Cursor). y.0 < 4) one below
 

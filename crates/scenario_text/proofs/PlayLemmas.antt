@@ -11,7 +11,7 @@ use Rattle.pv_words.specs.declared.setup.DomainSize.{DomainSize}
 use Rattle.pv_words.specs.declared.setup.DeviceSetup.{DeviceSetup}
 use Rattle.pv_words.specs.declared.setup.Kind.TheVariants.{Wild}
 use Rattle.pv_words.specs.declared.setup.DeviceKind.TheVariants as kinds
-use Rattle.pv_words.specs.declared.device.HostEvent.TheVariants.{Blank, Show}
+use Rattle.pv_words.specs.declared.device.HostEvent.TheVariants.{Blank, Show, Tick}
 use Rattle.pv_words.specs.declared.place.Place.TheVariants.{Cell, Grant}
 use Rattle.pv_words.specs.declared.place.Half.TheVariants.{Flags}
 use Rattle.pv_words.specs.Sizes.{frames_by, grants_by}
@@ -21,18 +21,20 @@ use Rattle.scenario_text.specs.declared.draft.Item.{Item}
 use Rattle.scenario_text.specs.declared.draft.Item.TheVariants as items
 use Rattle.scenario_text.specs.declared.item.Command.{Command}
 use Rattle.scenario_text.specs.declared.item.Command.TheVariants as commands
+use Rattle.scenario_text.specs.declared.lookup.Family.TheVariants.{Displays, Sounds}
+use Rattle.scenario_text.specs.Limits.{tick_limit}
 use Rattle.script_tokens.specs.declared.fault.Flaw.{Flaw}
 use Rattle.script_tokens.specs.declared.fault.FaultKind.TheVariants.{UnknownStatement}
 use Rattle.script_tokens.specs.Flaws.{or_flaw}
 use Rattle.script_tokens.specs.Tokens.{Piece, tokens}
 use Rattle.script_tokens.specs.Cursors.{Cursor, first_of}
 use Rattle.script_tokens.specs.Next.{between_at, below_at, keyword_at}
-use Rattle.scenario_text.specs.Arguments.{half_at, mode_at, key_at, node_value_at, state_at}
+use Rattle.scenario_text.specs.Arguments.{half_at, mode_at, key_at, node_value_at, state_at, streams_at}
 use Rattle.scenario_text.specs.Lookups.{has_device, parts_of, frames_left, grants_left}
-use Rattle.scenario_text.specs.Lookups.{new_domain_at, size_at, new_device_at, device_at, connector_at}
-use Rattle.scenario_text.specs.Declarations.{domain_at, display_at}
+use Rattle.scenario_text.specs.Lookups.{new_domain_at, size_at, new_device_at, device_at, part_at}
+use Rattle.scenario_text.specs.Declarations.{domain_at, display_at, sound_at}
 use Rattle.scenario_text.specs.Statements.{put_at, fill_at, put_grant_at, swap_at, open_at, end_at, node_at}
-use Rattle.scenario_text.specs.Statements.{bus_at, wake_at, blank_at, show_at, back_at, serve_at}
+use Rattle.scenario_text.specs.Statements.{bus_at, wake_at, blank_at, show_at, tick_at, back_at, serve_at}
 use Rattle.scenario_text.specs.Scenario.{Scenario, nothing, with_item}
 use Rattle.scenario_text.specs.Items.{is_empty_list, is_declaration, command_of, command_at, arguments_at, unless_more, item_from, item_of}
 use Rattle.script_tokens.specs.Lines.{code_of, lines}
@@ -41,7 +43,7 @@ use Rattle.scenario_text.specs.Playable.{parts_by, IsPlayed, IsDevice, AreDiffer
 use Rattle.script_tokens.proofs.OkLemmas.{bind_ok, test_failed, ok_one}
 use Rattle.script_tokens.proofs.NextLemmas.{between_gives, below_gives}
 use Rattle.scenario_text.proofs.GivenLemmas.{new_domain_gives, size_gives, size_keeps}
-use Rattle.scenario_text.proofs.GivenLemmas.{new_device_gives, device_gives, connector_gives, key_gives, node_value_gives}
+use Rattle.scenario_text.proofs.GivenLemmas.{new_device_gives, device_gives, part_gives, connector_takes, stream_takes, few_streams, key_gives, node_value_gives}
 
 -- with one more element, and with a weaker fact of each
 each_push : {X : Type 0} (P : X → Type 0) (xs : List X) (x : X) → AllByRecursion P xs → P x → AllByRecursion P (xs ++ x ∷ [])
@@ -176,9 +178,9 @@ found_room s c x kept same =
     let filled = size_keeps (λ (z : DomainSize). 1 ≤ z.frames) s.sizes c x kept.filled same in
     rw (size_gives s.sizes c x same).0 filled
 
-device_fits : (s : Scenario) (c : Cursor) (x : Item × Cursor) → IsKept s → is_empty_list s.statements ≡ true → display_at s c ≡ Ok x → Fits s x.0
+display_fits : (s : Scenario) (c : Cursor) (x : Item × Cursor) → IsKept s → is_empty_list s.statements ≡ true → display_at s c ≡ Ok x → Fits s x.0
 unfolding display_at
-device_fits s c x kept none same =
+display_fits s c x kept none same =
     let dev = bind_ok (new_device_at s.devices c) _ x same in
     let size = bind_ok (size_at s.sizes dev.0.1) _ x dev.2 in
     let connectors = bind_ok (between_at 1 4 size.0.1) _ x size.2 in
@@ -188,6 +190,19 @@ device_fits s c x kept none same =
     let item : Item = items.Device (record { dev = dev.0.0; dom = size.0.0.dom; kind = kinds.Display connectors.0.0.value }) in
     let one : (item, connectors.0.1) ≡ x = cc in
     subst (λ (y : Item × Cursor). Fits s y.0) {x = (item, connectors.0.1)} one (none, (number.0, number.1, n.0, n.1), number.2, room)
+
+sound_fits : (s : Scenario) (c : Cursor) (x : Item × Cursor) → IsKept s → is_empty_list s.statements ≡ true → sound_at s c ≡ Ok x → Fits s x.0
+unfolding sound_at
+sound_fits s c x kept none same =
+    let dev = bind_ok (new_device_at s.devices c) _ x same in
+    let size = bind_ok (size_at s.sizes dev.0.1) _ x dev.2 in
+    let streams = bind_ok (streams_at size.0.1) _ x size.2 in
+    let number = new_device_gives s.devices c dev.0 dev.1 in
+    let n = few_streams streams.0.0 in
+    let room = found_room s dev.0.1 size.0 kept size.1 in
+    let item : Item = items.Device (record { dev = dev.0.0; dom = size.0.0.dom; kind = kinds.Sound streams.0.0 }) in
+    let one : (item, streams.0.1) ≡ x = cc in
+    subst (λ (y : Item × Cursor). Fits s y.0) {x = (item, streams.0.1)} one (none, (number.0, number.1, n.0, n.1), number.2, room)
 
 put_fits : (s : Scenario) (c : Cursor) (x : Item × Cursor) → put_at s c ≡ Ok x → Fits s x.0
 unfolding put_at
@@ -297,12 +312,12 @@ unfolding node_at
 node_fits s c x same =
     let dev = bind_ok (device_at s.devices c) _ x same in
     let part = bind_ok (below_at (parts_of dev.0.0.kind) dev.0.1) _ x dev.2 in
-    let key = bind_ok (key_at part.0.1) _ x part.2 in
+    let key = bind_ok (key_at dev.0.0.kind part.0.1) _ x part.2 in
     let value = bind_ok (node_value_at key.0.1) _ x key.2 in
     let there = device_gives s.devices c dev.0 dev.1 in
     let p = below_gives (parts_of dev.0.0.kind) dev.0.1 part.0 part.1 in
     let inside : part.0.0.value < parts_by s.devices dev.0.0.dev.0 = rw there.parts p in
-    let k = key_gives part.0.1 key.0 key.1 in
+    let k = key_gives dev.0.0.kind part.0.1 key.0 key.1 in
     let v = node_value_gives key.0.1 value.0 value.1 in
     let item : Item = items.Step (Node dev.0.0.dev part.0.0.value key.0.0 value.0.0) in
     let one : (item, value.0.1) ≡ x = ok_one (Ok (item, value.0.1)) (item, value.0.1) x refl value.2 in
@@ -330,20 +345,34 @@ wake_fits s c x same =
 blank_fits : (s : Scenario) (c : Cursor) (x : Item × Cursor) → blank_at s c ≡ Ok x → Fits s x.0
 unfolding blank_at
 blank_fits s c x same =
-    let at = bind_ok (connector_at s.devices c) _ x same in
-    let takes = connector_gives s.devices c at.0 at.1 in
+    let at = bind_ok (part_at Displays s.devices c) _ x same in
+    let part = part_gives Displays s.devices c at.0 at.1 in
+    let takes = connector_takes s.devices at.0.0.0.0 at.0.0.1 part in
     let item : Item = items.Step (Host at.0.0.0 (Blank at.0.0.1)) in
     let one : (item, at.0.1) ≡ x = cc in
-    subst (λ (y : Item × Cursor). Fits s y.0) {x = (item, at.0.1)} one (takes.0, takes.1)
+    subst (λ (y : Item × Cursor). Fits s y.0) {x = (item, at.0.1)} one (part.there, takes.0)
 
 show_fits : (s : Scenario) (c : Cursor) (x : Item × Cursor) → show_at s c ≡ Ok x → Fits s x.0
 unfolding show_at
 show_fits s c x same =
-    let at = bind_ok (connector_at s.devices c) _ x same in
-    let takes = connector_gives s.devices c at.0 at.1 in
+    let at = bind_ok (part_at Displays s.devices c) _ x same in
+    let part = part_gives Displays s.devices c at.0 at.1 in
+    let takes = connector_takes s.devices at.0.0.0.0 at.0.0.1 part in
     let item : Item = items.Step (Host at.0.0.0 (Show at.0.0.1)) in
     let one : (item, at.0.1) ≡ x = cc in
-    subst (λ (y : Item × Cursor). Fits s y.0) {x = (item, at.0.1)} one (takes.0, takes.2)
+    subst (λ (y : Item × Cursor). Fits s y.0) {x = (item, at.0.1)} one (part.there, takes.1)
+
+tick_fits : (s : Scenario) (c : Cursor) (x : Item × Cursor) → tick_at s c ≡ Ok x → Fits s x.0
+unfolding tick_at
+tick_fits s c x same =
+    let at = bind_ok (part_at Sounds s.devices c) _ x same in
+    let frames = bind_ok (between_at 1 tick_limit at.0.1) _ x at.2 in
+    let part = part_gives Sounds s.devices c at.0 at.1 in
+    let n = between_gives 1 tick_limit at.0.1 frames.0 frames.1 in
+    let takes = stream_takes s.devices at.0.0.0.0 at.0.0.1 frames.0.0.value part n.0 n.1 in
+    let item : Item = items.Step (Host at.0.0.0 (Tick at.0.0.1 frames.0.0.value)) in
+    let one : (item, frames.0.1) ≡ x = ok_one (Ok (item, frames.0.1)) (item, frames.0.1) x refl frames.2 in
+    subst (λ (y : Item × Cursor). Fits s y.0) {x = (item, frames.0.1)} one (part.there, takes)
 
 back_fits : (s : Scenario) (c : Cursor) (x : Item × Cursor) → back_at s c ≡ Ok x → Fits s x.0
 unfolding back_at
@@ -380,7 +409,8 @@ none_stated false e = cc
 arguments_fit : (command : Command) (s : Scenario) (c : Cursor) (x : Item × Cursor) → IsKept s → (is_declaration command && not (is_empty_list s.statements)) ≡ false → arguments_at command s c ≡ Ok x → Fits s x.0
 unfolding arguments_at
 arguments_fit commands.Domain s c x kept early same = domain_fits s c x (none_stated (is_empty_list s.statements) early) same
-arguments_fit commands.Display s c x kept early same = device_fits s c x kept (none_stated (is_empty_list s.statements) early) same
+arguments_fit commands.Display s c x kept early same = display_fits s c x kept (none_stated (is_empty_list s.statements) early) same
+arguments_fit commands.Sound s c x kept early same = sound_fits s c x kept (none_stated (is_empty_list s.statements) early) same
 arguments_fit commands.Put s c x kept early same = put_fits s c x same
 arguments_fit commands.Fill s c x kept early same = fill_fits s c x same
 arguments_fit commands.PutGrant s c x kept early same = put_grant_fits s c x same
@@ -392,6 +422,7 @@ arguments_fit commands.Bus s c x kept early same = bus_fits s c x same
 arguments_fit commands.Wake s c x kept early same = wake_fits s c x same
 arguments_fit commands.Blank s c x kept early same = blank_fits s c x same
 arguments_fit commands.Show s c x kept early same = show_fits s c x same
+arguments_fit commands.Tick s c x kept early same = tick_fits s c x same
 arguments_fit commands.Back s c x kept early same = back_fits s c x same
 arguments_fit commands.Serve s c x kept early same = serve_fits s c x same
 

@@ -10,6 +10,7 @@ use Rattle.script_tokens.specs.declared.fault.Flaw.{Flaw}
 use Rattle.script_tokens.specs.Flaws.{◌>>=◌}
 use Rattle.script_tokens.specs.Cursors.{Cursor}
 use Rattle.script_tokens.specs.Next.{between_at, keyword_at}
+use Rattle.scenario_text.specs.Arguments.{streams_at}
 use Rattle.scenario_text.specs.Limits.{connector_limit}
 use Rattle.scenario_text.specs.Lookups.{frames_left, grants_left, new_domain_at, size_at, new_device_at}
 use Rattle.scenario_text.specs.Scenario.{Scenario}
@@ -34,3 +35,11 @@ display_at so_far c = do
   size ← size_at so_far.sizes dev.1
   connectors ← between_at 1 connector_limit size.1
   Ok (items.Device (record { dev = dev.0; dom = size.0.dom; kind = kinds.Display connectors.0.value }), connectors.1)
+
+-- sound N D K ..: device N of domain D with one to four streams, each p or c
+unfoldable pub sound_at : Scenario → Cursor → Result (Item × Cursor) Flaw
+sound_at so_far c = do
+  dev ← new_device_at so_far.devices c
+  size ← size_at so_far.sizes dev.1
+  streams ← streams_at size.1
+  Ok (items.Device (record { dev = dev.0; dom = size.0.dom; kind = kinds.Sound streams.0 }), streams.1)

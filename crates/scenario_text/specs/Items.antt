@@ -4,16 +4,16 @@ use Rattle.scenario_text.specs.declared.draft.Item.{Item}
 use Rattle.script_tokens.specs.declared.fault.Flaw.{Flaw}
 use Rattle.script_tokens.specs.declared.fault.FaultKind.TheVariants.{UnknownStatement, ExtraWord, Late}
 use Rattle.scenario_text.specs.declared.item.Command.{Command}
-use Rattle.scenario_text.specs.declared.item.Command.TheVariants.{Domain, Display}
+use Rattle.scenario_text.specs.declared.item.Command.TheVariants.{Domain, Display, Sound}
 use Rattle.scenario_text.specs.declared.item.Command.TheVariants.{Put, Fill, PutGrant, Swap, Open, End, Node, Bus, Wake}
-use Rattle.scenario_text.specs.declared.item.Command.TheVariants.{Blank, Show, Back, Serve}
+use Rattle.scenario_text.specs.declared.item.Command.TheVariants.{Blank, Show, Tick, Back, Serve}
 use Rattle.script_tokens.specs.Flaws.{flaw, ◌>>=◌, or_flaw}
 use Rattle.script_tokens.specs.Tokens.{Piece, tokens}
 use Rattle.script_tokens.specs.Cursors.{Cursor, first_of}
 use Rattle.script_tokens.specs.Next.{named}
-use Rattle.scenario_text.specs.Declarations.{domain_at, display_at}
+use Rattle.scenario_text.specs.Declarations.{domain_at, display_at, sound_at}
 use Rattle.scenario_text.specs.Statements.{put_at, fill_at, put_grant_at, swap_at, open_at, end_at, node_at, bus_at, wake_at}
-use Rattle.scenario_text.specs.Statements.{blank_at, show_at, back_at, serve_at}
+use Rattle.scenario_text.specs.Statements.{blank_at, show_at, tick_at, back_at, serve_at}
 use Rattle.scenario_text.specs.Scenario.{Scenario}
 
 -- the first tokens of lines, and what they name
@@ -21,7 +21,8 @@ abbrev pub names : List (List ℕ × Command)
 names =
     (codes "put", Put) ∷ (codes "fill", Fill) ∷ (codes "putg", PutGrant) ∷ (codes "swap", Swap) ∷ (codes "open", Open) ∷ (codes "end", End)
     ∷ (codes "node", Node) ∷ (codes "bus", Bus) ∷ (codes "wake", Wake) ∷ (codes "blank", Blank) ∷ (codes "show", Show)
-    ∷ (codes "back", Back) ∷ (codes "serve", Serve) ∷ (codes "domain", Domain) ∷ (codes "display", Display) ∷ []
+    ∷ (codes "tick", Tick) ∷ (codes "back", Back) ∷ (codes "serve", Serve) ∷ (codes "domain", Domain) ∷ (codes "display", Display)
+    ∷ (codes "sound", Sound) ∷ []
 
 -- what a token names, as the first of a line
 unfoldable pub command_of : List ℕ → Option Command
@@ -31,6 +32,7 @@ command_of octets = named octets names
 abbrev pub is_declaration : Command → Bool
 is_declaration Domain = true
 is_declaration Display = true
+is_declaration Sound = true
 is_declaration other = false
 
 -- whether there is nothing in a list
@@ -48,6 +50,7 @@ command_at so_far t = do
 unfoldable pub arguments_at : Command → Scenario → Cursor → Result (Item × Cursor) Flaw
 arguments_at Domain so_far c = domain_at so_far c
 arguments_at Display so_far c = display_at so_far c
+arguments_at Sound so_far c = sound_at so_far c
 arguments_at Put so_far c = put_at so_far c
 arguments_at Fill so_far c = fill_at so_far c
 arguments_at PutGrant so_far c = put_grant_at so_far c
@@ -59,6 +62,7 @@ arguments_at Bus so_far c = bus_at so_far c
 arguments_at Wake so_far c = wake_at so_far c
 arguments_at Blank so_far c = blank_at so_far c
 arguments_at Show so_far c = show_at so_far c
+arguments_at Tick so_far c = tick_at so_far c
 arguments_at Back so_far c = back_at so_far c
 arguments_at Serve so_far c = serve_at so_far c
 

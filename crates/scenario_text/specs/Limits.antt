@@ -13,6 +13,10 @@ device_limit = 16
 abbrev pub connector_limit : ℕ
 connector_limit = 4
 
+-- a tick is of this many frames at most
+abbrev pub tick_limit : ℕ
+tick_limit = 1048576
+
 -- a page has this many words
 abbrev pub page_words : ℕ
 page_words = 1024

@@ -1,5 +1,5 @@
 -- The domains and devices that a line names.
-use Rattle.std.specs.Prelude.{ℕ, ◌-◌, ◌==◌, Bool, List, Option, Some, Result, Ok, Err, is_some, find, sum_by, if◌then◌else◌}
+use Rattle.std.specs.Prelude.{ℕ, ◌-◌, ◌==◌, Bool, List, length, Option, Some, None, Result, Ok, Err, is_some, find, sum_by, if◌then◌else◌}
 use Rattle.std.specs.Borrow.{Bor}
 use Rattle.std.specs.List.{list_any}
 use Rattle.pv_words.specs.Sizes.{size_limit}
@@ -9,6 +9,9 @@ use Rattle.pv_words.specs.declared.setup.DomainSize.{DomainSize}
 use Rattle.pv_words.specs.declared.setup.DeviceSetup.{DeviceSetup}
 use Rattle.pv_words.specs.declared.setup.DeviceKind.{DeviceKind}
 use Rattle.pv_words.specs.declared.setup.DeviceKind.TheVariants as kinds
+use Rattle.pv_words.specs.Streams.{kinds_in}
+use Rattle.scenario_text.specs.declared.lookup.Family.{Family}
+use Rattle.scenario_text.specs.declared.lookup.Family.TheVariants.{Displays, Sounds}
 use Rattle.script_tokens.specs.declared.fault.Flaw.{Flaw}
 use Rattle.script_tokens.specs.declared.fault.FaultKind.TheVariants.{Twice, Undeclared, WrongDevice}
 use Rattle.script_tokens.specs.Flaws.{flaw, ◌>>=◌, or_flaw}
@@ -25,13 +28,17 @@ size_of dom sizes = find (λ s. s.dom.0 == dom) sizes
 unfoldable pub device_of : ℕ → List DeviceSetup → Option DeviceSetup
 device_of dev devices = find (λ d. d.dev.0 == dev) devices
 
--- how many parts a device has: a display's connectors
+-- how many parts a device has: a display's connectors, a sound device's streams
 abbrev pub parts_of : DeviceKind → ℕ
 parts_of (kinds.Display connectors) = connectors
+parts_of (kinds.Sound streams) = length (kinds_in streams)
 
--- how many connectors it has, where it is a display
-abbrev pub connectors_of : DeviceKind → Option ℕ
-connectors_of (kinds.Display connectors) = Some connectors
+-- how many parts it has, where it is of this family
+abbrev pub parts_in : Family → DeviceKind → Option ℕ
+parts_in Displays (kinds.Display connectors) = Some connectors
+parts_in Displays (kinds.Sound streams) = None
+parts_in Sounds (kinds.Display connectors) = None
+parts_in Sounds (kinds.Sound streams) = Some (length (kinds_in streams))
 
 -- whether there is a device of this number
 unfoldable pub has_device : ℕ → List DeviceSetup → Bool
@@ -70,14 +77,14 @@ device_at devices c = do
   device ← or_flaw (device_of dev.0.value devices) dev.0.column Undeclared
   Ok (device, dev.1)
 
--- N C: a display that was declared, and one of its connectors
-unfoldable pub connector_at : List DeviceSetup → Cursor → Result ((DevId × ℕ) × Cursor) Flaw
-connector_at devices c = do
+-- N P: a device of this family that was declared, and one of its parts
+unfoldable pub part_at : Family → List DeviceSetup → Cursor → Result ((DevId × ℕ) × Cursor) Flaw
+part_at family devices c = do
   dev ← between_at 1 device_limit c
   device ← or_flaw (device_of dev.0.value devices) dev.0.column Undeclared
-  connectors ← or_flaw (connectors_of device.kind) dev.0.column WrongDevice
-  connector ← below_at connectors dev.1
-  Ok ((device.dev, connector.0.value), connector.1)
+  parts ← or_flaw (parts_in family device.kind) dev.0.column WrongDevice
+  part ← below_at parts dev.1
+  Ok ((device.dev, part.0.value), part.1)
 
 -- a device that was found, and the tokens behind its number, as the values that they stand for
 abbrev pub seen_device : Bor DeviceSetup × Tokens → DeviceSetup × Cursor

@@ -2,12 +2,24 @@
 use Rattle.std.specs.Prelude.{ℕ, ◌^◌, nat_lt, List, [], ◌∷◌, Option, Some, None, codes, if◌then◌else◌}
 use Rattle.pv_words.specs.declared.device.NodeValue.{NodeValue}
 use Rattle.pv_words.specs.declared.device.NodeValue.TheVariants as value
+use Rattle.pv_words.specs.declared.setup.DeviceKind.{DeviceKind}
+use Rattle.pv_words.specs.declared.setup.DeviceKind.TheVariants as kinds
 use Rattle.script_tokens.specs.Numbers.{digits_of}
 
 -- the names of a display's nodes, and their keys
-abbrev pub keys : List (List ℕ × ℕ)
-keys =
+abbrev pub display_keys : List (List ℕ × ℕ)
+display_keys =
     (codes "req-ring-ref", 0) ∷ (codes "req-event-channel", 1) ∷ (codes "evt-ring-ref", 2) ∷ (codes "evt-event-channel", 3) ∷ []
+
+-- the names of a sound device's nodes, and their keys
+abbrev pub sound_keys : List (List ℕ × ℕ)
+sound_keys =
+    (codes "ring-ref", 0) ∷ (codes "event-channel", 1) ∷ (codes "evt-ring-ref", 2) ∷ (codes "evt-event-channel", 3) ∷ []
+
+-- the names of the nodes of a device of this kind, and their keys
+abbrev pub keys_of : DeviceKind → List (List ℕ × ℕ)
+keys_of (kinds.Display connectors) = display_keys
+keys_of (kinds.Sound streams) = sound_keys
 
 -- a number, where it is below 2 ^ 32
 abbrev pub of_number : Option ℕ → NodeValue

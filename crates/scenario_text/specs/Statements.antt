@@ -1,6 +1,6 @@
 -- Statements, behind their first token.
 use Rattle.std.specs.Prelude.{ℕ, ◌-◌, ◌*◌, ◌^◌, min, Result, Ok}
-use Rattle.pv_words.specs.declared.device.HostEvent.TheVariants.{Blank, Show}
+use Rattle.pv_words.specs.declared.device.HostEvent.TheVariants.{Blank, Show, Tick}
 use Rattle.pv_words.specs.declared.grant.Mode.{Mode}
 use Rattle.pv_words.specs.declared.place.DomId.{DomId}
 use Rattle.pv_words.specs.declared.place.Place.TheVariants.{Cell, Grant}
@@ -10,13 +10,14 @@ use Rattle.scenario_text.specs.declared.draft.Item.TheVariants.{Step}
 use Rattle.scenario_text.specs.declared.statement.Filling.{Filling}
 use Rattle.scenario_text.specs.declared.statement.Opening.{Opening}
 use Rattle.scenario_text.specs.declared.statement.Statement.TheVariants.{Put, Fill, Swap, Open, End, Node, Bus, Wake, Host, Back, Serve}
+use Rattle.scenario_text.specs.declared.lookup.Family.TheVariants.{Displays, Sounds}
 use Rattle.script_tokens.specs.declared.fault.Flaw.{Flaw}
 use Rattle.script_tokens.specs.Flaws.{◌>>=◌}
 use Rattle.script_tokens.specs.Cursors.{Cursor}
 use Rattle.script_tokens.specs.Next.{between_at, below_at}
 use Rattle.scenario_text.specs.Arguments.{half_at, mode_at, key_at, node_value_at, state_at}
-use Rattle.scenario_text.specs.Limits.{page_words}
-use Rattle.scenario_text.specs.Lookups.{size_at, device_at, connector_at, parts_of}
+use Rattle.scenario_text.specs.Limits.{page_words, tick_limit}
+use Rattle.scenario_text.specs.Lookups.{size_at, device_at, part_at, parts_of}
 use Rattle.scenario_text.specs.Scenario.{Scenario}
 
 -- put D F W V: value V at word W of frame F of domain D
@@ -92,7 +93,7 @@ unfoldable pub node_at : Scenario → Cursor → Result (Item × Cursor) Flaw
 node_at so_far c = do
   dev ← device_at so_far.devices c
   part ← below_at (parts_of dev.0.kind) dev.1
-  key ← key_at part.1
+  key ← key_at dev.0.kind part.1
   value ← node_value_at key.1
   Ok (Step (Node dev.0.dev part.0.value key.0 value.0), value.1)
 
@@ -112,14 +113,21 @@ wake_at so_far c = do
 -- blank N C: a vertical blank of connector C of device N, a display
 unfoldable pub blank_at : Scenario → Cursor → Result (Item × Cursor) Flaw
 blank_at so_far c = do
-  at ← connector_at so_far.devices c
+  at ← part_at Displays so_far.devices c
   Ok (Step (Host at.0.0 (Blank at.0.1)), at.1)
 
 -- show N C: connector C of device N, a display, is to show its picture
 unfoldable pub show_at : Scenario → Cursor → Result (Item × Cursor) Flaw
 show_at so_far c = do
-  at ← connector_at so_far.devices c
+  at ← part_at Displays so_far.devices c
   Ok (Step (Host at.0.0 (Show at.0.1)), at.1)
+
+-- tick N P K: K frames of stream P of device N, a sound device. K is 1 or more, and no more than a tick has at most.
+unfoldable pub tick_at : Scenario → Cursor → Result (Item × Cursor) Flaw
+tick_at so_far c = do
+  at ← part_at Sounds so_far.devices c
+  frames ← between_at 1 tick_limit at.1
+  Ok (Step (Host at.0.0 (Tick at.0.1 frames.0.value)), frames.1)
 
 -- back N K: device N, and K accesses, of which there is at least 1
 unfoldable pub back_at : Scenario → Cursor → Result (Item × Cursor) Flaw

@@ -5,10 +5,11 @@ ghost use Rattle.script_tokens.specs.Flaws.{Gives};
 ghost use Rattle.script_tokens.specs.Cursors.{cursor, seen};
 ghost use Rattle.script_tokens.specs.Next.{named};
 ghost use Rattle.scenario_text.specs.Arguments.{halves, half_at, modes, mode_at, key_at, node_value_at, state_at};
-ghost use Rattle.scenario_text.specs.Nodes.{keys, node_value};
+ghost use Rattle.scenario_text.specs.Arguments.{stream_kinds, stream_kind_at, further_kind_at, streams_of, streams_at};
+ghost use Rattle.scenario_text.specs.Nodes.{display_keys, sound_keys, keys_of, node_value};
 ghost use Rattle.xenbus_states.specs.States.{state_of};
 
-use pv_words::{Half, Mode, NodeValue, State};
+use pv_words::{DeviceKind, Half, Mode, NodeValue, State, StreamKind, Streams};
 use script_tokens::{FaultKind, Flaw, Token, Tokens};
 use xenbus_states::state_from_number;
 
@@ -69,8 +70,8 @@ pub fn mode<'a>(tokens: Tokens<'a>) -> Result<(Mode, Tokens<'a>), Flaw>
 }
 
 /// The key of the node that has this name, in a display.
-fn key_of(octets: &[u8]) -> Option<u8>
-    ensures { result ≡ named octets.now keys }
+fn display_key_of(octets: &[u8]) -> Option<u8>
+    ensures { result ≡ named octets.now display_keys }
 {
     if octets == b"req-ring-ref".as_slice() {
         Some(0)
@@ -85,13 +86,40 @@ fn key_of(octets: &[u8]) -> Option<u8>
     }
 }
 
-/// The next token as the name of a node, by which its key is told.
+/// The key of the node that has this name, in a sound device.
+fn sound_key_of(octets: &[u8]) -> Option<u8>
+    ensures { result ≡ named octets.now sound_keys }
+{
+    if octets == b"ring-ref".as_slice() {
+        Some(0)
+    } else if octets == b"event-channel".as_slice() {
+        Some(1)
+    } else if octets == b"evt-ring-ref".as_slice() {
+        Some(2)
+    } else if octets == b"evt-event-channel".as_slice() {
+        Some(3)
+    } else {
+        None
+    }
+}
+
+/// The key of the node that has this name, in a device of this kind.
+fn key_of(kind: &DeviceKind, octets: &[u8]) -> Option<u8>
+    ensures { result ≡ named octets.now (keys_of kind.now) }
+{
+    match kind {
+        DeviceKind::Display(_) => display_key_of(octets),
+        DeviceKind::Sound(_) => sound_key_of(octets),
+    }
+}
+
+/// The next token as the name of a node of a device of this kind, by which its key is told.
 #[tactic(auto, unfolding(crate::specs::Arguments::key_at))]
-pub fn key<'a>(tokens: Tokens<'a>) -> Result<(u8, Tokens<'a>), Flaw>
-    ensures { Gives seen result (key_at (cursor tokens.entry)) }
+pub fn key<'a>(kind: &DeviceKind, tokens: Tokens<'a>) -> Result<(u8, Tokens<'a>), Flaw>
+    ensures { Gives seen result (key_at kind.now (cursor tokens.entry)) }
 {
     let (token, tokens) = tokens.next()?;
-    match key_of(token.octets) {
+    match key_of(kind, token.octets) {
         Some(key) => Ok((key, tokens)),
         None => Err(Flaw {
             column: token.column,
@@ -143,4 +171,78 @@ pub fn state<'a>(tokens: Tokens<'a>) -> Result<(State, Tokens<'a>), Flaw>
             kind: FaultKind::OutOfRange,
         }),
     }
+}
+
+/// The kind of stream that this letter names.
+fn stream_kind_of(octets: &[u8]) -> Option<StreamKind>
+    ensures { result ≡ named octets.now stream_kinds }
+{
+    if octets == b"p".as_slice() {
+        Some(StreamKind::Playback)
+    } else if octets == b"c".as_slice() {
+        Some(StreamKind::Capture)
+    } else {
+        None
+    }
+}
+
+/// The next token as the letter for a kind of stream.
+#[tactic(auto, unfolding(crate::specs::Arguments::stream_kind_at))]
+fn stream_kind<'a>(tokens: Tokens<'a>) -> Result<(StreamKind, Tokens<'a>), Flaw>
+    ensures { Gives seen result (stream_kind_at (cursor tokens.entry)) }
+{
+    let (token, tokens) = tokens.next()?;
+    match stream_kind_of(token.octets) {
+        Some(kind) => Ok((kind, tokens)),
+        None => Err(Flaw {
+            column: token.column,
+            kind: FaultKind::BadWord,
+        }),
+    }
+}
+
+/// The next token as the letter for the kind of a further stream, if the line goes on.
+#[tactic(auto, unfolding(crate::specs::Arguments::further_kind_at))]
+fn further_kind<'a>(tokens: Tokens<'a>) -> Result<(Option<StreamKind>, Tokens<'a>), Flaw>
+    ensures { Gives seen result (further_kind_at (cursor tokens.entry)) }
+{
+    let Some((token, behind)) = tokens.split_first() else {
+        return Ok((None, tokens));
+    };
+    match stream_kind_of(token.octets) {
+        Some(kind) => Ok((Some(kind), behind)),
+        None => Err(Flaw {
+            column: token.column,
+            kind: FaultKind::BadWord,
+        }),
+    }
+}
+
+/// The streams of these kinds, up to the first that is missing.
+fn streams_of(
+    first: StreamKind,
+    second: Option<StreamKind>,
+    third: Option<StreamKind>,
+    fourth: Option<StreamKind>,
+) -> Streams
+    ensures { result ≡ streams_of first second third fourth }
+{
+    match (second, third, fourth) {
+        (None, _, _) => Streams::One(first),
+        (Some(second), None, _) => Streams::Two(first, second),
+        (Some(second), Some(third), None) => Streams::Three(first, second, third),
+        (Some(second), Some(third), Some(fourth)) => Streams::Four(first, second, third, fourth),
+    }
+}
+
+/// The next tokens as the letters for the kinds of one to four streams, as far as the line goes.
+#[tactic(auto, unfolding(crate::specs::Arguments::streams_at))]
+pub fn streams<'a>(tokens: Tokens<'a>) -> Result<(Streams, Tokens<'a>), Flaw>
+    ensures { Gives seen result (streams_at (cursor tokens.entry)) }
+{
+    let (first, tokens) = stream_kind(tokens)?;
+    let (second, tokens) = further_kind(tokens)?;
+    let (third, tokens) = further_kind(tokens)?;
+    let (fourth, tokens) = further_kind(tokens)?;
+    Ok((streams_of(first, second, third, fourth), tokens))
 }

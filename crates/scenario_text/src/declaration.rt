@@ -4,8 +4,9 @@ ghost use Rattle.std.specs.Prelude.{◌≡◌};
 ghost use Rattle.script_tokens.specs.Flaws.{Gives};
 ghost use Rattle.script_tokens.specs.Cursors.{cursor, seen};
 ghost use Rattle.scenario_text.specs.Scenario.{drafted};
-ghost use Rattle.scenario_text.specs.Declarations.{domain_at, display_at};
+ghost use Rattle.scenario_text.specs.Declarations.{domain_at, display_at, sound_at};
 
+use crate::argument::streams;
 use crate::draft::{Draft, Item};
 use crate::limit::CONNECTOR_LIMIT;
 use crate::lookup::{declared_domain, frames_left, grants_left, new_device, new_domain};
@@ -45,6 +46,23 @@ pub fn display<'a>(so_far: &Draft, tokens: Tokens<'a>) -> Result<(Item, Tokens<'
         dev,
         dom: size.dom,
         kind: DeviceKind::Display(connectors.value as u8),
+    };
+    Ok((Item::Device(device), tokens))
+}
+
+/// `sound N D K ..`: device N of domain D with one to four streams, each by its kind, which is `p` or `c`.
+#[inline(never)]
+#[tactic(auto, unfolding(crate::specs::Declarations::sound_at))]
+pub fn sound<'a>(so_far: &Draft, tokens: Tokens<'a>) -> Result<(Item, Tokens<'a>), Flaw>
+    ensures { Gives seen result (sound_at (drafted so_far.now) (cursor tokens.entry)) }
+{
+    let (dev, tokens) = new_device(&so_far.devices, tokens)?;
+    let (size, tokens) = declared_domain(&so_far.sizes, tokens)?;
+    let (streams, tokens) = streams(tokens)?;
+    let device = DeviceSetup {
+        dev,
+        dom: size.dom,
+        kind: DeviceKind::Sound(streams),
     };
     Ok((Item::Device(device), tokens))
 }

@@ -6,10 +6,10 @@ ghost use Rattle.script_tokens.specs.Cursors.{cursor, seen, token};
 ghost use Rattle.scenario_text.specs.Scenario.{drafted};
 ghost use Rattle.scenario_text.specs.Items.{command_of, is_declaration, command_at, arguments_at, item_of};
 
-use crate::declaration::{display, domain};
+use crate::declaration::{display, domain, sound};
 use crate::draft::{Draft, Item};
 use crate::statement::{
-    back, blank, bus, end, fill, node, open, put, put_grant, serve, show, swap, wake,
+    back, blank, bus, end, fill, node, open, put, put_grant, serve, show, swap, tick, wake,
 };
 use script_tokens::{FaultKind, Flaw, Token, Tokens};
 
@@ -18,6 +18,7 @@ use script_tokens::{FaultKind, Flaw, Token, Tokens};
 pub enum Command {
     Domain,
     Display,
+    Sound,
     Put,
     Fill,
     PutGrant,
@@ -29,6 +30,7 @@ pub enum Command {
     Wake,
     Blank,
     Show,
+    Tick,
     Back,
     Serve,
 }
@@ -60,6 +62,8 @@ fn command_of(octets: &[u8]) -> Option<Command>
         Some(Command::Blank)
     } else if octets == b"show".as_slice() {
         Some(Command::Show)
+    } else if octets == b"tick".as_slice() {
+        Some(Command::Tick)
     } else if octets == b"back".as_slice() {
         Some(Command::Back)
     } else if octets == b"serve".as_slice() {
@@ -68,6 +72,8 @@ fn command_of(octets: &[u8]) -> Option<Command>
         Some(Command::Domain)
     } else if octets == b"display".as_slice() {
         Some(Command::Display)
+    } else if octets == b"sound".as_slice() {
+        Some(Command::Sound)
     } else {
         None
     }
@@ -77,7 +83,7 @@ fn command_of(octets: &[u8]) -> Option<Command>
 fn is_declaration(command: Command) -> bool
     ensures { result ≡ is_declaration command }
 {
-    matches!(command, Command::Domain | Command::Display)
+    matches!(command, Command::Domain | Command::Display | Command::Sound)
 }
 
 /// What the first token of a line names. No declaration may follow a statement.
@@ -110,6 +116,7 @@ fn arguments<'a>(
     match command {
         Command::Domain => domain(so_far, tokens),
         Command::Display => display(so_far, tokens),
+        Command::Sound => sound(so_far, tokens),
         Command::Put => put(so_far, tokens),
         Command::Fill => fill(so_far, tokens),
         Command::PutGrant => put_grant(so_far, tokens),
@@ -121,6 +128,7 @@ fn arguments<'a>(
         Command::Wake => wake(so_far, tokens),
         Command::Blank => blank(so_far, tokens),
         Command::Show => show(so_far, tokens),
+        Command::Tick => tick(so_far, tokens),
         Command::Back => back(so_far, tokens),
         Command::Serve => serve(so_far, tokens),
     }

@@ -12,5 +12,8 @@ pub const DEVICE_LIMIT: u32 = 16;
 /// The most connectors of a display.
 pub const CONNECTOR_LIMIT: u32 = 4;
 
+/// The most frames of a tick.
+pub const TICK_LIMIT: u32 = 1048576;
+
 /// The number of words of a page.
 pub const PAGE_WORDS: u64 = 1024;

@@ -3,9 +3,9 @@
 ghost use Rattle.std.specs.Prelude.{◌≡◌, option_map};
 ghost use Rattle.script_tokens.specs.Flaws.{Gives};
 ghost use Rattle.script_tokens.specs.Cursors.{cursor, seen};
-ghost use Rattle.scenario_text.specs.Lookups.{size_of, device_of, has_device, parts_of, connectors_of};
+ghost use Rattle.scenario_text.specs.Lookups.{size_of, device_of, has_device, parts_of, parts_in};
 ghost use Rattle.scenario_text.specs.Lookups.{frames_left, grants_left, new_domain_at, size_at};
-ghost use Rattle.scenario_text.specs.Lookups.{new_device_at, device_at, connector_at, seen_device};
+ghost use Rattle.scenario_text.specs.Lookups.{new_device_at, device_at, part_at, seen_device};
 
 use crate::limit::{DEVICE_LIMIT, DOMAIN_LIMIT, SIZE_LIMIT};
 use pv_words::{DevId, DeviceKind, DeviceSetup, DomId, DomainSize};
@@ -27,21 +27,31 @@ fn device_of(dev: u64, devices: &[DeviceSetup]) -> Option<&DeviceSetup>
     devices.iter().find(|d| u64::from(d.dev.0) == dev)
 }
 
-/// How many parts a device has: a display's connectors.
+/// A family of devices, for which a statement may be.
+#[derive(Clone, Copy, Debug, PartialEq, Eq)]
+pub enum Family {
+    Displays,
+    Sounds,
+}
+
+/// How many parts a device has: a display's connectors, a sound device's streams.
 pub fn parts_of(kind: &DeviceKind) -> u8
     ensures { result ≡ parts_of kind.now }
 {
     match kind {
         DeviceKind::Display(connectors) => *connectors,
+        DeviceKind::Sound(streams) => streams.count(),
     }
 }
 
-/// How many connectors a device has, if it is a display.
-fn connectors_of(kind: &DeviceKind) -> Option<u8>
-    ensures { result ≡ connectors_of kind.now }
+/// How many parts a device has, if it is of this family.
+fn parts_in(family: Family, kind: &DeviceKind) -> Option<u8>
+    ensures { result ≡ parts_in family kind.now }
 {
-    match kind {
-        DeviceKind::Display(connectors) => Some(*connectors),
+    match (family, kind) {
+        (Family::Displays, DeviceKind::Display(connectors)) => Some(*connectors),
+        (Family::Sounds, DeviceKind::Sound(streams)) => Some(streams.count()),
+        _ => None,
     }
 }
 
@@ -148,13 +158,14 @@ pub fn declared_device<'d, 'a>(
     }
 }
 
-/// The next two tokens as the number of a declared display and that of one of its connectors.
-#[tactic(auto, unfolding(crate::specs::Lookups::connector_at))]
-pub fn connector<'a>(
+/// The next two tokens as the number of a declared device of this family and that of one of its parts.
+#[tactic(auto, unfolding(crate::specs::Lookups::part_at))]
+pub fn part<'a>(
+    family: Family,
     devices: &[DeviceSetup],
     tokens: Tokens<'a>,
 ) -> Result<((DevId, u8), Tokens<'a>), Flaw>
-    ensures { Gives seen result (connector_at devices.now (cursor tokens.entry)) }
+    ensures { Gives seen result (part_at family devices.now (cursor tokens.entry)) }
 {
     let (dev, tokens) = tokens.between(1, DEVICE_LIMIT)?;
     let column = dev.column;
@@ -164,12 +175,12 @@ pub fn connector<'a>(
             kind: FaultKind::Undeclared,
         });
     };
-    let Some(connectors) = connectors_of(&device.kind) else {
+    let Some(parts) = parts_in(family, &device.kind) else {
         return Err(Flaw {
             column,
             kind: FaultKind::WrongDevice,
         });
     };
-    let (connector, tokens) = tokens.below(u64::from(connectors))?;
-    Ok(((device.dev, connector.value as u8), tokens))
+    let (part, tokens) = tokens.below(u64::from(parts))?;
+    Ok(((device.dev, part.value as u8), tokens))
 }

@@ -5,13 +5,13 @@ ghost use Rattle.script_tokens.specs.Flaws.{Gives};
 ghost use Rattle.script_tokens.specs.Cursors.{cursor, seen};
 ghost use Rattle.scenario_text.specs.Scenario.{drafted};
 ghost use Rattle.scenario_text.specs.Statements.{put_at, fill_at, put_grant_at, swap_at, open_at};
-ghost use Rattle.scenario_text.specs.Statements.{end_at, node_at, bus_at, wake_at, blank_at, show_at};
+ghost use Rattle.scenario_text.specs.Statements.{end_at, node_at, bus_at, wake_at, blank_at, show_at, tick_at};
 ghost use Rattle.scenario_text.specs.Statements.{back_at, serve_at};
 
 use crate::argument::{half, key, mode, node_value, state};
 use crate::draft::{Draft, Item};
-use crate::limit::PAGE_WORDS;
-use crate::lookup::{connector, declared_device, declared_domain, parts_of};
+use crate::limit::{PAGE_WORDS, TICK_LIMIT};
+use crate::lookup::{Family, declared_device, declared_domain, part, parts_of};
 use pv_words::{DevId, DomId, Frame, GrantRef, Half, HostEvent, Mode, NodeValue, Place, State};
 use script_tokens::{Flaw, Tokens};
 
@@ -213,7 +213,7 @@ pub fn node<'a>(so_far: &Draft, tokens: Tokens<'a>) -> Result<(Item, Tokens<'a>)
 {
     let (device, tokens) = declared_device(&so_far.devices, tokens)?;
     let (part, tokens) = tokens.below(u64::from(parts_of(&device.kind)))?;
-    let (key, tokens) = key(tokens)?;
+    let (key, tokens) = key(&device.kind, tokens)?;
     let (value, tokens) = node_value(tokens)?;
     let statement = Statement::Node(device.dev, part.value as u8, key, value);
     Ok((Item::Step(statement), tokens))
@@ -246,7 +246,7 @@ pub fn wake<'a>(so_far: &Draft, tokens: Tokens<'a>) -> Result<(Item, Tokens<'a>)
 pub fn blank<'a>(so_far: &Draft, tokens: Tokens<'a>) -> Result<(Item, Tokens<'a>), Flaw>
     ensures { Gives seen result (blank_at (drafted so_far.now) (cursor tokens.entry)) }
 {
-    let ((dev, connector), tokens) = connector(&so_far.devices, tokens)?;
+    let ((dev, connector), tokens) = part(Family::Displays, &so_far.devices, tokens)?;
     let event = HostEvent::Blank(connector);
     Ok((Item::Step(Statement::Host(dev, event)), tokens))
 }
@@ -257,8 +257,20 @@ pub fn blank<'a>(so_far: &Draft, tokens: Tokens<'a>) -> Result<(Item, Tokens<'a>
 pub fn show<'a>(so_far: &Draft, tokens: Tokens<'a>) -> Result<(Item, Tokens<'a>), Flaw>
     ensures { Gives seen result (show_at (drafted so_far.now) (cursor tokens.entry)) }
 {
-    let ((dev, connector), tokens) = connector(&so_far.devices, tokens)?;
+    let ((dev, connector), tokens) = part(Family::Displays, &so_far.devices, tokens)?;
     let event = HostEvent::Show(connector);
+    Ok((Item::Step(Statement::Host(dev, event)), tokens))
+}
+
+/// `tick N P K`: tell device N, a sound device, that K frames went by on its stream P, 1 to 1048576.
+#[inline(never)]
+#[tactic(auto, unfolding(crate::specs::Statements::tick_at))]
+pub fn tick<'a>(so_far: &Draft, tokens: Tokens<'a>) -> Result<(Item, Tokens<'a>), Flaw>
+    ensures { Gives seen result (tick_at (drafted so_far.now) (cursor tokens.entry)) }
+{
+    let ((dev, stream), tokens) = part(Family::Sounds, &so_far.devices, tokens)?;
+    let (frames, tokens) = tokens.between(1, TICK_LIMIT)?;
+    let event = HostEvent::Tick(stream, frames.value as u32);
     Ok((Item::Step(Statement::Host(dev, event)), tokens))
 }
 

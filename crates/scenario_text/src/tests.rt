@@ -1,10 +1,10 @@
 use super::*;
 use crate::FaultKind::{
-    BadNumber, BadWord, ExtraWord, Late, MissingWord, OutOfRange, Twice, Undeclared,
+    BadNumber, BadWord, ExtraWord, Late, MissingWord, OutOfRange, Twice, Undeclared, WrongDevice,
 };
 use pv_words::{
     DevId, DeviceKind, DeviceSetup, DomId, DomainSize, Frame, GrantRef, Half, HostEvent, Kind,
-    Mode, NodeValue, Place, State,
+    Mode, NodeValue, Place, State, StreamKind, Streams,
 };
 use std::alloc::Global;
 use std::process::Abort;
@@ -148,6 +148,38 @@ fn one_of_each_of_devices(rt: HostRuntime) -> Result<(), Fail> {
 }
 
 #[test]
+fn one_of_each_of_sound(rt: HostRuntime) -> Result<(), Fail> {
+    let text =
+        b"domain 1 wild 1 0\nsound 2 1 p\nsound 16 1 c p\nsound 3 1 p c c\nsound 1 1 p p p c\n\
+        node 2 0 ring-ref 8\nnode 16 1 event-channel 9\nnode 3 2 evt-ring-ref 7\n\
+        node 1 3 evt-event-channel 1\ntick 1 3 1048576\ntick 2 0 1\n";
+    let script = Script::parse(rt.alloc(), text)?;
+    let sound = |dev, streams| DeviceSetup {
+        dev: DevId(dev),
+        dom: DomId(1),
+        kind: DeviceKind::Sound(streams),
+    };
+    let (p, c) = (StreamKind::Playback, StreamKind::Capture);
+    let devices = [
+        sound(2, Streams::One(p)),
+        sound(16, Streams::Two(c, p)),
+        sound(3, Streams::Three(p, c, c)),
+        sound(1, Streams::Four(p, p, p, c)),
+    ];
+    let statements = [
+        Statement::Node(DevId(2), 0, 0, NodeValue::Number(8)),
+        Statement::Node(DevId(16), 1, 1, NodeValue::Number(9)),
+        Statement::Node(DevId(3), 2, 2, NodeValue::Number(7)),
+        Statement::Node(DevId(1), 3, 3, NodeValue::Number(1)),
+        Statement::Host(DevId(1), HostEvent::Tick(3, 1048576)),
+        Statement::Host(DevId(2), HostEvent::Tick(0, 1)),
+    ];
+    assert_eq!(rt; script.devices(), devices.as_slice());
+    assert_eq!(rt; script.statements(), statements.as_slice());
+    Ok(())
+}
+
+#[test]
 fn names_and_values_of_nodes(rt: HostRuntime) -> Result<(), Fail> {
     let text = b"domain 1 wild 1 0\ndisplay 1 1 1\n\
         node 1 0 req-ring-ref 4294967295\nnode 1 0 req-event-channel 0000000000000000000000000007\n\
@@ -259,6 +291,34 @@ fn faults_of_statements_of_devices(rt: HostRuntime) -> Result<(), Fail> {
         ("back 1 4294967296", 3, 8, OutOfRange),
     ];
     expect_faults(&rt, rt.alloc(), "domain 4 wild 1 0\ndisplay 1 4 4\n", &rows)
+}
+
+#[test]
+fn faults_of_sound(rt: HostRuntime) -> Result<(), Fail> {
+    let rows = [
+        ("sound 3 4", 4, 10, MissingWord),
+        ("sound 3 4 x", 4, 11, BadWord),
+        ("sound 3 4 p p c pc", 4, 17, BadWord),
+        ("sound 3 4 p p c c p", 4, 19, ExtraWord),
+        ("sound 2 4 x", 4, 7, Twice),
+        ("sound 3 1 x", 4, 9, Undeclared),
+        ("sound 17 1 x", 4, 7, OutOfRange),
+        ("wake 1\nsound 2 4 p", 5, 1, Late),
+        ("node 2 2 x 1", 4, 8, OutOfRange),
+        ("node 2 0 req-ring-ref 1", 4, 10, BadWord),
+        ("node 1 0 ring-ref 1", 4, 10, BadWord),
+        ("tick 3 9 0", 4, 6, Undeclared),
+        ("tick 1 9 0", 4, 6, WrongDevice),
+        ("tick 2 2 0", 4, 8, OutOfRange),
+        ("tick 2 1 0", 4, 10, OutOfRange),
+        ("tick 2 1 1048577", 4, 10, OutOfRange),
+        ("tick 2 1", 4, 9, MissingWord),
+        ("tick 2 1 1 1", 4, 12, ExtraWord),
+        ("blank 2 9", 4, 7, WrongDevice),
+        ("show 2 9", 4, 6, WrongDevice),
+    ];
+    let head = "domain 4 wild 1 0\ndisplay 1 4 4\nsound 2 4 p c\n";
+    expect_faults(&rt, rt.alloc(), head, &rows)
 }
 
 #[test]

@@ -10,7 +10,7 @@ use Rattle.sound_backend.specs.declared.waiting.Waiting.TheVariants as waiting
 use Rattle.sound_backend.specs.Laws.{KindsStay, kinds_of}
 use Rattle.sound_backend.specs.Service.{Known, Ending, Listed, Freed, Served, after_end, answered_for, status_of}
 use Rattle.sound_backend.specs.Stock.{Stock, kinds_in, stock_after}
-use Rattle.sound_backend.specs.Verdict.{is_accepted}
+use Rattle.page_directory.specs.Progress.{is_accepted}
 use Rattle.sound_backend.proofs.Streams.{kinds_changed, kinds_closed, tick_kind}
 
 ended : (x : Known) (a : Ending) → kinds_of (after_end x a) ≡ kinds_of x

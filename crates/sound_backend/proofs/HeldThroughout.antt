@@ -1,28 +1,25 @@
 -- While a walk or a Release is under way, a sound device's service tells just the pages that are held.
-use Rattle.std.proofs.Common.{◌≡◌, ℕ, ◌+◌, ◌++◌, Bool, true, List, [], Option, Some, None, ap, subst, arith}
+use Rattle.std.proofs.Common.{◌≡◌, ℕ, ◌++◌, Bool, true, List, [], Option, Some, None, refl, sym, ap, subst, arith}
 use Rattle.std.proofs.lemmas.Bool.{false≢true, eqb-true}
 use Rattle.circular_buffer.specs.Buffer.{Buffer}
 use Rattle.pv_words.specs.declared.grant.Hold.{Hold}
 use Rattle.pv_words.specs.Held.{Holds, IsProper, holding}
-use Rattle.pv_words.specs.Plan.{Finished, FitsFrom}
-use Rattle.page_directory.specs.declared.walk.Walk.{Walk}
+use Rattle.pv_words.specs.Plan.{FitsFrom}
 use Rattle.page_directory.specs.declared.walk.Walked.{Walked}
 use Rattle.page_directory.specs.declared.walk.Walked.TheVariants as walked
 use Rattle.page_directory.specs.Laws.{pages_in as pages_listed}
 use Rattle.page_directory.specs.Same.{AreSame, times}
-use Rattle.page_directory.specs.WalkLeft.{dom_of, held_by, walk_left}
+use Rattle.page_directory.specs.WalkLeft.{dom_of}
 use Rattle.page_directory.proofs.Counts.{times_append}
-use Rattle.page_directory.proofs.Remaining.{walk_comes}
 use Rattle.device_service.specs.Claims.{site_of}
 use Rattle.device_service.specs.Laws.{AreHeld}
 use Rattle.device_service.specs.Throughout.{HoldsThroughout}
-use Rattle.device_service.proofs.InPages.{fits_before}
-use Rattle.device_service.proofs.Unmapping.{unmaps_come}
+use Rattle.device_service.proofs.Mapping.Keeping.{release_told, same_parted, walk_told}
 use Rattle.sound_backend.specs.declared.course.Course.{Course}
 use Rattle.sound_backend.specs.declared.course.Course.TheVariants.{Rests, Walks, Frees}
 use Rattle.sound_backend.specs.declared.course.Demand.{Demand}
-use Rattle.sound_backend.specs.declared.course.Progress.{Progress}
-use Rattle.sound_backend.specs.declared.course.Progress.TheVariants as progress
+use Rattle.page_directory.specs.declared.progress.Progress.{Progress}
+use Rattle.page_directory.specs.declared.progress.Progress.TheVariants as progress
 use Rattle.sound_backend.specs.Course.{Stands, is_under_way, is_walk_of, left_at, pages_walked, stock_at}
 use Rattle.sound_backend.specs.Held.{bared, list_at, pages_in}
 use Rattle.sound_backend.specs.Kept.{Come, HasCome, HasComeTo, facts}
@@ -46,34 +43,23 @@ module _ (frames grants : ℕ → ℕ) (dom parts : ℕ) (hand : Option Demand) 
   abbrev Goes : Course → Stock → Type 0
   Goes course s = FitsFrom (IsProper frames grants dom) (holding frames) (Leaves course s) now (left_at (site_of frames grants dom parts) course s)
 
-  -- what a walk came to is held beside the pages of the streams and the others
-  listed : (w : Walk) (s : Stock) → s.mapped ≡ [] → (h : Holds) (came : Walked) → Leaves (Walks w) s h (Listed came) → (k : Hold) → times k h.held ≡ times k (pages_listed came) + (times k (pages_in s.held) + times k rest)
-  listed w s bare h (walked.Pages ps) e k =
-      let lists = pages_in s.held in
-      omega (arith, e.1 k, times_append k (ps ++ lists) rest, times_append k ps lists)
-  listed w s bare h (walked.Refused why) e k =
-      let lists = pages_in s.held in
-      omega (arith, e.1 k, times_append k (s.mapped ++ lists) rest, times_append k s.mapped lists, ap (times k) bare)
+  -- what a walk came to is held beside the pages of the streams
+  adds : (s : Stock) → s.mapped ≡ [] → (came : Walked) → AreSame (pages_of (after_end (knowing s hand p) (Listed came)).stock) (pages_listed came ++ pages_of s)
+  adds s bare (walked.Pages ps) k = ap (λ hs. times k (ps ++ (hs ++ pages_in s.held))) (sym bare)
+  adds s bare (walked.Refused why) k = refl
 
-  walk_told : (w : Walk) (s : Stock) (queue : Option (Buffer ℕ)) → is_walk_of dom (Walks w) ≡ true → Stands (Walks w) hand p s.held queue → s.mapped ≡ [] → Goes (Walks w) s → AreSame now.held ((held_by w ++ pages_of s) ++ rest)
-  walk_told w s queue home stands bare f k =
-      let lists = pages_in s.held in
-      let end : Holds → Walked → Type 0 = λ h came. Leaves (Walks w) s h (Listed came) in
-      let c = walk_comes frames grants dom end w now (eqb-true (dom_of w) dom home) stands.2.going (fits_before frames (IsProper frames grants dom) Listed (Leaves (Walks w) s) now (walk_left (frames dom) (grants dom) w) f) in
-      omega (arith, c.3 k, listed w s bare c.0 c.1 c.2 k, times_append k (held_by w ++ pages_of s) rest, times_append k (held_by w) (pages_of s), times_append k s.mapped lists, ap (times k) bare)
-
-  release_told : (part : ℕ) (s : Stock) → Goes (Frees part) s → AreSame now.held (pages_of s ++ rest)
-  release_told part s f k =
-      let lists = pages_in s.held in
+  release_parts : (part : ℕ) (s : Stock) → Goes (Frees part) s → AreSame now.held (pages_of s ++ rest)
+  release_parts part s f k =
       let under = list_at s.held part in
       let others = pages_in (bared s.held part) in
-      let u = unmaps_come frames grants dom (Leaves (Frees part) s) under (Finished Freed) now f in
-      omega (arith, u.2 k, u.1.1 k, parted s.held part k, times_append k under others, times_append k (s.mapped ++ others) rest, times_append k s.mapped others, times_append k (s.mapped ++ lists) rest, times_append k s.mapped lists)
+      let split = same_parted s.mapped (pages_in s.held) under others (parted s.held part) in
+      omega (arith, release_told frames grants dom sound Freed (knowing (stock_at (Frees part) s) hand p) under rest now f k, split k, times_append k (under ++ (s.mapped ++ others)) rest, times_append k (pages_of s) rest)
 
   course_told : (b : Bool) (course : Course) (s : Stock) (queue : Option (Buffer ℕ)) → is_under_way course ≡ true → is_walk_of dom course ≡ true → Stands course hand p s.held queue → HasCome b (knowing (stock_at course s) hand p) → Goes course s → AreSame now.held ((pages_walked course ++ pages_of s) ++ rest)
   course_told b Rests s queue going home stands has f = absurd (false≢true going)
-  course_told b (Walks w) s queue going home stands has f = walk_told w s queue home stands (none_yet s hand p stands.0 has.1) f
-  course_told b (Frees part) s queue going home stands has f = release_told part s f
+  course_told b (Walks w) s queue going home stands has f =
+      walk_told frames grants dom sound Listed (knowing s hand p) (adds s (none_yet s hand p stands.0 has.1)) w rest now (eqb-true (dom_of w) dom home) stands.2.going f
+  course_told b (Frees part) s queue going home stands has f = release_parts part s f
 
 pub holds_throughout : HoldsThroughout sound facts known_of going_of left_of is_of held_of
 holds_throughout frames grants dom parts s b rest now going home sane has f =

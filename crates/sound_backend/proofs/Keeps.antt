@@ -1,19 +1,17 @@
 -- The sound device keeps the laws of a service.
-use Rattle.std.proofs.Common.{◌≡◌, inl, inr, ℕ, zero, suc, ◌%◌, ◌==◌, ℤ, pos, negsuc, ◌<◌, ◌&&◌, not, replicate, nat_le, nat_lt, Bool, true, false, cond, List, [], ◌∷◌, ◌++◌, Option, Some, None, is_some, slice_get, refl, sym, ◌∙◌, ap, subst, arith, length}
-use Rattle.std.proofs.lemmas.Bool.{true≢false, false≢true, lt-ltb}
+use Rattle.std.proofs.Common.{◌≡◌, inl, inr, ℕ, ◌%◌, ◌==◌, pos, ◌<◌, ◌&&◌, replicate, nat_le, nat_lt, Bool, true, false, cond, List, [], ◌∷◌, ◌++◌, Option, Some, None, is_some, slice_get, refl, sym, ◌∙◌, ap, subst, arith, length}
+use Rattle.std.proofs.lemmas.Bool.{true≢false, false≢true, and_parts, not-false, not-true}
 use Rattle.std.proofs.lemmas.List.{map-append}
 use Rattle.std.proofs.lemmas.Bool.Decides.{nat_tests}
-use Rattle.std.specs.List.{AllByRecursion}
 use Rattle.pv_words.specs.declared.device.Said.{Said}
 use Rattle.pv_words.specs.declared.grant.Hold.{Hold}
 use Rattle.pv_words.specs.declared.grant.Mode.{Mode}
 use Rattle.pv_words.specs.Held.{Holds, IsProper, holding, holds_of}
-use Rattle.pv_words.specs.Found.{Found, finding}
+use Rattle.pv_words.specs.Found.{Found}
 use Rattle.pv_words.specs.Plan.{Plan, Finished, Want, Note, Plain, Begins, Frames, Undoes, Ends, Takes, Puts, IsUntouched, mapped, FitsFrom}
-use Rattle.pv_words.proofs.Fits.{fits_mapped, fits_so}
 use Rattle.snd_wire.specs.declared.types.Asked.{Asked}
 use Rattle.snd_wire.specs.declared.types.Asked.TheVariants as asked
-use Rattle.snd_wire.specs.declared.types.Params.{Params}
+use Rattle.pcm_params.specs.declared.params.Params.{Params}
 use Rattle.pcm_params.specs.Format.{frame_of}
 use Rattle.pcm_params.specs.Params.{is_accepted as are_accepted}
 use Rattle.pcm_stream.specs.Stream.{Pcm}
@@ -21,114 +19,56 @@ use Rattle.pcm_stream.specs.Tick.{after_tick}
 use Rattle.page_directory.specs.declared.walk.Walked.{Walked}
 use Rattle.page_directory.specs.declared.walk.Walked.TheVariants as walked
 use Rattle.page_directory.specs.Laws as walk
-use Rattle.page_directory.specs.Laws.{IsPage, Leaves}
+use Rattle.page_directory.specs.Laws.{Leaves}
 use Rattle.page_directory.specs.Same.{AreSame, times}
-use Rattle.page_directory.specs.Walking.{walk_plan}
 use Rattle.page_directory.specs.Walking as walking
-use Rattle.page_directory.proofs.Counts.{times_append}
-use Rattle.page_directory.proofs.Shown.{walks_show}
-use Rattle.page_directory.proofs.WalkAlong.{walks_exactly}
 use Rattle.link_core.specs.Laws.{AreOf}
 use Rattle.link_core.specs.Activities.{unmaps}
 use Rattle.link_core.proofs.Shown.{FitFound, unmaps_found}
-use Rattle.device_core.specs.Learned.{Learned}
 use Rattle.device_core.specs.Names.{Sight, all_drawn, cells_of, drawn, with_name, words_in}
 use Rattle.device_core.specs.Site.{Site}
-use Rattle.device_core.specs.Touched.{Carried, Touch}
+use Rattle.device_core.specs.Touched.{Touch}
 use Rattle.device_service.specs.Claims.{KeepsLaws, site_of}
 use Rattle.device_service.specs.Laws.{AreHeld, AreLost, FitsBeside, IsOfService, IsRaise, IsTouching, Laws, Leads, Same, WantsFor, evidence}
 use Rattle.device_service.specs.Rows.{made_if}
 use Rattle.device_service.specs.Service.{Runs}
-use Rattle.device_service.proofs.Fitting.{fits_carried}
-use Rattle.device_service.proofs.Soundness.Plans.{fits_drop}
-use Rattle.device_service.proofs.Soundness.Same.{are_append, are_left, are_right, are_same}
+use Rattle.device_service.proofs.Mapping.Keeping.{are_parted, beside, freed_fits, made_cond, page_are, same_parted, walk_fits, walk_found}
+use Rattle.device_service.proofs.Soundness.Same.{are_append, are_right, are_same}
 use Rattle.sound_backend.specs.declared.course.Demand.{Demand}
-use Rattle.sound_backend.specs.declared.course.Progress.{Progress}
-use Rattle.sound_backend.specs.declared.course.Progress.TheVariants as progress
+use Rattle.page_directory.specs.declared.progress.Progress.{Progress}
+use Rattle.page_directory.specs.declared.progress.Progress.TheVariants as progress
 use Rattle.sound_backend.specs.declared.waiting.Waiting.{Waiting}
 use Rattle.sound_backend.specs.declared.waiting.Waiting.TheVariants as waiting
 use Rattle.sound_backend.specs.Held.{all_bared, bared, list_at, pages_in}
 use Rattle.sound_backend.specs.Kept as kept
 use Rattle.sound_backend.specs.Kept.{AreKept, Come, HasCome, HasComeTo, IsClosing, IsFreeing, IsNamed, IsWalking, facts, whole_replies}
-use Rattle.sound_backend.specs.Names.{Numbered, live_names, names_under, numbered_after, numbers}
-use Rattle.sound_backend.specs.Service.{Known, Ending, Listed, Freed, Served, after_end, freeing, goes_of, has_work, job_for, job_of, open_walk, ready_at, ready_for, says_at, shows, sound, table}
+use Rattle.sound_backend.specs.Names.{Numbered, live_names, names_under, numbered_after}
+use Rattle.device_service.specs.Named.{numbers}
+use Rattle.sound_backend.specs.Service.{Known, Ending, Listed, Freed, Served, after_end, freeing, goes_of, has_work, job_for, job_of, open_walk, ready_for, says_at, shows, sound, table}
+use Rattle.page_directory.specs.Progress.{ready_at}
 use Rattle.sound_backend.specs.Stock.{Stock, kinds_in, pages_of, stock_after, streams_after}
-use Rattle.sound_backend.specs.Verdict.{IsStatus, answer_to, is_accepted, is_denied, is_opening, mode_at, status_in, verdict}
+use Rattle.sound_backend.specs.Verdict.{IsStatus, answer_to, is_opening, mode_at, verdict}
+use Rattle.page_directory.specs.Progress.{is_accepted, is_denied, status_in}
 use Rattle.sound_backend.specs.Waiting.{said_of, streams_ticked}
 use Rattle.sound_backend.proofs.Lists.{filled, list_bared, none_among, none_in, parted}
 use Rattle.sound_backend.proofs.Names.{names_closed, names_freed, names_none, names_opened}
 use Rattle.sound_backend.proofs.Streams.{kept_bared, kept_changed, kept_closed, kept_length, kept_none, kept_opened, kept_bare, kept_shut, named_apart, named_changed, named_closed, named_opened, open_accepted, stream_within, tick_closed}
-
--- what isn't ready is decided
-ready_decided : (p : Progress) (working : Bool) → ready_at p working ≡ false → p ≡ progress.Decided
-ready_decided progress.Decided working h = refl
-ready_decided progress.NoMemory working h = absurd (true≢false h)
-ready_decided progress.Denied working h = absurd (true≢false h)
-ready_decided progress.Mapped working h = absurd (true≢false h)
-ready_decided progress.Released working h = absurd (true≢false h)
-
-and_right : (a b : Bool) → (a && b) ≡ true → b ≡ true
-and_right true b h = h
-and_right false b h = let wrong : ⊥ = cc in absurd wrong
-
-and_left : (a b : Bool) → (a && b) ≡ true → a ≡ true
-and_left true b h = refl
-and_left false b h = let wrong : ⊥ = cc in absurd wrong
-
-and_false : (a : Bool) → a ≡ true → (b : Bool) → (a && b) ≡ false → b ≡ false
-and_false true f b h = h
-and_false false f b h = absurd (false≢true f)
-
--- a status that accepts is 0
-accepted_is : (v : ℤ) → is_accepted v ≡ true → v ≡ pos 0
-accepted_is (pos zero) h = refl
-accepted_is (pos (suc n)) h = let wrong : ⊥ = cc in absurd wrong
-accepted_is (negsuc n) h = let wrong : ⊥ = cc in absurd wrong
-
-accepted_at : (p : Progress) (v : ℤ) → is_accepted (status_in p v) ≡ true → v ≡ pos 0
-accepted_at progress.Decided v h = accepted_is v h
-accepted_at progress.NoMemory v h = let wrong : ⊥ = cc in absurd wrong
-accepted_at progress.Denied v h = let wrong : ⊥ = cc in absurd wrong
-accepted_at progress.Mapped v h = accepted_is v h
-accepted_at progress.Released v h = accepted_is v h
+use Rattle.page_directory.specs.Lists.{right_nil}
+use Rattle.page_directory.proofs.Ready.{accepted_is, and_rest, none_left, ready_decided}
 
 -- the buffer of an accepted OPEN has a page
 sized : (p : Params) → are_accepted p ≡ true → 0 < walking.pages_of p.buffer_sz
 sized p h =
     let whole : Bool = p.buffer_sz % frame_of p == 0 in
     let last : Bool = nat_lt 0 p.buffer_sz && (nat_le p.buffer_sz 1048576 && whole) in
-    let a = and_right (nat_le p.pcm_format 13) (nat_le 8000 p.pcm_rate && (nat_le p.pcm_rate 192000 && (nat_le 1 p.pcm_channels && (nat_le p.pcm_channels 8 && last)))) h in
-    let b = and_right (nat_le 8000 p.pcm_rate) (nat_le p.pcm_rate 192000 && (nat_le 1 p.pcm_channels && (nat_le p.pcm_channels 8 && last))) a in
-    let c = and_right (nat_le p.pcm_rate 192000) (nat_le 1 p.pcm_channels && (nat_le p.pcm_channels 8 && last)) b in
-    let d = and_right (nat_le 1 p.pcm_channels) (nat_le p.pcm_channels 8 && last) c in
-    let e = and_right (nat_le p.pcm_channels 8) last d in
-    let f = and_left (nat_lt 0 p.buffer_sz) (nat_le p.buffer_sz 1048576 && whole) e in
+    let a = (and_parts (nat_le p.pcm_format 13) (nat_le 8000 p.pcm_rate && (nat_le p.pcm_rate 192000 && (nat_le 1 p.pcm_channels && (nat_le p.pcm_channels 8 && last)))) h).1 in
+    let b = (and_parts (nat_le 8000 p.pcm_rate) (nat_le p.pcm_rate 192000 && (nat_le 1 p.pcm_channels && (nat_le p.pcm_channels 8 && last))) a).1 in
+    let c = (and_parts (nat_le p.pcm_rate 192000) (nat_le 1 p.pcm_channels && (nat_le p.pcm_channels 8 && last)) b).1 in
+    let d = (and_parts (nat_le 1 p.pcm_channels) (nat_le p.pcm_channels 8 && last) c).1 in
+    let e = (and_parts (nat_le p.pcm_channels 8) last d).1 in
+    let f = (and_parts (nat_lt 0 p.buffer_sz) (nat_le p.buffer_sz 1048576 && whole) e).0 in
     let some : 0 < p.buffer_sz = grind (arith, nat_tests, f) in
     omega (arith, some)
-
-not_false : (b : Bool) → not b ≡ false → b ≡ true
-not_false true h = refl
-not_false false h = absurd (true≢false h)
-
-not_true : (b : Bool) → not b ≡ true → b ≡ false
-not_true true h = absurd (false≢true h)
-not_true false h = refl
-
-none_length : (hs : List Hold) → nat_lt 0 (length hs) ≡ false → hs ≡ []
-none_length [] h = refl
-none_length (x ∷ hs) h = absurd (true≢false (sym (lt-ltb 0 (suc (length hs)) (omega arith)) ∙ h))
-
-page_are : (frames grants dom : ℕ) (mode : Mode) (ps : List Hold) → AllByRecursion (IsPage frames grants dom mode) ps → AreOf grants dom ps
-page_are frames grants dom mode [] all = tt
-page_are frames grants dom mode (p ∷ ps) all = (all.0.dom_is, all.0.gref_in, page_are frames grants dom mode ps all.1)
-
-made_cond : (b : Bool) (n : ℕ) → cond b (Some n) None ≡ made_if b n
-made_cond true n = refl
-made_cond false n = refl
-
-all_behind : (xs ys : List Hold) → xs ++ ys ≡ [] → ys ≡ []
-all_behind [] ys e = e
-all_behind (x ∷ xs) ys e = let wrong : ⊥ = cc in absurd wrong
 
 -- What there is once a request is answered by a status that accepts it, or by another: an OPEN of a closed stream with its pages, or a
 -- CLOSE of a stream without any.
@@ -154,10 +94,10 @@ refused_done s d asks bare = bare
 
 -- the answers of a request, by how far it has come
 answer_at : (s : Stock) (d : Demand) (p : Progress) (a : Asked) (b : Bool) → d.request.asked ≡ a → is_accepted (verdict s.streams d) ≡ b → ready_at p (has_work s d a) ≡ true → HasComeTo s d p → IsAnswerAt s d p
-answer_at s d progress.Decided (asked.Open p) true e f h come = absurd (true≢false (sym f ∙ not_true _ h))
+answer_at s d progress.Decided (asked.Open p) true e f h come = absurd (true≢false (sym f ∙ not-true _ h))
 answer_at s d progress.Decided (asked.Open p) false e f h come = (done_as s d d.request.asked (asked.Open p) (is_accepted (verdict s.streams d)) false e f come, inl refl)
 answer_at s d progress.Decided asked.Close true e f h come =
-    let none = none_length (list_at s.held d.part) (and_false (is_accepted (verdict s.streams d)) f (nat_lt 0 (length (list_at s.held d.part))) (not_true _ h)) in
+    let none = none_left (list_at s.held d.part) (and_rest (is_accepted (verdict s.streams d)) (nat_lt 0 (length (list_at s.held d.part))) f h) in
     (done_as s d d.request.asked asked.Close (is_accepted (verdict s.streams d)) true e f (none, come), inl refl)
 answer_at s d progress.Decided asked.Close false e f h come = (done_as s d d.request.asked asked.Close (is_accepted (verdict s.streams d)) false e f come, inl refl)
 answer_at s d progress.Decided (asked.Read o z) b e f h come = (done_as s d d.request.asked (asked.Read o z) (is_accepted (verdict s.streams d)) b e f come, inl refl)
@@ -286,43 +226,40 @@ module _ (frames grants : ℕ → ℕ) (dom parts : ℕ) where
       )
 
   -- the walk of an OPEN
-  walk_fits : (x : Known) (w : IsWalking x) (rest held : List Hold) → AreOf (grants dom) dom (pages_of x.stock) → AreSame held (pages_of x.stock ++ rest) → FitsFrom (IsProper frames grants dom) (holding frames) (λ h a. AreHeld h (pages_of (after_end x a).stock ++ rest) × EndsHeld x a) (holds_of held) (mapped Listed (open_walk site x.stock.streams w.demand.part w.params))
-  walk_fits x w rest held are same =
-      let mode = mode_at x.stock.streams w.demand.part in
-      let n = walking.pages_of w.params.buffer_sz in
-      let plan = walk_plan (frames dom) (grants dom) dom w.params.gref_directory mode n in
-      fits_mapped (IsProper frames grants dom) (holding frames) (λ y. Listed y) (λ h a. AreHeld h (pages_of (after_end x a).stock ++ rest) × EndsHeld x a) (holds_of held) plan
-      (fits_so (IsProper frames grants dom) (holding frames) (Leaves (frames dom) (grants dom) dom mode n held) (λ h y. AreHeld h (pages_of (after_end x (Listed y)).stock ++ rest) × EndsHeld x (Listed y)) (λ h y. ended h y) (holds_of held) plan (walks_exactly frames grants dom w.params.gref_directory mode n held))
-    where
-      ended : (h : Holds) (y : Walked) → Leaves (frames dom) (grants dom) dom (mode_at x.stock.streams w.demand.part) (walking.pages_of w.params.buffer_sz) held h y → AreHeld h (pages_of (after_end x (Listed y)).stock ++ rest) × EndsHeld x (Listed y)
-      ended h (walked.Pages ps) l =
-          let ps_are = page_are (frames dom) (grants dom) dom (mode_at x.stock.streams w.demand.part) ps l.2 in
-          let lists = pages_in x.stock.held in
-          let o = open_accepted (slice_get x.stock.streams w.demand.part) w.params (opening_of x.stock w.demand w.params w.opening.1 w.opening.0) in
-          let some : 0 < length ps = omega (arith, l.3, sized w.params o.fit) in
-          ((l.0, λ k. omega (arith, l.1 k, same k, times_append k held ps, times_append k (x.stock.mapped ++ lists) rest, times_append k x.stock.mapped lists, times_append k (ps ++ lists) rest, times_append k ps lists, ap (times k) w.bare)), (w, (ps_are, some)))
-      ended h (walked.Refused why) l = ((l.0, λ k. l.1 k ∙ same k), (w, tt))
+  module _ (x : Known) (w : IsWalking x) where
+    abbrev count : ℕ
+    count = walking.pages_of w.params.buffer_sz
 
-  walk_found : (x : Known) (w : IsWalking x) (f : Found) → FitFound (EndsFound x) f (mapped Listed (open_walk site x.stock.streams w.demand.part w.params))
-  walk_found x w f =
-      let mode = mode_at x.stock.streams w.demand.part in
-      let plan = walk_plan (frames dom) (grants dom) dom w.params.gref_directory mode (walking.pages_of w.params.buffer_sz) in
-      fits_mapped (λ (g : Found) want note. IsUntouched note) (λ g (note : Note) a. finding g a) (λ y. Listed y) (EndsFound x) f plan
-      (fits_so (λ (g : Found) want note. IsUntouched note) (λ g (note : Note) a. finding g a) (walk.HasShown (frames dom) (grants dom) w.params.gref_directory mode) (λ g came. EndsFound x g (Listed came)) ended f plan (walks_show (frames dom) (grants dom) dom w.params.gref_directory mode (walking.pages_of w.params.buffer_sz) f))
-    where
-      ended : (g : Found) (came : Walked) → walk.HasShown (frames dom) (grants dom) w.params.gref_directory (mode_at x.stock.streams w.demand.part) g came → EndsFound x g (Listed came)
-      ended g (walked.Pages ps) h = tt
-      ended g (walked.Refused why) h = λ d p has is.
-          let same : w.demand ≡ d = demand_same w.demand d (sym w.in_hand ∙ has) in
-          let one : w.params ≡ p = params_same w.params p (sym w.opening.0 ∙ (ap (λ (z : Demand). z.request.asked) same ∙ is)) in
-          subst (λ (z : Params). walk.IsReason (frames dom) (grants dom) z.gref_directory (mode_at x.stock.streams d.part) g why) one
-          (subst (λ (z : Demand). walk.IsReason (frames dom) (grants dom) w.params.gref_directory (mode_at x.stock.streams z.part) g why) same h)
-        where
-          demand_same : (q k : Demand) → Some q ≡ Some k → q ≡ k
-          demand_same q k e = cc
+    abbrev mode : Mode
+    mode = mode_at x.stock.streams w.demand.part
 
-          params_same : (c d : Params) → asked.Open c ≡ asked.Open d → c ≡ d
-          params_same c d e = cc
+    some_pages : 0 < count
+    some_pages =
+        let o = open_accepted (slice_get x.stock.streams w.demand.part) w.params (opening_of x.stock w.demand w.params w.opening.1 w.opening.0) in
+        sized w.params o.fit
+
+    -- the pages of the stream are there, beside those of the others
+    adds : (came : Walked) → AreSame (pages_of (after_end x (Listed came)).stock) (walk.pages_in came ++ pages_of x.stock)
+    adds (walked.Pages ps) k = ap (λ hs. times k (ps ++ (hs ++ pages_in x.stock.held))) (sym w.bare)
+    adds (walked.Refused why) k = refl
+
+    listed : (held : List Hold) (h : Holds) (came : Walked) → Leaves (frames dom) (grants dom) dom mode count held h came → EndsHeld x (Listed came)
+    listed held h (walked.Pages ps) l = (w, (page_are (frames dom) (grants dom) dom mode ps l.2, omega (arith, l.3, some_pages)))
+    listed held h (walked.Refused why) l = (w, tt)
+
+    walk_shows : (g : Found) (came : Walked) → walk.HasShown (frames dom) (grants dom) w.params.gref_directory mode g came → EndsFound x g (Listed came)
+    walk_shows g (walked.Pages ps) h = tt
+    walk_shows g (walked.Refused why) h = λ d p has is.
+        let same : w.demand ≡ d = demand_same w.demand d (sym w.in_hand ∙ has) in
+        let one : w.params ≡ p = params_same w.params p (sym w.opening.0 ∙ (ap (λ (z : Demand). z.request.asked) same ∙ is)) in
+        subst (λ (z : Params). walk.IsReason (frames dom) (grants dom) z.gref_directory (mode_at x.stock.streams d.part) g why) one
+        (subst (λ (z : Demand). walk.IsReason (frames dom) (grants dom) w.params.gref_directory (mode_at x.stock.streams z.part) g why) same h)
+      where
+        demand_same : (q k : Demand) → Some q ≡ Some k → q ≡ k
+        demand_same q k e = cc
+
+        params_same : (c d : Params) → asked.Open c ≡ asked.Open d → c ≡ d
+        params_same c d e = cc
 
   -- the Release of a CLOSE
   module _ (x : Known) (d : Demand) (sane : IsSane x) (has : x.demand ≡ Some d) (decided : x.progress ≡ progress.Decided) (closing : IsClosing x.stock d) (bare : x.stock.mapped ≡ []) where
@@ -332,12 +269,12 @@ module _ (frames grants : ℕ → ℕ) (dom parts : ℕ) where
     abbrev left : List Hold
     left = pages_in (bared x.stock.held d.part)
 
+    -- the pages of the stream, and those of all others
+    freed_are : AreOf (grants dom) dom under × AreOf (grants dom) dom (pages_of (freeing x d.part).stock)
+    freed_are = are_parted (grants dom) dom x.stock.mapped (pages_in x.stock.held) under left (parted x.stock.held d.part) sane.0
+
     freed_sane : IsSane (freeing x d.part)
-    freed_sane =
-        let lists = pages_in x.stock.held in
-        let mapped_are = are_left (grants dom) dom x.stock.mapped lists sane.0 in
-        let all_are = are_same (grants dom) dom lists (under ++ left) (parted x.stock.held d.part) (are_right (grants dom) dom x.stock.mapped lists sane.0) in
-        (are_append (grants dom) dom x.stock.mapped left mapped_are (are_right (grants dom) dom under left all_are), kept_bared x.stock.streams x.stock.held d.part sane.1)
+    freed_sane = (freed_are.1, kept_bared x.stock.streams x.stock.held d.part sane.1)
 
     freed_well : IsFreeing (freeing x d.part)
     freed_well =
@@ -350,21 +287,12 @@ module _ (frames grants : ℕ → ℕ) (dom parts : ℕ) where
           bare = bare;
         }
 
-    freed_fits : (rest held : List Hold) → AreSame held (pages_of x.stock ++ rest) → FitsFrom (IsProper frames grants dom) (holding frames) (λ h a. AreHeld h (pages_of (after_end (freeing x d.part) a).stock ++ rest) × EndsHeld (freeing x d.part) a) (holds_of held) (unmaps under (Finished Freed))
-    freed_fits rest held same =
-        let lists = pages_in x.stock.held in
-        let split = parted x.stock.held d.part in
-        let after = pages_of (freeing x d.part).stock ++ rest in
-        let are = are_left (grants dom) dom under left (are_same (grants dom) dom lists (under ++ left) split (are_right (grants dom) dom x.stock.mapped lists sane.0)) in
-        let before : AreSame held (under ++ after) = λ g. omega (arith, same g, split g, times_append g (pages_of x.stock) rest, times_append g x.stock.mapped lists, times_append g under left, times_append g under after, times_append g (x.stock.mapped ++ left) rest, times_append g x.stock.mapped left) in
-        fits_drop frames grants dom (λ h a. AreHeld h (pages_of (after_end (freeing x d.part) a).stock ++ rest) × EndsHeld (freeing x d.part) a) (Finished Freed) after under held are before (λ gone g. ((refl, g), freed_well))
+    freed_split : AreSame (pages_of x.stock) (under ++ pages_of (freeing x d.part).stock)
+    freed_split = same_parted x.stock.mapped (pages_in x.stock.held) under left (parted x.stock.held d.part)
 
-  -- what it holds, and what it finds
-  beside : (x y : Known) (pl : Plan Ending) → ((rest held : List Hold) → AreSame held (pages_of x.stock ++ rest) → FitsFrom (IsProper frames grants dom) (holding frames) (λ h a. AreHeld h (pages_of (after_end y a).stock ++ rest) × EndsHeld y a) (holds_of held) pl) → ((f : Found) → FitFound (EndsFound y) f pl) → FitsBeside sound frames grants dom Meets EndsOwn x y pl
-  beside x y pl a b rest k held =
-      fits_carried frames (IsProper frames grants dom) (Meets y) (λ want note u. u) (λ h e. AreHeld h (pages_of (after_end y e).stock ++ rest) × EndsHeld y e) (EndsFound y) (λ (j : Carried Learned) e. AreHeld j.own.holds (pages_of (after_end y e).stock ++ rest) × EndsOwn y j.own.found j.touched e)
-      (λ j e p q. (p.0, (p.1, q))) k pl
-      (subst (λ (h : Holds). FitsFrom (IsProper frames grants dom) (holding frames) (λ h e. AreHeld h (pages_of (after_end y e).stock ++ rest) × EndsHeld y e) h pl) (sym held.0) (a rest k.own.holds.held held.1)) (b k.own.found)
+  -- an activity that holds and finds this keeps to the laws
+  keeps : (x y : Known) (pl : Plan Ending) → ((rest held : List Hold) → AreSame held (pages_of x.stock ++ rest) → FitsFrom (IsProper frames grants dom) (holding frames) (λ h a. AreHeld h (pages_of (after_end y a).stock ++ rest) × EndsHeld y a) (holds_of held) pl) → ((f : Found) → FitFound (EndsFound y) f pl) → FitsBeside sound frames grants dom Meets EndsOwn x y pl
+  keeps x y pl = beside frames grants dom sound Meets (EndsHeld y) (EndsFound y) EndsOwn x y pl (λ want note u. u) (λ f ts a held found. (held, found))
 
   -- what a request leads to
   abbrev Begun : Known → Known → Plan Ending → Type 0
@@ -373,16 +301,16 @@ module _ (frames grants : ℕ → ℕ) (dom parts : ℕ) where
   begins_in : (x : Known) (d : Demand) → x.demand ≡ Some d → IsSane x → HasComeTo x.stock d x.progress → (p : Progress) (a : Asked) → x.progress ≡ p → d.request.asked ≡ a → ready_at p (has_work x.stock d a) ≡ false → (y : Known) (pl : Plan Ending) → Leads (job_of site x d.part a) y pl → Begun x y pl
   begins_in x d has sane come progress.Decided (asked.Open c) e f h y pl leads =
       let bare : x.stock.mapped ≡ [] = subst (λ z. HasComeTo x.stock d z) e come in
-      let w : IsWalking x = record { demand = d; params = c; in_hand = has; opening = (f, accepted_is _ (not_false _ h)); decided = e; bare = bare } in
+      let w : IsWalking x = record { demand = d; params = c; in_hand = has; opening = (f, accepted_is _ (not-false _ h)); decided = e; bare = bare } in
       subst (λ z. Begun x z pl) leads.0 (subst (λ z. Begun x x z) leads.1
-      (sane, (ap (λ o. is_some o) has, subst (λ (o : Option Demand). Come x.stock x.progress o) (sym has) come), beside x x (mapped (λ z. Listed z) (open_walk site x.stock.streams d.part c)) (λ rest held same. walk_fits x w rest held sane.0 same) (λ f. walk_found x w f)))
+      (sane, (ap (λ o. is_some o) has, subst (λ (o : Option Demand). Come x.stock x.progress o) (sym has) come), keeps x x (mapped (λ z. Listed z) (open_walk site x.stock.streams d.part c)) (λ rest held same. walk_fits frames grants dom sound Listed x (adds x w) (EndsHeld x) c.gref_directory (count x w) (mode x w) rest held (listed x w held) same) (walk_found frames grants dom Listed (EndsFound x) c.gref_directory (count x w) (mode x w) (walk_shows x w))))
   begins_in x d has sane come progress.Decided asked.Close e f h y pl leads =
       let bare : x.stock.mapped ≡ [] = subst (λ z. HasComeTo x.stock d z) e come in
-      let accepted = and_left (is_accepted (verdict x.stock.streams d)) (nat_lt 0 (length (list_at x.stock.held d.part))) (not_false _ h) in
+      let accepted = (and_parts (is_accepted (verdict x.stock.streams d)) (nat_lt 0 (length (list_at x.stock.held d.part))) (not-false _ h)).0 in
       let closing : IsClosing x.stock d = (f, accepted_is _ accepted) in
       let new = freeing x d.part in
       subst (λ z. Begun x z pl) leads.0 (subst (λ z. Begun x new z) leads.1
-      (freed_sane x d sane has e closing bare, (ap (λ o. is_some o) has, subst (λ (o : Option Demand). Come new.stock x.progress o) (sym has) (subst (λ z. HasComeTo new.stock d z) (sym e) bare)), beside x new (unmaps (list_at x.stock.held d.part) (Finished Freed)) (λ rest held same. freed_fits x d sane has e closing bare rest held same) (λ f. unmaps_found (EndsFound new) f (list_at x.stock.held d.part) (Finished Freed) tt)))
+      (freed_sane x d sane has e closing bare, (ap (λ o. is_some o) has, subst (λ (o : Option Demand). Come new.stock x.progress o) (sym has) (subst (λ z. HasComeTo new.stock d z) (sym e) bare)), keeps x new (unmaps (list_at x.stock.held d.part) (Finished Freed)) (λ rest held same. freed_fits frames grants dom sound (EndsHeld new) Freed x new (list_at x.stock.held d.part) rest held (freed_are x d sane has e closing bare).0 (freed_split x d sane has e closing bare) refl (freed_well x d sane has e closing bare) same) (λ f. unmaps_found (EndsFound new) f (list_at x.stock.held d.part) (Finished Freed) tt)))
   begins_in x d has sane come progress.Decided (asked.Read o z) e f h y pl leads = absurd (true≢false h)
   begins_in x d has sane come progress.Decided (asked.Write o z) e f h y pl leads = absurd (true≢false h)
   begins_in x d has sane come progress.Decided (asked.Trigger k) e f h y pl leads = absurd (true≢false h)
@@ -434,7 +362,7 @@ module _ (frames grants : ℕ → ℕ) (dom parts : ℕ) where
       let bare : x.stock.mapped ≡ [] = subst (λ z. HasComeTo x.stock d z) e come in
       let new : Known = record x { progress = progress.NoMemory } in
       subst (λ z. Starving x z) wants
-      (sane, (ap (λ o. is_some o) has, subst (λ (o : Option Demand). Come x.stock progress.NoMemory o) (sym has) ((c, (f, accepted_is _ (not_false _ h))), bare)), subst (λ (o : Option Demand). ready_for new o ≡ true) (sym has) refl, (λ k. refl))
+      (sane, (ap (λ o. is_some o) has, subst (λ (o : Option Demand). Come x.stock progress.NoMemory o) (sym has) ((c, (f, accepted_is _ (not-false _ h))), bare)), subst (λ (o : Option Demand). ready_for new o ≡ true) (sym has) refl, (λ k. refl))
   starves_in x d has sane come p asked.Close e f h y wants = absurd wants
   starves_in x d has sane come p (asked.Read o z) e f h y wants = absurd wants
   starves_in x d has sane come p (asked.Write o z) e f h y wants = absurd wants
@@ -583,7 +511,7 @@ module _ (frames grants : ℕ → ℕ) (dom parts : ℕ) where
         strips_shows = λ x m s named. (named, refl, names_none (all_bared x.stock.held) m (none_in x.stock.held), λ key. refl);
         drops = λ x s. (s, refl);
         drops_shows = λ x m named. (named, refl, refl);
-        bare = λ x m named none. names_none x.stock.held m (all_behind x.stock.mapped (pages_in x.stock.held) none);
+        bare = λ x m named none. names_none x.stock.held m (right_nil x.stock.mapped (pages_in x.stock.held) none);
         takes = λ x part words s h. (s, takes x.stock x.demand x.progress part words h);
         takes_pages = λ x part words. refl;
         takes_shows = λ x part words m named. (named, refl, refl);

@@ -1,8 +1,9 @@
 mod HeldThroughout
-mod Hosts
-mod Keeps
+pub mod Hosts
+pub mod Keeps
 mod Declared
 mod Lists
 mod Names
+pub mod Ports
 mod Serviced
-mod Streams
+pub mod Streams

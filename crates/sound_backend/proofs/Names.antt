@@ -1,12 +1,14 @@
 -- The names of open streams, as streams are opened, given up and closed.
-use Rattle.std.proofs.Common.{◌≡◌, ◌≢◌, ℕ, ◌<◌, ◌==◌, Bool, true, false, cond, List, [], ◌∷◌, ◌++◌, length, refl, sym, ap, ◌∙◌, arith, subst}
+use Rattle.std.proofs.Common.{◌≡◌, ◌≢◌, ℕ, ◌<◌, ◌==◌, Bool, true, false, cond, List, [], ◌∷◌, ◌++◌, length, refl, sym, ap, ◌∙◌, subst}
 use Rattle.std.proofs.lemmas.Bool.{true≢false, eqb-true, eq-eqb}
 use Rattle.std.specs.List.{AllByRecursion}
 use Rattle.pv_words.specs.declared.grant.Hold.{Hold}
 use Rattle.device_core.specs.Names.{Drawn, Name, Sight, all_drawn, cells_of, drawn}
 use Rattle.device_service.specs.Laws.{AreLost}
 use Rattle.sound_backend.specs.Held.{bared, list_at, pages_in, with_list}
-use Rattle.sound_backend.specs.Names.{Numbered, live_names, named_if, names_under, numbers, without_part}
+use Rattle.sound_backend.specs.Names.{Numbered, live_names, names_under, without_part}
+use Rattle.device_service.specs.Named.{named_if, numbers}
+use Rattle.device_service.proofs.Mapping.Named.{named_behind, named_one}
 use Rattle.sound_backend.proofs.Lists.{list_bared, list_other, list_put, none_at}
 
 -- names without a page
@@ -18,19 +20,11 @@ names_none held (n ∷ ns) e =
 -- the stream of a part comes to these pages: its name is the last
 pub names_opened : (held : List (List Hold)) (k n : ℕ) (pages : List Hold) (m : List Numbered) → k < length held → 0 < length pages → AllByRecursion (λ (e : Numbered). e.part ≢ k) m → live_names (with_list held k pages) (m ++ record { part = k; number = n } ∷ []) ≡ live_names held m ++ record { number = n; cells = cells_of pages } ∷ []
 names_opened held k n pages [] within some apart =
-    ap (λ hs. named_if hs n []) (list_put held k pages within) ∙ named_some pages n some
-  where
-    named_some : (hs : List Hold) (n : ℕ) → 0 < length hs → named_if hs n [] ≡ record { number = n; cells = cells_of hs } ∷ []
-    named_some [] n some = absurd (omega (arith, some))
-    named_some (h ∷ hs) n some = refl
+    ap (λ hs. named_if hs n []) (list_put held k pages within) ∙ named_one pages n some
 names_opened held k n pages (e ∷ es) within some apart =
     ap (λ hs. named_if hs e.number (live_names (with_list held k pages) (es ++ record { part = k; number = n } ∷ []))) (list_other held k e.part pages apart.0)
     ∙ ap (named_if (list_at held e.part) e.number) (names_opened held k n pages es within some apart.1)
-    ∙ named_more (list_at held e.part) e.number (live_names held es) (record { number = n; cells = cells_of pages } ∷ [])
-  where
-    named_more : (hs : List Hold) (n : ℕ) (xs ys : List Name) → named_if hs n (xs ++ ys) ≡ named_if hs n xs ++ ys
-    named_more [] n xs ys = refl
-    named_more (h ∷ hs) n xs ys = refl
+    ∙ named_behind (list_at held e.part) e.number (live_names held es) (record { number = n; cells = cells_of pages } ∷ [])
 
 -- the number of a part without pages goes
 pub names_closed : (held : List (List Hold)) (k : ℕ) (m : List Numbered) → list_at held k ≡ [] → live_names held (without_part k m) ≡ live_names held m

@@ -2,18 +2,18 @@
 use Rattle.std.specs.Prelude.{◌≡◌, ℕ, ◌<◌, ◌==◌, Bool, true, false, List, [], length, Option, Some, None}
 use Rattle.circular_buffer.specs.Buffer.{Buffer}
 use Rattle.pv_words.specs.declared.grant.Hold.{Hold}
-use Rattle.pv_words.specs.Plan.{Plan, Finished, IsUnfinished, mapped}
+use Rattle.pv_words.specs.Plan.{Plan, Finished, mapped}
 use Rattle.snd_wire.specs.declared.types.Asked.{Asked}
 use Rattle.snd_wire.specs.declared.types.Asked.TheVariants as asked
 use Rattle.pcm_stream.specs.Queue.{queue_for}
-use Rattle.page_directory.specs.declared.walk.Walk.{Walk}
+use Rattle.page_directory.specs.Going.{Goes}
 use Rattle.page_directory.specs.WalkLeft as walk
 use Rattle.page_directory.specs.WalkLeft.{walk_left, held_by}
 use Rattle.link_core.specs.Activities.{unmaps}
 use Rattle.device_core.specs.Site.{Site}
 use Rattle.sound_backend.specs.declared.course.Demand.{Demand}
-use Rattle.sound_backend.specs.declared.course.Progress.{Progress}
-use Rattle.sound_backend.specs.declared.course.Progress.TheVariants as progress
+use Rattle.page_directory.specs.declared.progress.Progress.{Progress}
+use Rattle.page_directory.specs.declared.progress.Progress.TheVariants as progress
 use Rattle.sound_backend.specs.declared.course.Course.{Course}
 use Rattle.sound_backend.specs.declared.course.Course.TheVariants.{Rests, Walks, Frees}
 use Rattle.sound_backend.specs.Held.{list_at}
@@ -73,11 +73,6 @@ HasOpen (Some d) queue = Opens d.request.asked queue
 abbrev pub HasClose : Option Demand → ℕ → Type 0
 HasClose None part = ⊥
 HasClose (Some d) part = (d.part ≡ part) × (d.request.asked ≡ asked.Close)
-
--- a walk of which an access is still to be made
-pub record Goes (w : Walk) : Type 0 where
-  pub going : walk.is_over w ≡ false
-  pub further : (frames grants : ℕ) → IsUnfinished (walk_left frames grants w)
 
 -- some page of the stream of a CLOSE is held
 pub record Releases (part : ℕ) (hand : Option Demand) (held : List (List Hold)) : Type 0 where

@@ -3,20 +3,15 @@ use Rattle.std.proofs.Common.{ℕ, List, Option, Some, None}
 use Rattle.std.proofs.Props.{props}
 use Rattle.circular_buffer.specs.Buffer.{Buffer}
 use Rattle.pv_words.specs.declared.grant.Hold.{Hold}
-use Rattle.pv_words.specs.Plan.{Plan, Finished, Make, IsUnfinished}
 use Rattle.snd_wire.specs.declared.types.Asked.{Asked}
 use Rattle.snd_wire.specs.declared.types.Asked.TheVariants as asked
-use Rattle.page_directory.specs.declared.walk.Walk.{Walk}
 use Rattle.sound_backend.specs.declared.course.Demand.{Demand}
 use Rattle.sound_backend.specs.declared.course.Course.{Course}
 use Rattle.sound_backend.specs.declared.course.Course.TheVariants.{Rests, Walks, Frees}
-use Rattle.sound_backend.specs.declared.course.Progress.{Progress}
-use Rattle.sound_backend.specs.declared.course.Progress.TheVariants as progress
-use Rattle.sound_backend.specs.Course.{Opens, ComesTo, InHand, HasOpen, HasClose, Goes, Releases, Stands}
-
-further_prop : {A : Type 0} (p : Plan A) → IsProp (IsUnfinished p)
-further_prop (Finished x) = hlevel props
-further_prop (Make want note more) = hlevel props
+use Rattle.page_directory.specs.declared.progress.Progress.{Progress}
+use Rattle.page_directory.specs.declared.progress.Progress.TheVariants as progress
+use Rattle.sound_backend.specs.Course.{Opens, ComesTo, InHand, HasOpen, HasClose, Releases, Stands}
+use Rattle.page_directory.specs.Going.{goes_prop}
 
 opens_prop : (asks : Asked) (queue : Option (Buffer ℕ)) → IsProp (Opens asks queue)
 opens_prop (asked.Open p) queue = hlevel props
@@ -38,9 +33,6 @@ open_prop (Some d) queue = opens_prop d.request.asked queue
 close_prop : (hand : Option Demand) (part : ℕ) → IsProp (HasClose hand part)
 close_prop None part = hlevel props
 close_prop (Some d) part = hlevel props
-
-goes_prop : (w : Walk) → IsProp (Goes w)
-goes_prop w = hlevel (props, further_prop)
 
 releases_prop : (part : ℕ) (hand : Option Demand) (held : List (List Hold)) → IsProp (Releases part hand held)
 releases_prop part hand held = hlevel (props, close_prop)

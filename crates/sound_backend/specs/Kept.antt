@@ -6,7 +6,7 @@ use Rattle.pv_words.specs.declared.grant.Hold.{Hold}
 use Rattle.pv_words.specs.Found.{Found}
 use Rattle.pv_words.specs.Plan.{IsUntouched}
 use Rattle.snd_wire.specs.declared.types.Asked.TheVariants as asked
-use Rattle.snd_wire.specs.declared.types.Params.{Params}
+use Rattle.pcm_params.specs.declared.params.Params.{Params}
 use Rattle.pcm_stream.specs.State.{is_closed}
 use Rattle.pcm_stream.specs.Stream.{Pcm}
 use Rattle.page_directory.specs.declared.walk.Walked.{Walked}
@@ -15,11 +15,12 @@ use Rattle.page_directory.specs.Laws as walk
 use Rattle.link_core.specs.Laws.{AreOf}
 use Rattle.device_core.specs.Touched.{Touch}
 use Rattle.device_service.specs.Laws.{Facts}
+use Rattle.page_directory.specs.Lists.{left_nil, right_nil}
 use Rattle.sound_backend.specs.declared.course.Course.{Course}
 use Rattle.sound_backend.specs.declared.course.Course.TheVariants.{Rests, Walks, Frees}
 use Rattle.sound_backend.specs.declared.course.Demand.{Demand}
-use Rattle.sound_backend.specs.declared.course.Progress.{Progress}
-use Rattle.sound_backend.specs.declared.course.Progress.TheVariants as progress
+use Rattle.page_directory.specs.declared.progress.Progress.{Progress}
+use Rattle.page_directory.specs.declared.progress.Progress.TheVariants as progress
 use Rattle.sound_backend.specs.declared.waiting.Waiting.{Waiting}
 use Rattle.sound_backend.specs.Course.{is_under_way, pages_walked, stock_at}
 use Rattle.sound_backend.specs.Held.{all_bared, list_at, pages_in}
@@ -132,29 +133,20 @@ module _ (frames grants : ℕ → ℕ) (dom parts : ℕ) where
         Meets = λ x want note. IsUntouched note;
       }
 
--- the parts of a list without an element
-pub first_nil : {A : Type 0} (xs ys : List A) → xs ++ ys ≡ [] → xs ≡ []
-first_nil [] ys e = refl
-first_nil (x ∷ xs) ys e = let wrong : ⊥ = cc in absurd wrong
-
-pub second_nil : {A : Type 0} (xs ys : List A) → xs ++ ys ≡ [] → ys ≡ []
-second_nil [] ys e = e
-second_nil (x ∷ xs) ys e = let wrong : ⊥ = cc in absurd wrong
-
 -- where no page is held, giving up all of them changes nothing
 pub bare_lists : (lists : List (List Hold)) → pages_in lists ≡ [] → all_bared lists ≡ lists
 bare_lists [] e = refl
 bare_lists (hs ∷ lists) e =
-    ap (λ (ks : List Hold). ks ∷ all_bared lists) (sym (first_nil hs (pages_in lists) e))
-    ∙ ap (λ rest. hs ∷ rest) (bare_lists lists (second_nil hs (pages_in lists) e))
+    ap (λ (ks : List Hold). ks ∷ all_bared lists) (sym (left_nil hs (pages_in lists) e))
+    ∙ ap (λ rest. hs ∷ rest) (bare_lists lists (right_nil hs (pages_in lists) e))
 
 abbrev stock : List Hold → List (List Hold) → List Pcm → Stock
 stock mapped held streams = record { mapped = mapped; held = held; streams = streams }
 
 pub bare_stripped : (s : Stock) → pages_of s ≡ [] → stripped s ≡ s
 bare_stripped s e =
-    ap (λ hs. stock hs (all_bared s.held) s.streams) (sym (first_nil s.mapped (pages_in s.held) e))
-    ∙ ap (λ lists. stock s.mapped lists s.streams) (bare_lists s.held (second_nil s.mapped (pages_in s.held) e))
+    ap (λ hs. stock hs (all_bared s.held) s.streams) (sym (left_nil s.mapped (pages_in s.held) e))
+    ∙ ap (λ lists. stock s.mapped lists s.streams) (bare_lists s.held (right_nil s.mapped (pages_in s.held) e))
 
 -- none is held where a connection begins
 none_in : (n : ℕ) → pages_in (replicate n []) ≡ []

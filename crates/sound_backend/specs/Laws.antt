@@ -2,9 +2,8 @@
 use Rattle.std.specs.Prelude.{◌≡◌, ℕ, List, [], drop}
 use Rattle.pv_words.specs.declared.device.NodeValue.{NodeValue}
 use Rattle.pv_words.specs.declared.device.StreamKind.{StreamKind}
-use Rattle.pv_words.specs.declared.grant.Hold.{Hold}
 use Rattle.device_service.specs.Held as held
-use Rattle.sound_backend.specs.declared.sound.Sound.{Sound}
+use Rattle.sound_backend.specs.contracts.service.ServiceServe.TheImpl.{ghosts}
 use Rattle.sound_backend.specs.Service.{Known, Ending, sound}
 use Rattle.sound_backend.specs.Stock.{Stock, kinds_in, pages_of, stripped, without_first}
 
@@ -27,14 +26,7 @@ pub record KindsStay : Type 0 where
   pub stripped : (x : Known) → kinds_of (sound.stripped x) ≡ kinds_of x
   pub dropped : (x : Known) → kinds_of (sound.dropped x) ≡ kinds_of x
 
--- Whatever it has done and heard, where it stands by that its accesses hold so many pages; and they hold this page.
-abbrev pub HoldsAsMany : Sound → ℕ → Type 0
-HoldsAsMany d n = held.HoldsAsMany d.backend n
-
-abbrev pub HoldsPage : Sound → Hold → Type 0
-HoldsPage d h = held.HoldsPage d.backend h
-
 -- Wherever a sound device stands by what it has done and heard, the pages that it tells are just those that its accesses hold, each
 -- as often.
 abbrev pub TellsWhatIsHeld : Type 0
-TellsWhatIsHeld = (d : Sound) → held.TellsWhatIsHeld d.backend
+TellsWhatIsHeld = held.AllTell ghosts

@@ -7,7 +7,6 @@ pub mod Laws
 pub mod Names
 pub mod Over
 pub mod Service
-pub mod Sound
 pub mod Stock
 pub mod Store
 pub mod Verdict

@@ -1,9 +1,10 @@
 -- The names of open streams: each is the making of one by an OPEN, in order.
-use Rattle.std.specs.Prelude.{ℕ, ◌==◌, Bool, true, List, [], ◌∷◌, ◌++◌, map, if◌then◌else◌}
+use Rattle.std.specs.Prelude.{ℕ, ◌==◌, Bool, true, List, [], ◌∷◌, ◌++◌, if◌then◌else◌}
 use Rattle.pv_words.specs.declared.grant.Hold.{Hold}
 use Rattle.snd_wire.specs.declared.types.Asked.{Asked}
 use Rattle.snd_wire.specs.declared.types.Asked.TheVariants as asked
-use Rattle.device_core.specs.Names.{Name, cells_of}
+use Rattle.device_core.specs.Names.{Name}
+use Rattle.device_service.specs.Named.{named_if}
 use Rattle.sound_backend.specs.Held.{list_at}
 
 -- the number of the name of the stream of a part
@@ -11,17 +12,10 @@ pub record Numbered : Type 0 where
   pub part : ℕ
   pub number : ℕ
 
--- the name of a stream that has pages
-abbrev pub named_if : List Hold → ℕ → List Name → List Name
-named_if [] n others = others
-named_if (h ∷ hs) n others = record { number = n; cells = cells_of (h ∷ hs) } ∷ others
-
+-- the names of the streams that have pages
 abbrev pub live_names : List (List Hold) → List Numbered → List Name
 live_names held [] = []
 live_names held (e ∷ es) = named_if (list_at held e.part) e.number (live_names held es)
-
-abbrev pub numbers : List Name → List ℕ
-numbers names = map (λ (n : Name). n.number) names
 
 -- the names of the stream of a part, and the number of the first; the others' numbers
 abbrev pub names_under : ℕ → List (List Hold) → List Numbered → List Name

@@ -2,23 +2,20 @@
 use Rattle.std.specs.Prelude.{◌≡◌, ℕ, List, Option, Some}
 use Rattle.circular_buffer.specs.Buffer.{Buffer}
 use Rattle.pv_words.specs.declared.words.Words.{Ghosts as Words}
-use Rattle.pv_words.specs.Plan.{Plan, mapped}
+use Rattle.pv_words.specs.Plan.{Plan}
 use Rattle.snd_wire.specs.declared.types.Asked.TheVariants as asked
-use Rattle.snd_wire.specs.declared.types.Params.{Params}
+use Rattle.pcm_params.specs.declared.params.Params.{Params}
 use Rattle.pcm_stream.specs.Queue.{queue_for}
 use Rattle.pcm_stream.specs.Stream.{Pcm}
-use Rattle.page_directory.specs.declared.walk.Walk.{Walk}
 use Rattle.page_directory.specs.declared.walk.Walked.{Walked}
-use Rattle.page_directory.specs.WalkLeft.{dom_of, walk_left}
 use Rattle.device_core.specs.Site.{Site}
-use Rattle.device_service.specs.Claims.{site_of}
-use Rattle.device_service.specs.Operating.{Begins, Comes, Continues}
+use Rattle.device_service.specs.Operating.{Begins, site_over}
 use Rattle.device_service.specs.declared.deed.Deed.{Deed}
 use Rattle.sound_backend.specs.declared.course.Demand.{Demand}
 use Rattle.sound_backend.specs.declared.service.Service.{Service}
 use Rattle.sound_backend.specs.Course.{HasOpen}
 use Rattle.sound_backend.specs.Known.{known_of, left_of}
-use Rattle.sound_backend.specs.Service.{Listed, job_of, open_walk, sound}
+use Rattle.sound_backend.specs.Service.{job_of, open_walk, sound}
 
 -- The request in hand is an OPEN with these parameters, so that with its queue it is one that has it.
 abbrev pub OpensBy : Option Demand → Params → Type 0
@@ -30,28 +27,7 @@ module _ (site : Site) (old : Service) where
   BeginsOpen part p deed new =
       Begins sound (job_of site (known_of old) part (asked.Open p)) deed.access deed.now deed.said (known_of new) (left_of site new)
 
-  -- the next step of a walk of which this is left
-  abbrev pub ComesBy : Plan Walked → Deed → Service → Type 0
-  ComesBy left deed new =
-      Comes sound (known_of old) (mapped Listed left) deed.access deed.now deed.said (known_of new) (left_of site new)
-
-  -- the next step of what is under way
-  abbrev pub GoesOn : Deed → Service → Type 0
-  GoesOn deed new =
-      Continues sound (known_of old) (left_of site old) deed.access deed.now deed.said (known_of new) (left_of site new)
-
 module _ {W : Type 0} (m : Words W) (words : W) where
-  -- a device of this domain, of so many parts, by the numbers of frames and grant entries that these words have
-  abbrev pub site_over : (dom parts : ℕ) → Site
-  site_over dom parts = site_of (m.frames_of words) (m.grants_of words) dom parts
-
-  -- the walk of an OPEN, and what is left of a walk
+  -- the walk of an OPEN
   abbrev pub walk_for : ℕ → List Pcm → ℕ → Params → Plan Walked
-  walk_for dom streams part p = open_walk (site_over dom 0) streams part p
-
-  abbrev pub walk_over : Walk → Plan Walked
-  walk_over walk = walk_left (m.frames_of words (dom_of walk)) (m.grants_of words (dom_of walk)) walk
-
-  -- the next step of a walk, however many parts the device has
-  abbrev pub WalksOn : Service → Walk → Deed → Service → Type 0
-  WalksOn old walk deed new = (parts : ℕ) → ComesBy (site_over (dom_of walk) parts) old (walk_over walk) deed new
+  walk_for dom streams part p = open_walk (site_over m words dom 0) streams part p

@@ -1,5 +1,5 @@
 -- The sound device as a service of the order of work of every device.
-use Rattle.std.specs.Prelude.{◌≡◌, ℕ, ◌&&◌, nat_lt, ℤ, pos, Bool, true, false, not, List, [], length, map, replicate, Option, Some, None, if◌then◌else◌}
+use Rattle.std.specs.Prelude.{◌≡◌, ℕ, ◌&&◌, nat_lt, ℤ, pos, Bool, true, false, List, [], length, map, replicate, Option, Some, None, if◌then◌else◌}
 use Rattle.pv_words.specs.declared.device.Said.{Said}
 use Rattle.pv_words.specs.declared.device.Said.TheVariants as said
 use Rattle.pv_words.specs.declared.device.StreamKind.{StreamKind}
@@ -8,7 +8,7 @@ use Rattle.pv_words.specs.declared.place.Place.{Place}
 use Rattle.pv_words.specs.Plan.{Finished, Plan, mapped}
 use Rattle.snd_wire.specs.declared.types.Asked.{Asked}
 use Rattle.snd_wire.specs.declared.types.Asked.TheVariants as asked
-use Rattle.snd_wire.specs.declared.types.Params.{Params}
+use Rattle.pcm_params.specs.declared.params.Params.{Params}
 use Rattle.snd_wire.specs.Wire.{reply_words, request_of}
 use Rattle.page_directory.specs.declared.walk.Walked.{Walked}
 use Rattle.page_directory.specs.declared.walk.Walked.TheVariants as walked
@@ -20,20 +20,23 @@ use Rattle.host_events.specs.Queue.{refusal_of}
 use Rattle.link_core.specs.Activities.{unmaps}
 use Rattle.device_core.specs.Names.{cells_of}
 use Rattle.device_core.specs.Site.{Site}
+use Rattle.device_service.specs.Mapping.{denied_by}
 use Rattle.device_service.specs.Nodes.{Ringed}
 use Rattle.device_service.specs.Reading.{Shows}
 use Rattle.device_service.specs.Rows.{Table, Evidence}
 use Rattle.device_service.specs.Service.{Job, Works, Starves, Runs, Service}
 use Rattle.sound_backend.specs.declared.course.Demand.{Demand}
-use Rattle.sound_backend.specs.declared.course.Progress.{Progress}
-use Rattle.sound_backend.specs.declared.course.Progress.TheVariants as progress
+use Rattle.page_directory.specs.declared.progress.Progress.{Progress}
+use Rattle.page_directory.specs.declared.progress.Progress.TheVariants as progress
 use Rattle.sound_backend.specs.declared.waiting.Waiting.{Waiting}
 use Rattle.sound_backend.specs.declared.waiting.Waiting.TheVariants as waiting
 use Rattle.sound_backend.specs.Held.{list_at}
-use Rattle.sound_backend.specs.Names.{Numbered, live_names, names_under, number_under, numbered_after, numbers}
+use Rattle.sound_backend.specs.Names.{Numbered, live_names, names_under, number_under, numbered_after}
+use Rattle.device_service.specs.Named.{numbers}
 use Rattle.sound_backend.specs.Stock.{Stock, all_closed, bared, kinds_in, pages_of, stock_after, streams_after}
 use Rattle.sound_backend.specs.Stock as stock
-use Rattle.sound_backend.specs.Verdict.{IsStatus, answer_in, is_accepted, is_denied, is_opening, mode_at, status_in, verdict}
+use Rattle.sound_backend.specs.Verdict.{IsStatus, answer_in, is_opening, mode_at, verdict}
+use Rattle.page_directory.specs.Progress.{is_accepted, is_denied, status_in, ready_at}
 use Rattle.sound_backend.specs.Waiting.{said_of, stock_ticked, streams_ticked, waiting_of}
 
 -- the streams and the pages that are held; the request in hand, and how far it has come
@@ -69,10 +72,6 @@ has_work s d (asked.Open p) = is_accepted (verdict s.streams d)
 has_work s d asked.Close = is_accepted (verdict s.streams d) && nat_lt 0 (length (list_at s.held d.part))
 has_work s d asks = false
 
-abbrev pub ready_at : Progress → Bool → Bool
-ready_at progress.Decided working = not working
-ready_at p working = true
-
 abbrev pub ready_for : Known → Option Demand → Bool
 ready_for x None = true
 ready_for x (Some d) = ready_at x.progress (has_work x.stock d d.request.asked)
@@ -94,11 +93,6 @@ job_of site x part asks = Works x (Finished Freed)
 abbrev pub job_for : Site → Known → Option Demand → Job Known Ending
 job_for site x None = Works x (Finished Freed)
 job_for site x (Some d) = job_of site x d.part d.request.asked
-
--- the page that was denied, where a walk was refused
-abbrev pub denied_by : Walked → Option Said
-denied_by (walked.Pages pages) = None
-denied_by (walked.Refused why) = Some (said.Denied why)
 
 abbrev pub says_at : Known → Ending → Option Said
 says_at x (Listed came) = denied_by came

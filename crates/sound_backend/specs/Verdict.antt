@@ -1,5 +1,5 @@
 -- The answer to a request as its checks come out, and the status that answers it.
-use Rattle.std.specs.Prelude.{◌≡◌, ◌⊎◌, ℕ, zero, ℤ, pos, negsuc, Bool, true, false, List, Option, Some, None, slice_get, Result, Ok, Err}
+use Rattle.std.specs.Prelude.{ℕ, ℤ, pos, negsuc, Bool, true, false, List, Option, Some, None, slice_get, Result, Ok, Err}
 use Rattle.pv_words.specs.declared.device.StreamKind.{StreamKind}
 use Rattle.pv_words.specs.declared.device.StreamKind.TheVariants.{Playback, Capture}
 use Rattle.pv_words.specs.declared.grant.Mode.{Mode}
@@ -12,18 +12,11 @@ use Rattle.pcm_stream.specs.declared.state.StreamRefusal.{StreamRefusal}
 use Rattle.pcm_stream.specs.Refusal.{status_of}
 use Rattle.pcm_stream.specs.Stream.{Pcm, close_check, open_check}
 use Rattle.sound_backend.specs.declared.course.Demand.{Demand}
-use Rattle.sound_backend.specs.declared.course.Progress.{Progress}
-use Rattle.sound_backend.specs.declared.course.Progress.TheVariants as progress
+use Rattle.page_directory.specs.Progress.{IsStatusOf}
 
--- an operation that isn't known (EOPNOTSUPP), want of memory (ENOMEM), and a page that is denied (EACCES)
+-- an operation that isn't known (EOPNOTSUPP)
 abbrev pub not_supported : ℤ
 not_supported = negsuc 94
-
-abbrev pub no_memory : ℤ
-no_memory = negsuc 11
-
-abbrev pub no_access : ℤ
-no_access = negsuc 12
 
 -- an answer of this status that tells no ranges
 abbrev pub refused : ℤ → Answer
@@ -54,33 +47,14 @@ answer_in streams d = answer_to (slice_get streams d.part) d.request.asked
 abbrev pub verdict : List Pcm → Demand → ℤ
 verdict streams d = (answer_in streams d).status
 
-abbrev pub is_accepted : ℤ → Bool
-is_accepted (pos zero) = true
-is_accepted other = false
-
 abbrev pub is_opening : Asked → Bool
 is_opening (asked.Open p) = true
 is_opening asks = false
 
--- The status of the request in hand: its verdict, unless memory was wanting or a page was denied.
-abbrev pub status_in : Progress → ℤ → ℤ
-status_in progress.Decided verdict = verdict
-status_in progress.NoMemory verdict = no_memory
-status_in progress.Denied verdict = no_access
-status_in progress.Mapped verdict = verdict
-status_in progress.Released verdict = verdict
-
--- a page was denied to it
-abbrev pub is_denied : Progress → Bool
-is_denied progress.Denied = true
-is_denied other = false
-
 -- The status that answers a request: where a page was denied to it, just that; else its verdict, or, of an accepted OPEN, want of
 -- memory.
 abbrev pub IsStatus : (denied : Bool) → List Pcm → Demand → ℤ → Type 0
-IsStatus true streams d status = status ≡ no_access
-IsStatus false streams d status =
-    (status ≡ verdict streams d) ⊎ ((is_opening d.request.asked ≡ true) × (verdict streams d ≡ pos 0) × (status ≡ no_memory))
+IsStatus denied streams d status = IsStatusOf denied (is_opening d.request.asked) (verdict streams d) status
 
 -- A playback stream reads the pages of its buffer, a capture stream writes them.
 abbrev pub mode_of : StreamKind → Mode

@@ -1,4 +1,4 @@
-//! What a sound device's service is at, and how far the request in hand has come.
+//! What a sound device's service is at, and a request with its part.
 
 use page_directory::Walk;
 use snd_wire::Request;
@@ -10,21 +10,6 @@ pub struct Demand {
     pub part: u8,
     /// The request.
     pub request: Request,
-}
-
-/// How far the request in hand has come.
-#[derive(Clone, Copy, Debug, PartialEq, Eq)]
-pub enum Progress {
-    /// Its verdict stands, and nothing else is done yet.
-    Decided,
-    /// Memory was wanting for the list of its pages, or for its queue.
-    NoMemory,
-    /// A page was denied to it.
-    Denied,
-    /// The pages of its stream are mapped.
-    Mapped,
-    /// The pages of its stream are unmapped.
-    Released,
 }
 
 /// What a sound device's service is at.

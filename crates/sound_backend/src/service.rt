@@ -6,14 +6,14 @@ ghost use Rattle.sound_backend.specs.Course.{Stands, pages_walked};
 ghost use Rattle.sound_backend.specs.CourseFacts.{stands_prop};
 ghost use Rattle.sound_backend.specs.Store.{queue_of, stock_of};
 
-use crate::course::{Course, Demand, Progress};
+use crate::course::{Course, Demand};
 use crate::store::Store;
-use crate::verdict::{EACCES, ENOMEM};
 use crate::waiting::{Waiting, waiting_of};
 use device_service::{Deed, Now, Serve};
-use page_directory::{Walk, Walked};
+use page_directory::{Progress, Walk, Walked};
+use pcm_params::Params;
 use pv_words::{Access, DomId, GrantRef, Hold, HostEvent, Said, StreamKind, Words};
-use snd_wire::{Asked, Params, decode, encode_reply};
+use snd_wire::{Asked, decode, encode_reply};
 use std::alloc::{AllocError, Global};
 use std::mem;
 use xenbus_states::Nodes;
@@ -45,13 +45,17 @@ impl Service {
     ghost use Rattle.device_service.specs.Service.{IsFresh};
     ghost use Rattle.snd_wire.specs.declared.types.Asked.TheVariants as asked;
     ghost use Rattle.sound_backend.specs.declared.course.Course.TheVariants as course;
-    ghost use Rattle.sound_backend.specs.declared.course.Progress.TheVariants as progress;
+    ghost use Rattle.page_directory.specs.declared.progress.Progress.TheVariants as progress;
     ghost use Rattle.sound_backend.specs.Course.{HasOpen};
     ghost use Rattle.sound_backend.specs.Held.{list_at};
     ghost use Rattle.sound_backend.specs.Known.{known_of, going_of, left_of, is_of, held_of};
-    ghost use Rattle.sound_backend.specs.Over.{BeginsOpen, GoesOn, OpensBy, WalksOn, site_over, walk_for, walk_over};
-    ghost use Rattle.sound_backend.specs.Service.{Freed, after_walk, denied_by, first_known, sound};
-    ghost use Rattle.sound_backend.specs.Verdict.{status_in, verdict};
+    ghost use Rattle.sound_backend.specs.Over.{BeginsOpen, OpensBy, walk_for};
+    ghost use Rattle.device_service.specs.Operating.{ContinuesBy, site_over};
+    ghost use Rattle.device_service.specs.Mapping.{WalksBy, walk_over};
+    ghost use Rattle.sound_backend.specs.Service.{Freed, Listed, after_walk, first_known, sound};
+    ghost use Rattle.device_service.specs.Mapping.{denied_by};
+    ghost use Rattle.sound_backend.specs.Verdict.{verdict};
+    ghost use Rattle.page_directory.specs.Progress.{status_in};
 
     /// The service of a sound device with streams of these kinds that isn't connected.
     pub fn new(alloc: Global, kinds: &[StreamKind]) -> Result<Service, AllocError>
@@ -94,11 +98,7 @@ impl Service {
     fn status_of(&self, demand: &Demand) -> i32
         ensures { result ≡ status_in self.now.progress (verdict (stock_of self.now.store).streams demand.now) }
     {
-        match self.progress {
-            Progress::NoMemory => ENOMEM,
-            Progress::Denied => EACCES,
-            Progress::Decided | Progress::Mapped | Progress::Released => self.verdict_on(demand),
-        }
+        self.progress.status(self.verdict_on(demand))
     }
 
     // The first access of the walk of an OPEN, where memory isn't wanting for its queue and the list of its pages.
@@ -134,7 +134,7 @@ impl Service {
         requires opens { HasOpen self.old.hand (queue_of self.old.store) }
         requires going { is_walked walk ≡ false }
         requires may { MayGo (W.may words.old) (walk_over W.Words words.old walk) }
-        ensures comes { WalksOn W.Words words.old self.old walk result self.new }
+        ensures comes { WalksBy sound known_of left_of Listed W.Words words.old self.old walk result self.new }
         ensures made { Makes W.makes words.old result.access words.new }
         ensures stays { AccessIn (held_by walk) result.access }
         ensures going { going_of self.new ≡ is_going result.now }
@@ -184,7 +184,7 @@ impl Service {
     fn free<W: Words>(&mut self, words: &mut W, part: u8) -> Deed
         requires freeing { self.old.course ≡ course.Frees part }
         requires may { MayGo (W.may words.old) (unmaps (list_at (stock_of self.old.store).held part) (Finished Freed)) }
-        ensures goes { (site : Site) → GoesOn site self.old result self.new }
+        ensures goes { (site : Site) → ContinuesBy sound known_of left_of site self.old result self.new }
         ensures made { Makes W.makes words.old result.access words.new }
         ensures stays { (pages : List Hold) → AccessIn pages result.access }
         ensures going { going_of self.new ≡ is_going result.now }

@@ -3,16 +3,11 @@
 ghost use Rattle.std.specs.Prelude.{◌≡◌};
 ghost use Rattle.sound_backend.specs.Verdict.{checked, refused};
 
-use pcm_params::Answer;
+use pcm_params::{Answer, NO_RANGES};
 use pcm_stream::StreamRefusal;
-use snd_wire::NO_RANGES;
 
-// The statuses of an operation that isn't known, where memory was wanting, and where a page was denied.
+// The status of an operation that isn't known.
 pub(crate) const EOPNOTSUPP: i32 = -95;
-
-pub(crate) const ENOMEM: i32 = -12;
-
-pub(crate) const EACCES: i32 = -13;
 
 // The answer of this status that tells no ranges.
 pub(crate) fn refused(status: i32) -> Answer

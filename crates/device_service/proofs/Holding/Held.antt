@@ -20,6 +20,7 @@ use Rattle.device_service.specs.Doing.{all_held}
 use Rattle.device_service.specs.Parts.{Drops, LeftBy, MayDrop, UndoneAs, met_links}
 use Rattle.device_service.specs.Work.{all_pages, ring_hold, ring_page}
 use Rattle.device_service.proofs.Lists.{within}
+use Rattle.page_directory.specs.Lists.{left_nil, right_nil}
 
 pub here : {A : Type 0} (xs : List A) (i : ℕ) (x d : A) → i < length xs → x ≡ get_or xs i d → slice_get xs i ≡ Some x
 here xs i x d lt e = slice_get-get_or xs i d lt ∙ ap Some (sym e)
@@ -41,19 +42,11 @@ append_nil : {A : Type 0} (xs : List A) → xs ++ [] ≡ xs
 append_nil [] = refl
 append_nil (x ∷ xs) = ap (λ ys. x ∷ ys) (append_nil xs)
 
-left_nil : {A : Type 0} (xs ys : List A) → xs ++ ys ≡ [] → length xs ≡ 0
-left_nil [] ys e = refl
-left_nil (x ∷ xs) ys e = let wrong : ⊥ = cc in absurd wrong
-
-right_nil : {A : Type 0} (xs ys : List A) → xs ++ ys ≡ [] → ys ≡ []
-right_nil [] ys e = e
-right_nil (x ∷ xs) ys e = let wrong : ⊥ = cc in absurd wrong
-
 pub held_bare : (ls : List Link) → all_held ls ≡ [] → (i : ℕ) (l : Link) → slice_get ls i ≡ Some l → length (held_of l) ≡ 0
 held_bare [] e i l g = let wrong : ⊥ = cc in absurd wrong
 held_bare (k ∷ ks) e zero l g =
     let same : k ≡ l = cc in
-    ap (λ (x : Link). length (held_of x)) (sym same) ∙ left_nil (held_of k) (all_held ks) e
+    ap (λ (x : Link). length (held_of x)) (sym same) ∙ ap length (left_nil (held_of k) (all_held ks) e)
 held_bare (k ∷ ks) e (suc i) l g = held_bare ks (right_nil (held_of k) (all_held ks) e) i l g
 
 -- a link that holds the same changes nothing of what all hold

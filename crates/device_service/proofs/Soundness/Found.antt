@@ -1,5 +1,5 @@
--- What a Sleep over all parts and a Raise find, and that they touch no word of a name.
-use Rattle.std.proofs.Common.{◌≡◌, ℕ, ◌<◌, ◌==◌, nat_lt, Bool, true, false, cond, List, [], ◌∷◌, length, Some, refl, arith}
+-- What a Sleep over all parts, a Raise and a Publish find, and that they touch no word of a name.
+use Rattle.std.proofs.Common.{◌≡◌, ℕ, ◌+◌, ◌<◌, nat_lt, Bool, true, false, cond, List, [], ◌∷◌, length, Some, None, refl, arith}
 use Rattle.std.proofs.lemmas.Bool.Decides.{nat_tests}
 use Rattle.pv_words.specs.Found.{Found, finding}
 use Rattle.pv_words.specs.Plan.{Plan, Finished, Make, Note, IsUntouched, joined}
@@ -9,7 +9,8 @@ use Rattle.link_core.proofs.PlanFits.{fits_stores}
 use Rattle.link_core.proofs.Shown.{FitFound, TouchesNone, sleep_none}
 use Rattle.link_core.specs.declared.link.Put.{Put}
 use Rattle.link_core.specs.declared.link.Put.TheVariants as put
-use Rattle.link_core.specs.Raise.{slots, event_place, publish_event, put_plan}
+use Rattle.link_core.specs.declared.link.event.Layout.{Layout}
+use Rattle.link_core.specs.Raise.{event_place, publish_events, put_events, unless_barred}
 use Rattle.device_service.specs.Work.{ring_page, sleep_all, sleeps_on}
 
 none_joined : {A B : Type 0} (p : Plan A) (next : A → Plan B) → TouchesNone p → ((x : A) → TouchesNone (next x)) → TouchesNone (joined p next)
@@ -24,13 +25,13 @@ sleeps_none (j ∷ js) = none_joined (sleep_plan (ring_page j) j.rsp) (sleeps_on
     then true h = h
     then false h = tt
 
-module _ (Q : Found → Put → Type 0) (stored : (g : Found) → Q g put.Done) (full : (g : Found) → Q g put.Full) (page : Page) (prod : ℕ) (words : List ℕ) where
-  raise_so : (g : Found) (cons : ℕ) (none bad : Bool) → (bad ≡ true → Q g (put.BadCons prod cons)) → FitFound Q g (cond bad (Finished (put.BadCons prod cons)) (cond none (Finished put.Full) (stores (event_place page prod) (publish_event page prod) 0 words)))
-  raise_so g cons none true h = h refl
-  raise_so g cons true false h = full g
-  raise_so g cons false false h =
-      fits_stores (λ (g : Found) want note. IsUntouched note) (λ g (note : Note) a. finding g a) Q g (event_place page prod) (publish_event page prod) (length words) (λ i v small. tt) (λ i v. refl) (tt, λ v. stored g) 0 words (omega arith)
+module _ (Q : Found → Put → Type 0) (stored : (g : Found) → Q g put.Done) (full : (g : Found) → Q g put.Full) (layout : Layout) (page : Page) (prod n : ℕ) (words : List ℕ) where
+  put_so : (g : Found) (cons : ℕ) (tight bad : Bool) → (bad ≡ true → Q g (put.BadCons prod cons)) → FitFound Q g (unless_barred (cond bad (Some (put.BadCons prod cons)) (cond tight (Some put.Full) None)) (stores (event_place layout page prod) (publish_events page prod n) 0 words))
+  put_so g cons tight true h = h refl
+  put_so g cons true false h = full g
+  put_so g cons false false h =
+      fits_stores (λ (g : Found) want note. IsUntouched note) (λ g (note : Note) a. finding g a) Q g (event_place layout page prod) (publish_events page prod n) (length words) (λ i v small. tt) (λ i v. refl) (tt, λ v. stored g) 0 words (omega arith)
 
-  pub raise_shows : (f : Found) → ((g : Found) (cons : ℕ) → g.word ≡ Some cons → slots < since cons prod → Q g (put.BadCons prod cons)) → FitFound Q f (put_plan page prod words)
-  raise_shows f bad =
-      (tt, λ cons. raise_so (record f { word = Some cons }) cons (since cons prod == slots) (nat_lt slots (since cons prod)) (λ h. bad (record f { word = Some cons }) cons refl (grind (arith, nat_tests, h))))
+  pub put_shows : (f : Found) → ((g : Found) (cons : ℕ) → g.word ≡ Some cons → layout.slots < since cons prod → Q g (put.BadCons prod cons)) → FitFound Q f (put_events layout page prod n words)
+  put_shows f bad =
+      (tt, λ cons. put_so (record f { word = Some cons }) cons (nat_lt layout.slots (since cons prod + n)) (nat_lt layout.slots (since cons prod)) (λ h. bad (record f { word = Some cons }) cons refl (grind (arith, nat_tests, h))))

@@ -1,5 +1,5 @@
 -- The pages of the parts are held along each activity of a connected device.
-use Rattle.std.proofs.Common.{◌≡◌, inl, inr, ℕ, zero, suc, ◌+◌, ◌*◌, ◌%◌, ◌<◌, ◌≤◌, ◌==◌, nat_lt, Bool, true, false, cond, List, [], ◌∷◌, ◌++◌, Option, Some, None, refl, sym, ◌∙◌, ap, subst, arith, length, append_assoc, append-nil, slice_get, slice_set, set, length-set}
+use Rattle.std.proofs.Common.{◌≡◌, inl, inr, ℕ, zero, suc, ◌+◌, ◌*◌, ◌%◌, ◌<◌, ◌≤◌, ◌==◌, nat_lt, Bool, true, false, cond, List, [], ◌∷◌, ◌++◌, Option, Some, None, refl, sym, ◌∙◌, ap, subst, arith, length, append_assoc, append-nil, slice_get, slice_set, set, length-set, ◌^◌}
 use Rattle.pv_words.specs.declared.grant.Hold.{Hold}
 use Rattle.pv_words.specs.Held.{Holds, IsProper, holding, holds_of}
 use Rattle.pv_words.specs.Plan.{Plan, Finished}
@@ -7,11 +7,13 @@ use Rattle.ring_words.specs.declared.Looked.{Looked}
 use Rattle.ring_words.specs.Ring.{next_index, looked_of, slot_of, since}
 use Rattle.link_core.specs.declared.link.Put.{Put}
 use Rattle.link_core.specs.declared.link.Put.TheVariants as put
-use Rattle.link_core.specs.Raise.{slots, event_place, publish_event, put_plan}
+use Rattle.link_core.specs.declared.link.event.Layout.{Layout}
+use Rattle.link_core.specs.Raise.{IsInPage, event_place, publish_events, put_events, unless_barred, word_at}
 use Rattle.std.proofs.lemmas.Bool.Decides.{nat_tests}
 use Rattle.link_core.specs.Activities.{Joined, page_at, stores, slot_place, pages_of, hold_list, look_plan, take_plan, answer_plan}
 use Rattle.link_core.specs.Activities as link
 use Rattle.link_core.proofs.PlanFits.{fits_loads, fits_stores}
+use Rattle.link_core.proofs.Slots.{in_page}
 use Rattle.device_service.specs.Work.{ring_hold, ring_page, all_pages, sleep_all, sleeps_on, counted, with_event}
 use Rattle.device_service.proofs.Soundness.Plans.{Fit, IsOwn, AllOwn, own_in, own_behind, may_load, may_store}
 use Rattle.device_service.proofs.Soundness.Same.{IsIn, in_left, in_right}
@@ -99,19 +101,19 @@ module _ (frames grants : ℕ → ℕ) (dom : ℕ) (held : List Hold) where
         (may_store frames grants dom (ring_hold j.event j.ring) held 2 (next_index j.rsp) own at (omega arith), λ v. (may_load frames grants dom (ring_hold j.event j.ring) held 3 own at (omega arith), λ event. h _))
         0 reply (omega (arith, short))
 
-  -- an event is raised
-  module _ (event : Hold) (own : IsOwn frames grants dom event) (at : IsIn event held) where
-    raises_so : (Q : Holds → Put → Type 0) (prod cons n : ℕ) (words : List ℕ) (full bad : Bool) → length words ≤ 16 → Q (holds_of held) put.Done → Q (holds_of held) put.Full → (bad ≡ true → Q (holds_of held) (put.BadCons prod cons)) → Fit frames grants dom Q (holds_of held) (cond bad (Finished (put.BadCons prod cons)) (cond full (Finished put.Full) (stores (event_place (page_at event) prod) (publish_event (page_at event) prod) 0 words)))
-    raises_so Q prod cons n words full true short a b c = c refl
-    raises_so Q prod cons n words true false short a b c = b
-    raises_so Q prod cons n words false false short a b c =
-        fits_stores (IsProper frames grants dom) (holding frames) Q (holds_of held) (event_place (page_at event) prod) (publish_event (page_at event) prod) 16
-        (λ i v small. may_store frames grants dom event held (16 + 16 * (prod % slots) + i) v own at (omega arith))
-        (λ i v. refl) (may_store frames grants dom event held 1 (next_index prod) own at (omega arith), λ v. a) 0 words (omega (arith, short))
+  -- events are put into a page of their own
+  module _ (layout : Layout) (fits : IsInPage layout) (event : Hold) (own : IsOwn frames grants dom event) (at : IsIn event held) where
+    puts_so : (Q : Holds → Put → Type 0) (prod cons n : ℕ) (words : List ℕ) (full bad : Bool) → Q (holds_of held) put.Done → Q (holds_of held) put.Full → (bad ≡ true → Q (holds_of held) (put.BadCons prod cons)) → Fit frames grants dom Q (holds_of held) (unless_barred (cond bad (Some (put.BadCons prod cons)) (cond full (Some put.Full) None)) (stores (event_place layout (page_at event) prod) (publish_events (page_at event) prod n) 0 words))
+    puts_so Q prod cons n words full true a b c = c refl
+    puts_so Q prod cons n words true false a b c = b
+    puts_so Q prod cons n words false false a b c =
+        fits_stores (IsProper frames grants dom) (holding frames) Q (holds_of held) (event_place layout (page_at event) prod) (publish_events (page_at event) prod n) (length words)
+        (λ i v small. may_store frames grants dom event held (word_at layout prod i) v own at (in_page layout fits prod i))
+        (λ i v. refl) (may_store frames grants dom event held 1 ((prod + n) % 2 ^ 32) own at (omega arith), λ v. a) 0 words (omega arith)
 
-    pub fits_raise : (Q : Holds → Put → Type 0) (prod : ℕ) (words : List ℕ) → length words ≤ 16 → Q (holds_of held) put.Done → Q (holds_of held) put.Full → ((cons : ℕ) → slots < since cons prod → Q (holds_of held) (put.BadCons prod cons)) → Fit frames grants dom Q (holds_of held) (put_plan (page_at event) prod words)
-    fits_raise Q prod words short a b c =
-        (may_load frames grants dom event held 0 own at (omega arith), λ cons. raises_so Q prod cons (since cons prod) words (since cons prod == slots) (nat_lt slots (since cons prod)) short a b (λ h. c cons (grind (arith, nat_tests, h))))
+    pub fits_put : (Q : Holds → Put → Type 0) (prod n : ℕ) (words : List ℕ) → Q (holds_of held) put.Done → Q (holds_of held) put.Full → ((cons : ℕ) → layout.slots < since cons prod → Q (holds_of held) (put.BadCons prod cons)) → Fit frames grants dom Q (holds_of held) (put_events layout (page_at event) prod n words)
+    fits_put Q prod n words a b c =
+        (may_load frames grants dom event held 0 own at (omega arith), λ cons. puts_so Q prod cons n words (nat_lt layout.slots (since cons prod + n)) (nat_lt layout.slots (since cons prod)) a b (λ h. c cons (grind (arith, nat_tests, h))))
 
   module _ (Q : Holds → Bool → Type 0) (last : (b : Bool) → Q (holds_of held) b) where
     sleeps_so : (more : Plan Bool) (b : Bool) → Fit frames grants dom Q (holds_of held) more → Fit frames grants dom Q (holds_of held) (sleeps_on more b)

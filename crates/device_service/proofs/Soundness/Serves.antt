@@ -25,14 +25,14 @@ use Rattle.device_service.specs.Laws.{AreHeld, Leads, WantsFor}
 use Rattle.device_service.specs.Nodes.{Kind, Ringed, Ringless}
 use Rattle.link_core.specs.declared.link.Put.{Put}
 use Rattle.link_core.specs.declared.link.Put.TheVariants as put
-use Rattle.link_core.specs.Raise.{put_plan, limit}
+use Rattle.link_core.specs.Raise.{event_layout, put_plan, limit}
 use Rattle.device_service.specs.Reading.{all_gone, rows_of, begins_event, begins_part, begins_raise, begins_ready, begins_serve, begins_waiting, begins_hand}
 use Rattle.device_service.specs.Rows.{Hand, Rows}
 use Rattle.device_service.specs.Service.{Job, Works, Starves, Deed, Runs, Raises}
 use Rattle.device_service.specs.Work.{Work, Round, Looks, Sleeps, Idles, End, Saw, Took, Own, Done, Slept, Raised, all_pages, sleep_all, ring_page, with_event, raises_if, does_event, answer_of, looks_at, in_round, takes_from, with_left, with_rings, does, decides, decides_by, part_of, serves_by, with_waiting, with_hand, after_look, after_sleep, after_raise, settled}
 use Rattle.device_service.proofs.Soundness.Begins.{BeginsSo, RunsTo, answer_fits, begins_leaving, begins_nothing, chosen, lost_run, mapped_fits, opened_at, page_held, ring_held, ring_own, run_to, same_work, shown_of, touched_of, unkept_found}
-use Rattle.device_service.proofs.Soundness.Found.{raise_shows, sleeps_none}
-use Rattle.device_service.proofs.Soundness.Parts.{event_in, evented_pages, fits_look, fits_take, fits_sleeps, fits_raise}
+use Rattle.device_service.proofs.Soundness.Found.{put_shows, sleeps_none}
+use Rattle.device_service.proofs.Soundness.Parts.{event_in, evented_pages, fits_look, fits_take, fits_sleeps, fits_put}
 use Rattle.device_service.proofs.Soundness.Plans.{own_in}
 use Rattle.device_service.proofs.Soundness.Settles.{found_index, no_reason}
 use Rattle.device_service.proofs.Soundness.Work.{Lawful, held_pages, KeptFound, IsFoundIn, Tells, IsServing, site, learned, IsSane, IsRaising, EndsWell, EndsSo, EndsFoundSo, look_pages, sleep_pages}
@@ -173,11 +173,11 @@ module _ {X A V Y M : Type 0} (D : Lawful X A V Y M) where
         let plan = put_plan (link.page_at j.event) j.prod (words j.prod) in
         let own = own_in frames grants dom j.event (all_pages w.parts) q.own (event_in w.parts part j at) in
         let fits = λ (c : Carried Learned) (x : Tells s w c). mapped_fits D w c (λ y. Raised part e y) plan x.0.0
-        (fits_raise frames grants dom c.own.holds.held j.event own (page_held D w c.own.holds j.event x.0 (event_in w.parts part j at)) (λ z y. EndsSo D w z (Raised part e y)) j.prod (words j.prod) (short j.prod)
+        (fits_put frames grants dom c.own.holds.held event_layout (omega arith, omega arith, omega arith) j.event own (page_held D w c.own.holds j.event x.0 (event_in w.parts part j at)) (λ z y. EndsSo D w z (Raised part e y)) j.prod 1 (words j.prod)
         ((refl, subst (λ y. AreSame c.own.holds.held y) (sym (raise_pages w part e put.Done q i)) x.0.1), (i, tt))
         ((refl, subst (λ y. AreSame c.own.holds.held y) (sym (raise_pages w part e put.Full q i)) x.0.1), (i, tt))
         (λ cons bad. ((refl, x.0.1), (i, bad))))
-        (raise_shows (λ f y. EndsFoundSo D w f (Raised part e y)) (λ f. ((λ why h. absurd (no_reason w.kept why none h)), λ ts. tt)) (λ f. ((λ why h. absurd (no_reason w.kept why none h)), λ ts. tt)) (link.page_at j.event) j.prod (words j.prod) c.own.found
+        (put_shows (λ f y. EndsFoundSo D w f (Raised part e y)) (λ f. ((λ why h. absurd (no_reason w.kept why none h)), λ ts. tt)) (λ f. ((λ why h. absurd (no_reason w.kept why none h)), λ ts. tt)) event_layout (link.page_at j.event) j.prod 1 (words j.prod) c.own.found
         (λ f cons word bad. ((λ why h. let same : reason.BadCons j.prod cons ≡ why = cc in subst (λ z. IsFoundIn f z) same word), λ ts. word))) in
         chosen D w v w p (mapped (λ y. Raised part e y) plan) (λ n. []) (same_work D w v p q (mapped (λ y. Raised part e y) plan) fits) o
     begins_raising e part words j false i at short is o =

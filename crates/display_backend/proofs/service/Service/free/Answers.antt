@@ -1,16 +1,16 @@
-use Rattle.std.proofs.Common.{◌≡◌, ◌<◌, [], length, ap, arith}
+use Rattle.std.proofs.Common.{◌≡◌, ◌<◌, [], length, refl, ap, arith}
 use Rattle.pv_words.specs.Plan.{Finished}
 use Rattle.display_backend.specs.Course.{left_at}
 use Rattle.display_backend.specs.Known.{known_of, left_of}
-use Rattle.display_backend.specs.Service.{Freed}
+use Rattle.display_backend.specs.Service.{Freed, display}
 use Rattle.display_backend.specs.Showing.{scene_of}
 use Rattle.display_buffers.specs.Stock.{Stock, pages_under}
 use Rattle.display_buffers.specs.Store.{stock_of}
-use Rattle.display_backend.specs.declared.course.Progress.TheVariants as progress
-use Rattle.display_backend.proofs.Freeing.{unmap_lies}
+use Rattle.page_directory.specs.declared.progress.Progress.TheVariants as progress
 use Rattle.device_service.proofs.Holding.Held.{nil_of}
+use Rattle.device_service.proofs.Mapping.Steps.{free_ends, free_goes, unmap_lies}
 use Rattle.page_directory.proofs.Releases.{may_first}
-use Rattle.display_backend.proofs.Serviced.{free_ends, free_goes, knowing, stock_freed, stock_less}
+use Rattle.display_backend.proofs.Serviced.{knowing, stock_freed, stock_less}
 use Rattle.display_backend.proofs.service.Service.free.Goals as goal
 
 pub unmap_of-requires-clause-may : goal.unmap_of-requires-clause-may
@@ -24,7 +24,7 @@ returns-then-held_of-gt0-clause-goes g c = λ site.
     let s = stock_of d.store in
     let t = stock_of c.unmap_of.new.self in
     let more : 0 < length (pages_under k t.buffers) = omega (arith, c.if-held_of-gt0.true, c.held_of.ensures) in
-    free_goes (known_of d) _ (left_of site d) (pages_under k s.buffers) (pages_under k t.buffers) c.unmap_of.result _ (ap (λ x. left_at site x s) c.requires.freeing) c.unmap_of.ensures.drops more
+    free_goes display Freed (known_of d) _ (left_of site d) (pages_under k s.buffers) (pages_under k t.buffers) c.unmap_of.result _ (ap (λ x. left_at site x s) c.requires.freeing) c.unmap_of.ensures.drops more
     (ap (λ (x : Stock). knowing x (scene_of d.scene) d.hand d.progress) (stock_less d.course k s t c.requires.freeing c.unmap_of.ensures.stock))
     (ap (λ x. left_at site x t) c.requires.freeing)
 
@@ -42,7 +42,7 @@ returns-clause-goes g c = λ site.
     let s = stock_of d.store in
     let t = stock_of c.unmap_of.new.self in
     let bare : pages_under k t.buffers ≡ [] = nil_of (pages_under k t.buffers) (omega (arith, c.if-held_of-gt0.false, c.held_of.ensures)) in
-    free_ends (known_of d) _ (left_of site d) (pages_under k s.buffers) (pages_under k t.buffers) c.unmap_of.result _ (ap (λ x. left_at site x s) c.requires.freeing) c.unmap_of.ensures.drops bare
+    free_ends display Freed (known_of d) _ (left_of site d) (pages_under k s.buffers) (pages_under k t.buffers) c.unmap_of.result _ refl (ap (λ x. left_at site x s) c.requires.freeing) c.unmap_of.ensures.drops bare
     (ap (λ (x : Stock). knowing x (scene_of d.scene) d.hand progress.Released) (stock_freed d.course k s t c.requires.freeing c.unmap_of.ensures.stock bare))
 
 pub returns-clause-stays : goal.returns-clause-stays

@@ -1,8 +1,9 @@
-use Rattle.std.proofs.Common.{refl, arith}
+use Rattle.std.proofs.Common.{refl, sym}
+use Rattle.std.proofs.lemmas.Bool.{false≢true}
 use Rattle.link_core.specs.declared.link.Stage.TheVariants as stage
 use Rattle.link_core.specs.Activities.{page_at}
-use Rattle.link_core.specs.Link.{dom_of, held_of, idle, is_joined, joined_of, page_of, raise_left}
-use Rattle.link_core.proofs.Raises.{in_joined, raise_finds, unfinished_put}
+use Rattle.link_core.specs.Link.{dom_of, held_of, idle, is_joined, joined_of, page_of, puts}
+use Rattle.link_core.proofs.Raises.{finds_bar, finds_room, fits_slots, in_joined, none_published, unfinished_put}
 use Rattle.link_core.proofs.link.Link.room_step.Goals as goal
 
 pub returns-then-prod-ge-EVENT_LIMIT-clause-keeps : goal.returns-then-prod-ge-EVENT_LIMIT-clause-keeps
@@ -17,54 +18,54 @@ pub returns-then-prod-ge-EVENT_LIMIT-clause-rests : goal.returns-then-prod-ge-EV
 unfolding idle
 returns-then-prod-ge-EVENT_LIMIT-clause-rests g c = refl
 
-pub returns-in-Free-clause-keeps : goal.returns-in-Free-clause-keeps
+pub returns-in-Some-clause-keeps : goal.returns-in-Some-clause-keeps
 unfolding dom_of held_of is_joined page_of
-returns-in-Free-clause-keeps g c = record { dom = refl; part = refl; held = refl; is_joined = refl; page = refl }
+returns-in-Some-clause-keeps g c = record { dom = refl; part = refl; held = refl; is_joined = refl; page = refl }
 
-pub returns-in-Free-clause-joined : goal.returns-in-Free-clause-joined
-unfolding joined_of
-returns-in-Free-clause-joined g c = refl
-
-pub returns-in-Free-clause-stays : goal.returns-in-Free-clause-stays
-unfolding held_of joined_of
-returns-in-Free-clause-stays g c = λ h. in_joined c.args.self.now.kept c.args.self.now.ring_page c.args.self.now.event_page h
-
-pub returns-in-Full-clause-keeps : goal.returns-in-Full-clause-keeps
-unfolding dom_of held_of is_joined page_of
-returns-in-Full-clause-keeps g c = record { dom = refl; part = refl; held = refl; is_joined = refl; page = refl }
-
-pub returns-in-Full-clause-joined : goal.returns-in-Full-clause-joined
-unfolding joined_of
-returns-in-Full-clause-joined g c = refl
-
-pub returns-in-Full-clause-rests : goal.returns-in-Full-clause-rests
+pub returns-in-Some-clause-rests : goal.returns-in-Some-clause-rests
 unfolding idle
-returns-in-Full-clause-rests g c = refl
+returns-in-Some-clause-rests g c = refl
 
-pub returns-in-Full-clause-stays : goal.returns-in-Full-clause-stays
+pub returns-in-Some-clause-stays : goal.returns-in-Some-clause-stays
 unfolding held_of joined_of
-returns-in-Full-clause-stays g c = λ h. in_joined c.args.self.now.kept c.args.self.now.ring_page c.args.self.now.event_page h
+returns-in-Some-clause-stays g c = λ h. in_joined c.args.self.now.kept c.args.self.now.ring_page c.args.self.now.event_page h
 
-pub returns-in-Bad-clause-keeps : goal.returns-in-Bad-clause-keeps
-unfolding dom_of held_of is_joined page_of
-returns-in-Bad-clause-keeps g c = record { dom = refl; part = refl; held = refl; is_joined = refl; page = refl }
-
-pub returns-in-Bad-clause-joined : goal.returns-in-Bad-clause-joined
+pub returns-in-Some-clause-joined : goal.returns-in-Some-clause-joined
 unfolding joined_of
-returns-in-Bad-clause-joined g c = refl
+returns-in-Some-clause-joined g c =
+    sym (none_published c.args.layout.slots c.args.self.now.prod c.args.n c.load-cons.result c.in-Some.end (joined_of c.args.self.now) c.in-Some.ensures)
 
-pub returns-in-Bad-clause-rests : goal.returns-in-Bad-clause-rests
-unfolding idle
-returns-in-Bad-clause-rests g c = refl
+pub returns-in-Some-clause-leads : goal.returns-in-Some-clause-leads
+returns-in-Some-clause-leads g c =
+    let l = c.args.self.now in
+    finds_bar c.args.layout (page_at l.event_page) l.prod c.args.n c.load-cons.result c.args.w.now c.if-prod-ge-EVENT_LIMIT.false c.in-Some.end c.in-Some.ensures
 
-pub returns-in-Bad-clause-stays : goal.returns-in-Bad-clause-stays
+pub returns-in-None-clause-keeps : goal.returns-in-None-clause-keeps
+unfolding dom_of held_of is_joined page_of
+returns-in-None-clause-keeps g c = record { dom = refl; part = refl; held = refl; is_joined = refl; page = refl }
+
+pub returns-in-None-clause-joined : goal.returns-in-None-clause-joined
+unfolding joined_of
+returns-in-None-clause-joined g c = refl
+
+pub returns-in-None-clause-stays : goal.returns-in-None-clause-stays
 unfolding held_of joined_of
-returns-in-Bad-clause-stays g c = λ h. in_joined c.args.self.now.kept c.args.self.now.ring_page c.args.self.now.event_page h
+returns-in-None-clause-stays g c = λ h. in_joined c.args.self.now.kept c.args.self.now.ring_page c.args.self.now.event_page h
 
-pub returns-in-Free-clause-leads : goal.returns-in-Free-clause-leads
-unfolding raise_left
-returns-in-Free-clause-leads g c =
+pub returns-in-None-clause-room : goal.returns-in-None-clause-room
+returns-in-None-clause-room g c = λ h. fits_slots c.args.layout.slots c.args.self.now.prod c.args.n c.load-cons.result c.in-None.ensures
+
+pub returns-in-None-clause-leads : goal.returns-in-None-clause-leads
+returns-in-None-clause-leads g c =
     let l = c.args.self.now in (
-      raise_finds (page_at l.event_page) l.prod c.load-cons.result c.in-Free.field-0 c.args.w.now c.new.result c.new.ensures.len c.new.ensures.prod c.room.result c.room.ensures c.in-Free.is (omega arith),
-      unfinished_put (page_at l.event_page) l.prod 0 c.args.w.now stage.Raise refl (omega arith) (omega arith),
+      finds_room c.args.layout (page_at l.event_page) l.prod c.args.n c.load-cons.result c.args.w.now c.if-prod-ge-EVENT_LIMIT.false c.in-None.ensures,
+      unfinished_put c.args.layout (page_at l.event_page) l.prod 0 c.args.n c.args.w.now stage.Raise refl,
     )
+
+pub returns-then-prod-ge-EVENT_LIMIT-clause-room : goal.returns-then-prod-ge-EVENT_LIMIT-clause-room
+unfolding puts
+returns-then-prod-ge-EVENT_LIMIT-clause-room g c = λ h. absurd (false≢true h)
+
+pub returns-in-Some-clause-room : goal.returns-in-Some-clause-room
+unfolding puts
+returns-in-Some-clause-room g c = λ h. absurd (false≢true h)

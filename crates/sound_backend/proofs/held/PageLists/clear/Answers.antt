@@ -1,6 +1,6 @@
 use Rattle.std.proofs.Common.{[], arith, ap, List, length}
 use Rattle.pv_words.specs.declared.grant.Hold.{Hold}
-use Rattle.sound_backend.proofs.Lists.{all_taken, through_more}
+use Rattle.page_directory.proofs.Lists.{all_taken, through_more}
 use Rattle.sound_backend.proofs.held.PageLists.clear.Goals as goal
 
 abbrev none_of : List Hold → List Hold

@@ -1,15 +1,16 @@
-use Rattle.std.proofs.Common.{◌≡◌, ◌<◌, [], length, ap, arith}
+use Rattle.std.proofs.Common.{◌≡◌, ◌<◌, [], length, refl, ap, arith}
 use Rattle.pv_words.specs.Plan.{Finished}
 use Rattle.page_directory.proofs.Releases.{may_first}
 use Rattle.device_service.proofs.Holding.Held.{nil_of}
-use Rattle.sound_backend.specs.declared.course.Progress.TheVariants as progress
+use Rattle.device_service.proofs.Mapping.Steps.{free_ends, free_goes, unmap_lies}
+use Rattle.page_directory.specs.declared.progress.Progress.TheVariants as progress
 use Rattle.sound_backend.specs.Course.{left_at}
 use Rattle.sound_backend.specs.Held.{list_at}
 use Rattle.sound_backend.specs.Known.{known_of, left_of}
-use Rattle.sound_backend.specs.Service.{Freed}
+use Rattle.sound_backend.specs.Service.{Freed, sound}
 use Rattle.sound_backend.specs.Stock.{Stock}
 use Rattle.sound_backend.specs.Store.{stock_of}
-use Rattle.sound_backend.proofs.Serviced.{free_ends, free_goes, knowing, stock_freed, stock_less, unmap_lies}
+use Rattle.sound_backend.proofs.Serviced.{knowing, stock_freed, stock_less}
 use Rattle.sound_backend.proofs.service.Service.free.Goals as goal
 
 pub unmap_of-requires-clause-may : goal.unmap_of-requires-clause-may
@@ -23,7 +24,7 @@ returns-then-held_of-gt0-clause-goes g c = λ site.
     let s = stock_of d.store in
     let t = stock_of c.unmap_of.new.self in
     let more : 0 < length (list_at t.held k) = omega (arith, c.if-held_of-gt0.true, c.held_of.ensures) in
-    free_goes (known_of d) _ (left_of site d) (list_at s.held k) (list_at t.held k) c.unmap_of.result _ (ap (λ x. left_at site x s) c.requires.freeing) c.unmap_of.ensures.drops more
+    free_goes sound Freed (known_of d) _ (left_of site d) (list_at s.held k) (list_at t.held k) c.unmap_of.result _ (ap (λ x. left_at site x s) c.requires.freeing) c.unmap_of.ensures.drops more
     (ap (λ (x : Stock). knowing x d.hand d.progress) (stock_less d.course k s t c.requires.freeing c.unmap_of.ensures.stock))
     (ap (λ x. left_at site x t) c.requires.freeing)
 
@@ -39,7 +40,7 @@ returns-clause-goes g c = λ site.
     let s = stock_of d.store in
     let t = stock_of c.unmap_of.new.self in
     let bare : list_at t.held k ≡ [] = nil_of (list_at t.held k) (omega (arith, c.if-held_of-gt0.false, c.held_of.ensures)) in
-    free_ends (known_of d) _ (left_of site d) (list_at s.held k) (list_at t.held k) c.unmap_of.result _ (ap (λ x. left_at site x s) c.requires.freeing) c.unmap_of.ensures.drops bare
+    free_ends sound Freed (known_of d) _ (left_of site d) (list_at s.held k) (list_at t.held k) c.unmap_of.result _ refl (ap (λ x. left_at site x s) c.requires.freeing) c.unmap_of.ensures.drops bare
     (ap (λ (x : Stock). knowing x d.hand progress.Released) (stock_freed d.course k s t c.requires.freeing c.unmap_of.ensures.stock bare))
 
 pub returns-clause-stays : goal.returns-clause-stays

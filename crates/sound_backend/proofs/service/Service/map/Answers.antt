@@ -1,5 +1,5 @@
 use Rattle.page_directory.specs.WalkLeft.{held_by}
-use Rattle.sound_backend.proofs.Serviced.{in_none}
+use Rattle.device_service.proofs.Mapping.Steps.{in_none}
 use Rattle.sound_backend.proofs.service.Service.map.Goals as goal
 
 pub returns-in-Ok-clause-stays : goal.returns-in-Ok-clause-stays

@@ -1,5 +1,5 @@
 use Rattle.std.proofs.Common.{None, length, ap, ◌∙◌}
-use Rattle.sound_backend.specs.declared.course.Progress.TheVariants as progress
+use Rattle.page_directory.specs.declared.progress.Progress.TheVariants as progress
 use Rattle.sound_backend.specs.Stock.{pages_of}
 use Rattle.sound_backend.specs.Store.{stock_of}
 use Rattle.sound_backend.proofs.Lists.{none_among}

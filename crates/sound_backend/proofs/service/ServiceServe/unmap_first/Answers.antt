@@ -1,5 +1,5 @@
-use Rattle.std.proofs.Common.{sym, ap, subst}
-use Rattle.pv_words.specs.Release.{Drops}
+use Rattle.std.proofs.Common.{ap}
+use Rattle.device_service.proofs.Mapping.Steps.{drops_same}
 use Rattle.sound_backend.specs.Course.{stock_at}
 use Rattle.sound_backend.specs.Stock.{Stock, pages_of}
 use Rattle.sound_backend.specs.Store.{queue_of, stock_of}
@@ -16,10 +16,7 @@ returns-clause-drops g c =
     let d = c.args.self.now in
     let s = stock_of d.store in
     let t = stock_of c.unmap_first.new.self in
-    let old = at_rest d.course s c.requires.idle in
-    let new = at_rest d.course t c.requires.idle in
-    subst (λ (x : Stock). Drops (pages_of x) c.unmap_first.result (pages_of (stock_at d.course t))) (sym old)
-    (subst (λ (x : Stock). Drops (pages_of s) c.unmap_first.result (pages_of x)) (sym new) c.unmap_first.ensures.drops)
+    drops_same pages_of s t (stock_at d.course s) (stock_at d.course t) c.unmap_first.result (at_rest d.course s c.requires.idle) (at_rest d.course t c.requires.idle) c.unmap_first.ensures.drops
 
 pub returns-clause-strips : goal.returns-clause-strips
 returns-clause-strips g c =

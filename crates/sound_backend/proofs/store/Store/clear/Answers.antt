@@ -1,7 +1,8 @@
 use Rattle.std.proofs.Common.{◌≡◌, [], arith, length, replicate, ap, sym, ◌∙◌}
 use Rattle.pcm_stream.specs.Stream.{Pcm, closed}
 use Rattle.sound_backend.specs.Stock.{kinds_in}
-use Rattle.sound_backend.proofs.Lists.{all_none, all_taken, through_more}
+use Rattle.sound_backend.proofs.Lists.{all_none}
+use Rattle.page_directory.proofs.Lists.{all_taken, through_more}
 use Rattle.sound_backend.proofs.Streams.{closed_all, length_kinds, stock_by}
 use Rattle.sound_backend.proofs.store.Store.clear.Goals as goal
 

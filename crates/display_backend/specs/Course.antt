@@ -55,13 +55,13 @@ stock_at (Reads r) s = s
 abbrev pub scan_left : List Held → Reading → Plan Shown
 scan_left bs r = scan.left_of (pages_at bs r.place) r.scan
 
+abbrev pub reading_left : List Held → Reading → Plan Ending
+reading_left bs r = mapped (Pictured r.part) (scan_left bs r)
+
 -- a picture is read, and its next load may be made
 abbrev pub ReadsPicture : (may : Want → Type 0) → List Held → Course → Type 0
 ReadsPicture may bs (Reads r) = MayGo may (scan_left bs r)
 ReadsPicture may bs course = ⊥
-
-abbrev pub reading_left : List Held → Reading → Plan Ending
-reading_left bs r = mapped (Pictured r.part) (scan_left bs r)
 
 -- what is left of a walk, of a Release, and of a reading
 abbrev pub left_at : Site → Course → Stock → Plan Ending

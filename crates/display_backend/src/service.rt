@@ -190,7 +190,7 @@ impl Service {
     // The next access of the reading that is under way.
     fn read<W: Words>(&mut self, words: &mut W) -> Deed
         requires { ReadsPicture (W.may words.old) (stock_of self.old.store).buffers self.old.course }
-        ensures goes { (site : Site) → GoesOn site self.old result self.new }
+        ensures goes { (site : Site) → ContinuesBy display known_of left_of site self.old result self.new }
         ensures made { Makes W.makes words.old result.access words.new }
         ensures stays { AccessIn (pages_of (stock_of self.old.store)) result.access }
         ensures going { going_of self.new ≡ is_going result.now }

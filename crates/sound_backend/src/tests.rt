@@ -131,6 +131,7 @@ fn fits(sound: &Sound, e: HostEvent) -> bool
 }
 
 // What a sound device says of an event of its host.
+#[tactic(auto, using(crate::proofs::Hosts::waits_for))]
 fn tells(sound: &mut Sound, domain: &mut Domain, e: HostEvent) -> Option<Said> {
     if !fits(sound, e) || sound.host(e).is_err() {
         return None;

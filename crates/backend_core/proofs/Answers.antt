@@ -46,7 +46,7 @@ pub record Settles {Y V : Type 0} (t : Table Y V) (site : Site) : Type 1 where
   pub begun : (y : Y) (nodes : List NodeValue) → Fine y → Fine (t.begun y nodes)
   pub taken : (y : Y) (part : ℕ) (words : List ℕ) → Fine y → Fine (t.taken y part words)
   pub dropped : (y : Y) → Fine y → Fine (t.dropped y)
-  pub replied : (y : Y) (n : ℕ) (status : ℤ) → Fine y → Fine (t.replied y n status)
+  pub replied : (y : Y) (touched : List Touch) (n : ℕ) (status : ℤ) → Fine y → Fine (t.replied y touched n status)
   pub tells : (old new : Y) (told : Evidence) (what : Said) → t.Tells site old told what new → Fine old → Fine new
   pub serves : (old new : Y) (e : V) (told : Evidence) (what : Said) → t.Serves site old e told what new → Fine old → Fine new
   pub pays : (old new : Y) (told : Evidence) (what : Said) → t.Pays site old told what new → Fine old → Fine new
@@ -56,7 +56,7 @@ pub record Settles {Y V : Type 0} (t : Table Y V) (site : Site) : Type 1 where
   pub apart : (old a b : Y) (e : V) (told : Evidence) (what : Said) → t.Serves site old e told what a → t.Pays site old told what b → ⊥
   pub IsAccepted : (maps denied : Bool) → Y → Type 0
   pub stays : (old new : Y) (told : Evidence) (what : Said) (maps denied : Bool) → t.Tells site old told what new → IsAccepted maps denied old → IsAccepted maps (denied_by what denied) new
-  pub answers : (y : Y) (maps denied : Bool) (status : ℤ) → Fine y → IsAccepted maps denied y → t.IsStatus y status → IsAnswer denied maps status
+  pub answers : (y : Y) (touched : List Touch) (maps denied : Bool) (status : ℤ) → Fine y → IsAccepted maps denied y → t.IsStatus y touched status → IsAnswer denied maps status
 
 module _ {Y V : Type 0} (t : Table Y V) (site : Site) (law : Settles t site) where
   abbrev machine : core.Table (Rows Y V) Event
@@ -95,7 +95,7 @@ module _ {Y V : Type 0} (t : Table Y V) (site : Site) (law : Settles t site) whe
   says_calm old new told (said.Request part id op) words x c =
       subst (λ (r : Rows Y V). IsCalm r) (sym x.taken) (record { served = λ h e. x.serving; waits = c.waits; fine = law.taken old.service part words c.fine })
   says_calm old new told (said.Replied part id status notified) words x c =
-      subst (λ (r : Rows Y V). IsCalm r) (sym x.done) (record { served = λ h e. none_some h e; waits = c.waits; fine = law.replied old.service old.replies status c.fine })
+      subst (λ (r : Rows Y V). IsCalm r) (sym x.done) (record { served = λ h e. none_some h e; waits = c.waits; fine = law.replied old.service told.touched old.replies status c.fine })
   says_calm old new told (said.Closed why) words x c =
       subst (λ (r : Rows Y V). IsCalm r) (sym x.1) (bare_calm _ refl refl (law.dropped old.service c.fine))
   says_calm old new told (said.State b) words x c =
@@ -219,7 +219,7 @@ module _ {Y V : Type 0} (t : Table Y V) (site : Site) (law : Settles t site) whe
       record {
         part_is = ap (λ (k : Hand). k.part) same;
         id_is = ap (λ (k : Hand). k.id) same;
-        answer = law.answers old.service maps denied status c.fine i.accepted x.status_is;
+        answer = law.answers old.service told.touched maps denied status c.fine i.accepted x.status_is;
       }
   told_by old new told (said.Closed why) words h maps denied es c i x later = tt
   told_by old new told (said.Request part id op) words h maps denied es c i x later = none_some h (sym x.none ∙ i.hand)

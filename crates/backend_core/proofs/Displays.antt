@@ -8,6 +8,7 @@ use Rattle.pv_words.specs.declared.grant.Mode.TheVariants.{Read}
 use Rattle.pv_words.specs.Found.{Found}
 use Rattle.displ_wire.specs.declared.Request.{Request}
 use Rattle.page_directory.specs.Laws as walk
+use Rattle.device_core.specs.Touched.{Touch}
 use Rattle.device_core.specs.Site.{Site}
 use Rattle.device_service.specs.Rows.{Evidence, Tells as SaysBy}
 use Rattle.device_service.specs.Truth.{IsSaid}
@@ -69,8 +70,8 @@ module _ (site : Site) where
       subst (λ (y : Lines). HasAccepted maps true y) (sym x.left) (record { request = h.0.request; in_hand = h.0.in_hand; accepted = h.0.accepted; maps_is = h.0.maps_is }, refl)
   stays old new told other maps denied x h = absurd x
 
-  pub answers : (y : Lines) (maps denied : Bool) (status : ℤ) → IsFine y → HasAccepted maps denied y → table.IsStatus y status → IsAnswer denied maps status
-  answers y maps denied status f h x =
+  pub answers : (y : Lines) (touched : List Touch) (maps denied : Bool) (status : ℤ) → IsFine y → HasAccepted maps denied y → table.IsStatus y touched status → IsAnswer denied maps status
+  answers y touched maps denied status f h x =
       let q = h.0.request in
       let same : x.0 ≡ q = same_Some x.0 q (sym x.1 ∙ h.0.in_hand) in
       let is : IsStatus y.denied y.buffers y.scene q.asked status = subst (λ (r : Request). IsStatus y.denied y.buffers y.scene r.asked status) same x.2 in
@@ -83,7 +84,7 @@ module _ (site : Site) where
         begun = λ y nodes f q e d. none_some q e;
         taken = λ y part words f q e d. false_true d;
         dropped = λ y f q e d. false_true d;
-        replied = λ y n status f. replied_fine y y.request n status f;
+        replied = λ y touched n status f. replied_fine y y.request n status f;
         tells = tells_fine;
         serves = serves_fine;
         pays = λ old new told what x f. absurd x;

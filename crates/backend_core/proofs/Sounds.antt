@@ -7,6 +7,7 @@ use Rattle.pv_words.specs.declared.grant.GrantRefusal.{GrantRefusal}
 use Rattle.pv_words.specs.declared.grant.Mode.{Mode}
 use Rattle.pv_words.specs.Found.{Found}
 use Rattle.page_directory.specs.Laws as walk
+use Rattle.device_core.specs.Touched.{Touch}
 use Rattle.device_core.specs.Site.{Site}
 use Rattle.device_service.specs.Rows.{Evidence, Tells as SaysBy}
 use Rattle.device_service.specs.Truth.{IsSaid}
@@ -69,8 +70,8 @@ module _ (site : Site) where
       subst (λ (y : Lines). HasAccepted maps true y) (sym x.left) (record { demand = h.0.demand; in_hand = h.0.in_hand; accepted = h.0.accepted; maps_is = h.0.maps_is }, refl)
   stays old new told other maps denied x h = absurd x
 
-  pub answers : (y : Lines) (maps denied : Bool) (status : ℤ) → IsFine y → HasAccepted maps denied y → table.IsStatus y status → IsAnswer denied maps status
-  answers y maps denied status f h x =
+  pub answers : (y : Lines) (touched : List Touch) (maps denied : Bool) (status : ℤ) → IsFine y → HasAccepted maps denied y → table.IsStatus y touched status → IsAnswer denied maps status
+  answers y touched maps denied status f h x =
       let d = h.0.demand in
       let same : x.0 ≡ d = same_Some x.0 d (sym x.1 ∙ h.0.in_hand) in
       let is : IsStatus y.denied y.streams d status = subst (λ (r : Demand). IsStatus y.denied y.streams r status) same x.2 in
@@ -83,7 +84,7 @@ module _ (site : Site) where
         begun = λ y nodes f d e i. none_some d e;
         taken = λ y part words f d e i. false_true i;
         dropped = λ y f d e i. false_true i;
-        replied = λ y n status f. replied_fine y y.demand status f;
+        replied = λ y touched n status f. replied_fine y y.demand status f;
         tells = tells_fine;
         serves = λ old new e told what x f. subst IsFine (sym x.1) f;
         pays = λ old new told what x f. paid_fine old new x.0 what x.2 f;

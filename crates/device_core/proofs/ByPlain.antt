@@ -8,7 +8,7 @@ use Rattle.device_core.specs.Names.{is_worded}
 use Rattle.device_core.specs.Order.{Rules}
 use Rattle.device_core.specs.Touched.{Carried, Touch, carrying, touch_of}
 
-none_touched : (note : Note) (a : Access) → IsUntouched note → touch_of note a ≡ []
+pub none_touched : (note : Note) (a : Access) → IsUntouched note → touch_of note a ≡ []
 none_touched Plain a u = refl
 none_touched (Begins g) a u = refl
 none_touched (Frames g) a u = refl
@@ -51,8 +51,9 @@ module _ {S W O N R E : Type 0} (r : Rules W O) (d : Reading S W O N R E) (May :
         Named = plain.Named;
         EndsWell = EndsWell;
         Tells = Tells;
+        Keeps = λ w ts. Unit {0};
         Meets = λ w want note. IsUntouched note;
-        begins = λ w x p s o. let b = plain.begins w x p s o in (b.0, λ k t. fits_carried x k p t.1 (b.1 k.own t.0));
+        begins = λ w x p s o. let b = plain.begins w x p s o in (b.0, λ k t u. fits_carried x k p t.1 (b.1 k.own t.0));
         begins_run = λ w x p v s t n o. let b = plain.begins_run w x p v.naming v.sight s n o in (
           b.0,
           subst (λ m. IsRun (HappensTo (is_worded v.sight) d.table) (shown r d w v) (d.began w v.naming) m) (untouched x v t.1)
@@ -68,6 +69,9 @@ module _ {S W O N R E : Type 0} (r : Rules W O) (d : Reading S W O N R E) (May :
         meets = λ w n want note s i u. touching w n want note u;
         meets_heard = λ w news want note u. u;
         forgets = λ w k t. (t.0, refl);
+        keeps = λ w o k s q. tt;
+        keeps_rest = λ w v ts e u. tt;
+        keeps_heard = λ w news ts u. tt;
         owes_heard = plain.owes_heard;
         owes_nothing = plain.owes_nothing;
       }

@@ -11,7 +11,7 @@ use Rattle.pv_words.proofs.Keeping.{found_as}
 use Rattle.device_core.specs.Order.{News, Own, Did, Spoke, Rested, Heard, Refused, Others, Order, Act, Either, Rest, Rules, Stand, Between, During, Telling, Station, Offers, is_in_page, picked, work_at, ended, going, begun, gone, told, next, May, MayBegin, MayGoOn, refused_by, owed, followed, follow, MayFollowWith, IsExplained, MayStep, MayChoose, note_of, note_in, note_at, made_by}
 use Rattle.device_core.specs.Names.{Sight, Numbers, Words, all_drawn, is_worded}
 use Rattle.device_core.specs.Machine.{Reading, Snapshot, View, Happening, Meanwhile, HappensTo, IsRun, FindsIn, IsTrueTo, AreTrueTo, Stays, Sound, shown, shown_as, touched_in, row_of, draws, touches, made_of, happens_first, happens_in, happens_told, happens_at, happens_by, happens, named_first, named_told, named_next, named_by, carried_next, view_by, seen_more, sight_next, history}
-use Rattle.device_core.specs.Touched.{Carried, Touch, Took, Put, carrying, forgotten, numbered}
+use Rattle.device_core.specs.Touched.{Carried, Touch, Took, Put, carrying, forgotten, left_by, numbered}
 use Rattle.device_core.proofs.Drawing.{draws_run}
 use Rattle.device_core.proofs.Runs.{run_joins}
 use Rattle.device_core.proofs.Touching.{touches_run}
@@ -99,13 +99,17 @@ module _ {S W O N R E : Type 0} (r : Rules W O) (d : Reading S W O N R E) (Prope
   abbrev MayIn : W → Carried S → Want → Note → Type 0
   MayIn w k want note = Proper k.own want note × sound.Meets w want note
 
+  -- what the work tells of what the accesses made
+  abbrev pub Knows : W → Carried S → Type 0
+  Knows w k = sound.Tells w k × sound.Keeps w k.touched
+
   abbrev Fits : W → Carried S → Plan O → Type 0
   Fits w k p = FitsFrom (MayIn w) (carrying d.carry) (EndsSo w) k p
 
   -- What is known of a stand, and of what the accesses made: what the work knows is true and tells it, and the activity under
   -- way will end as it should.
   abbrev pub IsGood : Stand W O → Carried S → Type 0
-  IsGood (Between w) k = sound.Sane w × sound.Tells w k
+  IsGood (Between w) k = sound.Sane w × Knows w k
   IsGood (During w p) k = sound.Sane w × Fits w k p
   IsGood (Telling s w o) k = sound.Sane w × EndsSo w k o × (r.said_at w o ≡ Some s)
 
@@ -114,18 +118,22 @@ module _ {S W O N R E : Type 0} (r : Rules W O) (d : Reading S W O N R E) (Prope
   IsNamedIn s n = sound.Named (work_at s) n
 
   -- an activity that comes fits, and the names are those of the work that its beginning leaves
-  offered_fits : (w x : W) (p : Plan O) (k : Carried S) → sound.Sane w → sound.Tells w k → Offers (r.choice w) x p → Fits x k p
-  offered_fits w x p k s t i = (sound.begins w x p s i).1 k t
+  offered_fits : (w x : W) (p : Plan O) (k : Carried S) → sound.Sane w → Knows w k → Offers (r.choice w) x p → Fits x k p
+  offered_fits w x p k s t i = (sound.begins w x p s i).1 k t.0 t.1
 
-  pub begins_named : (w x : W) (p : Plan O) (e : Own) (k : Carried S) (n : N) → picked (r.choice w) e ≡ Act x p → sound.Sane w → sound.Tells w k → sound.Named w n → sound.Named x n
+  pub begins_named : (w x : W) (p : Plan O) (e : Own) (k : Carried S) (n : N) → picked (r.choice w) e ≡ Act x p → sound.Sane w → Knows w k → sound.Named w n → sound.Named x n
   begins_named w x p e k n i s t m =
-      (sound.begins_run w x p (record { naming = n; carried = k; sight = Numbers }) s t m (picked_offers (r.choice w) e x p i)).0
+      (sound.begins_run w x p (record { naming = n; carried = k; sight = Numbers }) s t.0 m (picked_offers (r.choice w) e x p i)).0
 
-  pub begins_so : (w x : W) (p : Plan O) (e : Own) (k : Carried S) → picked (r.choice w) e ≡ Act x p → sound.Sane w → sound.Tells w k → sound.Sane x × Fits x k p
-  begins_so w x p e k i s t = let b = sound.begins w x p s (picked_offers (r.choice w) e x p i) in (b.0, b.1 k t)
+  pub begins_so : (w x : W) (p : Plan O) (e : Own) (k : Carried S) → picked (r.choice w) e ≡ Act x p → sound.Sane w → Knows w k → sound.Sane x × Fits x k p
+  begins_so w x p e k i s t = let b = sound.begins w x p s (picked_offers (r.choice w) e x p i) in (b.0, b.1 k t.0 t.1)
+
+  -- what is kept of the words that were touched
+  keeps_told : (w : W) (o : O) (x : Option Said) (k : Carried S) → r.said_at w o ≡ x → sound.Sane w → sound.EndsWell w k o → sound.Keeps (r.settled w o) (left_by x k.touched)
+  keeps_told w o x k e s q = subst (λ (y : Option Said). sound.Keeps (r.settled w o) (left_by y k.touched)) e (sound.keeps w o k s q)
 
   good_ended : (w : W) (o : O) (x : Option Said) (k : Carried S) → r.said_at w o ≡ x → sound.Sane w → EndsSo w k o → IsGood (ended r w o x) k
-  good_ended w o None k e s q = (sound.settles w o k s q.1, q.0)
+  good_ended w o None k e s q = (sound.settles w o k s q.1, (q.0, keeps_told w o None k e s q.1))
   good_ended w o (Some said) k e s q = (s, q, e)
 
   good_going : (w : W) (p : Plan O) (k : Carried S) → sound.Sane w → Fits w k p → IsGood (going r w p) k
@@ -142,16 +150,17 @@ module _ {S W O N R E : Type 0} (r : Rules W O) (d : Reading S W O N R E) (Prope
   good_access w want note more k a s f m =
       good_going w (more (seen_by a)) (carrying d.carry k note a) s (fits_after w want note more k a f m)
 
-  good_begun : (w : W) (c : Order W O) (e : Own) (k : Carried S) → picked (r.choice w) e ≡ c → sound.Sane w → sound.Tells w k → MayBegin r w c e → IsGood (begun r w c e) (carried_next r d (Between w) k e)
+  good_begun : (w : W) (c : Order W O) (e : Own) (k : Carried S) → picked (r.choice w) e ≡ c → sound.Sane w → Knows w k → MayBegin r w c e → IsGood (begun r w c e) (carried_next r d (Between w) k e)
   good_begun w c (Heard news) k e s q m =
-      let hears = sound.hears w news s in (hears.0, hears.1 k q)
+      let hears = sound.hears w news s in (hears.0, (hears.1 k q.0, sound.keeps_heard w news k.touched q.1))
   good_begun w c (Others a) k e s q m = (s, q)
   good_begun w (Act x (Finished o)) (Spoke t) k e s q m =
-      let b = begins_so w x (Finished o) (Spoke t) k e s q in (sound.settles x o k b.0 b.1.1, sound.forgets (r.settled x o) k b.1.0)
+      let b = begins_so w x (Finished o) (Spoke t) k e s q in (sound.settles x o k b.0 b.1.1, (sound.forgets (r.settled x o) k b.1.0, keeps_told x o (Some t) k m b.0 b.1.1))
   good_begun w (Act x (Make want note more)) (Did a) k e s q m =
       let b = begins_so w x (Make want note more) (Did a) k e s q in
       subst (λ (n : Note). IsGood (going r x (more (seen_by a))) (carrying d.carry k n a)) (sym (ap note_in e)) (good_access x want note more k a b.0 b.1 m)
-  good_begun w (Rest x) Rested k e s q m = let b = sound.rests w x s (picked_rests (r.choice w) x e) in (b.0, (b.1 k q).0)
+  good_begun w (Rest x) Rested k e s q m = let i = picked_rests (r.choice w) x e in
+      let b = sound.rests w x s i in (b.0, ((b.1 k q.0).0, sound.keeps_rest w x k.touched i q.1))
   good_begun w c other k e s q m = absurd m
 
   -- what is heard in an activity, or before its event is told, changes nothing that it relies on
@@ -170,7 +179,7 @@ module _ {S W O N R E : Type 0} (r : Rules W O) (d : Reading S W O N R E) (Prope
   good_gone w p other k s f m = absurd m
 
   good_told : (t : Said) (w : W) (o : O) (e : Own) (k : Carried S) → IsGood (Telling t w o) k → May r (Telling t w o) e → IsGood (told r t w o e) (carried_next r d (Telling t w o) k e)
-  good_told t w o (Spoke u) k g m = (sound.settles w o k g.0 g.1.1, sound.forgets (r.settled w o) k g.1.0)
+  good_told t w o (Spoke u) k g m = (sound.settles w o k g.0 g.1.1, (sound.forgets (r.settled w o) k g.1.0, keeps_told w o (Some t) k g.2 g.0 g.1.1))
   good_told t w o (Heard news) k g m = ((sound.hears w news g.0).0, ends_heard w o news k g.1, (sound.hears_end w o news k g.1.1).1 ∙ g.2)
   good_told t w o (Others a) k g m = g
   good_told t w o other k g m = absurd m
@@ -225,7 +234,7 @@ module _ {S W O N R E : Type 0} (r : Rules W O) (d : Reading S W O N R E) (Prope
   shown_going w (Finished o) v s f i = shown_ended w o (r.said_at w o) v refl s f.1 i
   shown_going w (Make want note more) v s f i = refl
 
-  named_begun : (w : W) (c : Order W O) (e : Own) (k : Carried S) (n : N) → picked (r.choice w) e ≡ c → sound.Sane w → sound.Tells w k → sound.Named w n → MayBegin r w c e → IsNamedIn (begun r w c e) (named_first r d n c e)
+  named_begun : (w : W) (c : Order W O) (e : Own) (k : Carried S) (n : N) → picked (r.choice w) e ≡ c → sound.Sane w → Knows w k → sound.Named w n → MayBegin r w c e → IsNamedIn (begun r w c e) (named_first r d n c e)
   named_begun w c (Heard news) k n e s q i m = ((sound.hears w news s).2 n i).0
   named_begun w c (Others a) k n e s q i m = i
   named_begun w (Act x (Finished o)) (Spoke t) k n e s q i m =
@@ -234,7 +243,7 @@ module _ {S W O N R E : Type 0} (r : Rules W O) (d : Reading S W O N R E) (Prope
   named_begun w (Act x (Make want note more)) (Did a) k n e s q i m =
       let b = begins_so w x (Make want note more) (Did a) k e s q in
       named_going x (more (seen_by a)) (carrying d.carry k note a) n b.0 (fits_after x want note more k a b.1 m) (begins_named w x (Make want note more) (Did a) k n e s q i)
-  named_begun w (Rest x) Rested k n e s q i m = (((sound.rests w x s (picked_rests (r.choice w) x e)).1 k q).1 n i).0
+  named_begun w (Rest x) Rested k n e s q i m = (((sound.rests w x s (picked_rests (r.choice w) x e)).1 k q.0).1 n i).0
   named_begun w c other k n e s q i m = absurd m
 
   named_gone : (w : W) (p : Plan O) (e : Own) (k : Carried S) (n : N) → sound.Sane w → Fits w k p → sound.Named w n → MayGoOn r w p e → IsNamedIn (gone r w p e) n
@@ -311,21 +320,21 @@ module _ {S W O N R E : Type 0} (r : Rules W O) (d : Reading S W O N R E) (Prope
         (draws_shown r d worded w v.naming (touched_in r d w v.naming ts) v.sight a)
         (touches_run r d worded w v.naming v.sight ts want note a is t m (sound.meets w v.naming want note s i f.0.1)))
 
-    run_begun : (w : W) (c : Order W O) (e : Own) (v : View S N) → is_worded v.sight ≡ worded → IsTrueTo v.sight e → picked (r.choice w) e ≡ c → sound.Sane w → sound.Tells w v.carried → sound.Named w v.naming → MayBegin r w c e → Leads (shown r d w v) (happens_first r d w v c e) (shown_by r d (begun r w c e) (owed r (Between w) e) (view_first v c e))
+    run_begun : (w : W) (c : Order W O) (e : Own) (v : View S N) → is_worded v.sight ≡ worded → IsTrueTo v.sight e → picked (r.choice w) e ≡ c → sound.Sane w → Knows w v.carried → sound.Named w v.naming → MayBegin r w c e → Leads (shown r d w v) (happens_first r d w v c e) (shown_by r d (begun r w c e) (owed r (Between w) e) (view_first v c e))
     run_begun w c (Heard news) v is t e s q i m = heard_run w news v s i
     run_begun w c (Others a) v is t e s q i m = draws_shown r d worded w v.naming (touched_in r d w v.naming v.carried.touched) v.sight a
     run_begun w (Act x (Finished o)) (Spoke u) v is t e s q i m =
         let b = begins_so w x (Finished o) (Spoke u) v.carried e s q in
-        let k = sound.begins_run w x (Finished o) v s q i (picked_offers (r.choice w) (Spoke u) x (Finished o) e) in
+        let k = sound.begins_run w x (Finished o) v s q.0 i (picked_offers (r.choice w) (Spoke u) x (Finished o) e) in
         run_joins (HappensTo worded d.table) (shown r d w v) (shown r d x v) (shown_as r d (r.settled x o) (d.named x o v.naming) v.sight []) (d.began w v.naming) (row_of r d x o u v ∷ [])
         (subst (λ b. IsRun (HappensTo b d.table) (shown r d w v) (d.began w v.naming) (shown r d x v)) is k.1) (tells_run x o u v b.0 b.1.1 k.0 m)
     run_begun w (Act x (Make want note more)) (Did a) v is t e s q i m =
         let b = begins_so w x (Make want note more) (Did a) v.carried e s q in
-        let k = sound.begins_run w x (Make want note more) v s q i (picked_offers (r.choice w) (Did a) x (Make want note more) e) in
+        let k = sound.begins_run w x (Make want note more) v s q.0 i (picked_offers (r.choice w) (Did a) x (Make want note more) e) in
         run_joins (HappensTo worded d.table) (shown r d w v) (shown r d x v) (shown_by r d (going r x (more (seen_by a))) None (seen_after r d v note a)) (d.began w v.naming) (made_of r d x v note a)
         (subst (λ b. IsRun (HappensTo b d.table) (shown r d w v) (d.began w v.naming) (shown r d x v)) is k.1)
         (access_run x want note more v a is t b.0 b.1 m k.0)
-    run_begun w (Rest x) Rested v is t e s q i m = sym (stays_shown r d w x v (((sound.rests w x s (picked_rests (r.choice w) x e)).1 v.carried q).1 v.naming i).1)
+    run_begun w (Rest x) Rested v is t e s q i m = sym (stays_shown r d w x v (((sound.rests w x s (picked_rests (r.choice w) x e)).1 v.carried q.0).1 v.naming i).1)
     run_begun w c other v is t e s q i m = absurd m
 
     run_gone : (w : W) (p : Plan O) (e : Own) (v : View S N) → is_worded v.sight ≡ worded → IsTrueTo v.sight e → sound.Sane w → Fits w v.carried p → sound.Named w v.naming → MayGoOn r w p e → Leads (shown r d w v) (happens_in r d w p v e) (shown_by r d (gone r w p e) (owed r (During w p) e) (view_by r d (During w p) None v e))
@@ -365,7 +374,7 @@ module _ {S W O N R E : Type 0} (r : Rules W O) (d : Reading S W O N R E) (Prope
         (happens r d p v e) (history r d (followed r p e) later es) (run_follow p.stand p.owes e v is t.0 g i x.0)
         (run_after (followed r p e) es later (worded_next r d v.sight e ∙ is) t.1 (good_follow p.stand p.owes e v.carried g x.0) (named_follow p.stand p.owes e v.carried v.naming g i x.0) x.1)
 
-  proper_begun : (w : W) (c : Order W O) (a : Access) (k : Carried S) → picked (r.choice w) (Did a) ≡ c → sound.Sane w → sound.Tells w k → MayBegin r w c (Did a) → Proper k.own (wanted a) (note_in c)
+  proper_begun : (w : W) (c : Order W O) (a : Access) (k : Carried S) → picked (r.choice w) (Did a) ≡ c → sound.Sane w → Knows w k → MayBegin r w c (Did a) → Proper k.own (wanted a) (note_in c)
   proper_begun w (Act x (Finished o)) a k e s q m = absurd m
   proper_begun w (Act x (Make want note more)) a k e s q m =
       let b = begins_so w x (Make want note more) (Did a) k e s q in subst (λ y. Proper k.own y note) (sym m) b.1.0.0
@@ -401,7 +410,7 @@ module _ {S W O N R E : Type 0} (r : Rules W O) (d : Reading S W O N R E) (Prope
   may_go may k all w (Make want note more) f = all want note f.0.0
 
   -- the next access may be made where each proper one may be
-  may_chosen : (may : Want → Type 0) (k : Carried S) → ((want : Want) (note : Note) → Proper k.own want note → may want) → (w : W) (c : Order W O) → r.choice w ≡ c → sound.Sane w → sound.Tells w k → MayChoose may c
+  may_chosen : (may : Want → Type 0) (k : Carried S) → ((want : Want) (note : Note) → Proper k.own want note → may want) → (w : W) (c : Order W O) → r.choice w ≡ c → sound.Sane w → Knows w k → MayChoose may c
   may_chosen may k all w (Act x p) e s q = may_go may k all x p (offered_fits w x p k s q (subst (λ c. Offers c x p) (sym e) (refl, refl)))
   may_chosen may k all w (Either x p u y) e s q =
       (may_go may k all x p (offered_fits w x p k s q (subst (λ c. Offers c x p) (sym e) (inl (refl, refl)))), may_go may k all u y (offered_fits w u y k s q (subst (λ c. Offers c u y) (sym e) (inr (refl, refl)))))

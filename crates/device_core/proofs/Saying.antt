@@ -10,14 +10,14 @@ use Rattle.device_core.specs.Learned.{found_next}
 use Rattle.device_core.specs.Machine.{Reading, Sound, carried_next, named_by}
 use Rattle.device_core.specs.Order.{Own, Did, Spoke, Rested, Heard, Refused, Others, Order, Act, Rules, Stand, Between, During, Telling, Station, picked, followed, note_at, May, MayBegin, MayFollowWith, IsExplained}
 use Rattle.device_core.specs.Touched.{Carried}
-use Rattle.device_core.proofs.MachineRun.{IsGood, IsNamedIn, begins_named, begins_so, good_follow, named_follow}
+use Rattle.device_core.proofs.MachineRun.{IsGood, IsNamedIn, Knows, begins_named, begins_so, good_follow, named_follow}
 
 abbrev pub IsUnspoken : Own → Type 0
 IsUnspoken (Spoke t) = ⊥
 IsUnspoken other = Unit {0}
 
 module _ {S W O N R E : Type 0} (r : Rules W O) (d : Reading S W O N R E) (Proper : S → Want → Note → Type 0) (sound : Sound r d Proper) (tell : S → Found) (same : (k : S) (note : Note) (a : Access) → tell (d.carry k note a) ≡ finding (tell k) a) (P : Found → Own → Type 0) (so : (w : W) (o : O) (k : Carried S) (t : Said) (n : N) → sound.Sane w → sound.EndsWell w k o → sound.Named w n → r.said_at w o ≡ Some t → P (tell k.own) (Spoke t)) (else : (f : Found) (e : Own) → IsUnspoken e → P f e) where
-  begun_so : (w : W) (c : Order W O) (t : Said) (k : Carried S) (n : N) → picked (r.choice w) (Spoke t) ≡ c → sound.Sane w → sound.Tells w k → sound.Named w n → MayBegin r w c (Spoke t) → P (tell k.own) (Spoke t)
+  begun_so : (w : W) (c : Order W O) (t : Said) (k : Carried S) (n : N) → picked (r.choice w) (Spoke t) ≡ c → sound.Sane w → Knows r d Proper sound w k → sound.Named w n → MayBegin r w c (Spoke t) → P (tell k.own) (Spoke t)
   begun_so w (Act x (Finished o)) t k n e s q i m =
       let b = begins_so r d Proper sound w x (Finished o) (Spoke t) k e s q in
       so x o k t n b.0 b.1.1 (begins_named r d Proper sound w x (Finished o) (Spoke t) k n e s q i) m

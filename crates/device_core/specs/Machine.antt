@@ -9,7 +9,7 @@ use Rattle.pv_words.specs.Memory.{Finds, written}
 use Rattle.pv_words.specs.Plan.{Plan, Finished, Make, Want, Load, Store, Note, Takes, Puts, FitsFrom, IsUntouched}
 use Rattle.device_core.specs.Names.{Name, Drawn, Sight, Numbers, Words, Stroke, HasWord, Redraws, Loses, is_worded, words_in, all_drawn, writing_of, strokes_by, with_name}
 use Rattle.device_core.specs.Order.{News, Own, Did, Spoke, Heard, Refused, Others, Order, Act, Rest, Rules, Stand, Between, During, Telling, Station, Offers, followed, picked, refused_by, note_at, note_of}
-use Rattle.device_core.specs.Touched.{Touch, Carried, carrying, forgotten, numbered, stroke_of, touch_of}
+use Rattle.device_core.specs.Touched.{Touch, Carried, carrying, forgotten, left_by, numbered, stroke_of, touch_of}
 
 -- a table of rows: which happening leads from which rows to which, by the words that were taken and put since the last one; the
 -- number of the name that it makes, if it does; and the refusal that it leaves owed, if it is an event of the host that is refused
@@ -291,9 +291,11 @@ pub record Sound {S W O N R E : Type 0} (r : Rules W O) (d : Reading S W O N R E
   pub EndsWell : W → Carried S → O → Type 0
   -- what the work tells of what the accesses made
   pub Tells : W → Carried S → Type 0
+  -- between two activities, what it tells of the words of names that were touched since something was last said
+  pub Keeps : W → List Touch → Type 0
   -- a word of a name is touched as the work allows
   pub Meets : W → Want → Note → Type 0
-  pub begins : (w v : W) (p : Plan O) → Sane w → Offers (r.choice w) v p → Sane v × ((k : Carried S) → Tells w k → FitsWell r d.carry May Meets Tells EndsWell v k p)
+  pub begins : (w v : W) (p : Plan O) → Sane w → Offers (r.choice w) v p → Sane v × ((k : Carried S) → Tells w k → Keeps w k.touched → FitsWell r d.carry May Meets Tells EndsWell v k p)
   pub begins_run : (w v : W) (p : Plan O) (view : View S N) → Sane w → Tells w view.carried → Named w view.naming → Offers (r.choice w) v p → Named v view.naming × IsRun (HappensTo (is_worded view.sight) d.table) (shown r d w view) (d.began w view.naming) (shown r d v view)
   pub settles : (w : W) (o : O) (k : Carried S) → Sane w → EndsWell w k o → Sane (r.settled w o)
   pub rests : (w v : W) → Sane w → r.choice w ≡ Rest v → Sane v × ((k : Carried S) → Tells w k → Tells v k × ((n : N) → Named w n → Named v n × Stays r d w v n k.touched))
@@ -305,6 +307,9 @@ pub record Sound {S W O N R E : Type 0} (r : Rules W O) (d : Reading S W O N R E
   pub meets : (w : W) (n : N) (want : Want) (note : Note) → Sane w → Named w n → Meets w want note → IsTouching d w n want note
   pub meets_heard : (w : W) (news : News) (want : Want) (note : Note) → Meets w want note → Meets (r.heard w news) want note
   pub forgets : (w : W) (k : Carried S) → Tells w k → Tells w (forgotten k)
+  pub keeps : (w : W) (o : O) (k : Carried S) → Sane w → EndsWell w k o → Keeps (r.settled w o) (left_by (r.said_at w o) k.touched)
+  pub keeps_rest : (w v : W) (ts : List Touch) → r.choice w ≡ Rest v → Keeps w ts → Keeps v ts
+  pub keeps_heard : (w : W) (news : News) (ts : List Touch) → Keeps w ts → Keeps (r.heard w news) ts
   -- a refusal is owed exactly where the work refuses an event of the host
   pub owes_heard : (w : W) (n : N) (news : News) → d.table.owes (d.rows w n) (d.heard news) ≡ refused_by r w news
   pub owes_nothing : (x : R) (w : W) (o : O) (s : S) (t : Said) → d.table.owes x (d.event w o s t) ≡ None

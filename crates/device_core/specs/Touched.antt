@@ -1,7 +1,8 @@
 -- The words of names that a device's own accesses take and put, and what else its accesses made.
-use Rattle.std.specs.Prelude.{ℕ, List, [], ◌∷◌, ◌++◌}
+use Rattle.std.specs.Prelude.{ℕ, List, [], ◌∷◌, ◌++◌, Option, Some, None}
 use Rattle.pv_words.specs.declared.access.Access.{Access}
 use Rattle.pv_words.specs.declared.access.Access.TheVariants as access
+use Rattle.pv_words.specs.declared.device.Said.{Said}
 use Rattle.pv_words.specs.Plan.{Note, Takes, Puts}
 use Rattle.device_core.specs.Names.{Stroke}
 
@@ -44,3 +45,8 @@ carrying carry k note a = record { own = carry k.own note a; touched = k.touched
 -- after something is said
 abbrev pub forgotten : {S : Type 0} → Carried S → Carried S
 forgotten k = record { own = k.own; touched = [] }
+
+-- what was touched since something was last said, after an activity's end, where this is said of it
+abbrev pub left_by : Option Said → List Touch → List Touch
+left_by None touched = touched
+left_by (Some what) touched = []

@@ -53,7 +53,7 @@ keeps_laws frames grants dom parts =
       ends_told = λ x f ts a m what q has e n s. absurd e;
       ends_quiet = λ x f ts a m q has e n s. absurd e;
       answers = λ x q has is. (tt, refl, λ k. refl);
-      answers_shows = λ x n m q has is named. (tt, refl, refl, λ sight. refl);
+      answers_shows = λ x n m ts q has is touched named. (tt, refl, refl, λ sight. refl);
       serves = λ x e p q has is. absurd e;
       served = λ x e f ts a q has ends. absurd e;
       served_told = λ x e f ts a m what q has ends n s. absurd e;
@@ -68,4 +68,7 @@ keeps_laws frames grants dom parts =
       full_ends = λ x o q owes. refl;
       meets_plain = λ x want note u. u;
       meets = λ x m want note q n u. meets x m want note u;
+      takes_touched = λ x part words. tt;
+      starves_touched = λ x y ts wants u. tt;
+      ends_touched = λ x f ts a q has e. tt;
     }

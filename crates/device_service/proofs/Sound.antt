@@ -32,9 +32,9 @@ use Rattle.device_service.proofs.Soundness.Connect.{fits_all, found_all}
 use Rattle.device_service.proofs.Soundness.Plans.{Fit}
 use Rattle.device_service.proofs.Soundness.Same.{none_same}
 use Rattle.device_service.proofs.Soundness.Serves.{begins_raising, begins_with_hand}
-use Rattle.device_service.proofs.Soundness.Settles.{no_reason, rests, settles}
+use Rattle.device_service.proofs.Soundness.Settles.{no_reason, rests, settles, keeps, rests_touched}
 use Rattle.device_service.proofs.Soundness.Tells.{quiet, tells}
-use Rattle.device_service.proofs.Soundness.Work.{Lawful, held_pages, TellsHeld, IsKept, Tells, site, learned, IsNamed, IsBare, IsDue, IsSane, EndsSo, EndsWell, bare_unless, hears_move, hears_owed, hears_said, hears_sane, hears_told, hears_well}
+use Rattle.device_service.proofs.Soundness.Work.{Lawful, held_pages, TellsHeld, IsKept, Tells, site, learned, IsNamed, IsBare, IsDue, IsSane, EndsSo, EndsWell, bare_unless, hears_move, hears_owed, hears_said, hears_sane, hears_told, hears_well, KeepsSo, hears_kept}
 
 none_in : {A : Type 0} (x : Option A) → is_some x ≡ false → x ≡ None
 none_in None e = refl
@@ -73,7 +73,7 @@ module _ {X A V Y M : Type 0} (D : Lawful X A V Y M) where
         let plan_by : Kind → Plan (End A V) = λ k. connect_all (site D) (first_fault w.seen (needs_of k (site D))) (refs_from k w.seen 0 parts) in
         let found = first_fault w.seen (needs_of t.kind (site D)) in
         let plan = plan_by t.kind in
-        let fits = λ (k : Carried Learned) (e : Tells s w k).
+        let fits = λ (k : Carried Learned) (e : Tells s w k) (u : KeepsSo D w k.touched).
         plain_fits D new k plan (subst (λ (x : Holds). Fit frames grants dom (EndsSo D new) x plan) (sym (bare_pages bare k.own.holds e.0)) (fits_all D new sane refl still bare.1 found refl)) (found_all D new refl none found k.own.found refl) in
         chosen D w v new p plan (λ n. begins_by s t r w n action.Connect)
         (sane, fits, (λ n sight ts named. (named, (shown_of D new n sight ts, record { free = refl; move = ((still, a), refl); names = refl; touched = refl; owes = refl }, refl)))) (subst (λ k. Offers (Act new (plan_by k)) v p) l.kind_is o)
@@ -90,7 +90,7 @@ module _ {X A V Y M : Type 0} (D : Lawful X A V Y M) where
     begins_action action.Renew still none a o =
         let again = renews_again w.connection.back w.connection a in
         let bare = bare_unless D w q (λ serving. let wrong : ⊥ = closed_apart w.connection.back again.0 serving.0 in wrong) in
-        chosen D w v w p (Finished Renewed) (λ n. []) (same_work D w v p q (Finished Renewed) (λ k e. ((told_bare bare state.InitWait k.own.holds e.0, e.1), ((still, again.0, again.1, none), tt)))) o
+        chosen D w v w p (Finished Renewed) (λ n. []) (same_work D w v p q (Finished Renewed) (λ k e u. ((told_bare bare state.InitWait k.own.holds e.0, e.1), ((still, again.0, again.1, none), tt)))) o
     begins_action action.Stay still none a o = begins_in w.connection.back none refl still o
 
     -- an event that is owed
@@ -115,7 +115,7 @@ module _ {X A V Y M : Type 0} (D : Lawful X A V Y M) where
     unfolding settled
     begins_closing true is o =
         let bare = bare_unless D w q (λ serving. true≢false (sym is ∙ serving.1)) in
-        chosen D w v w p (Finished Left) (λ n. []) (same_work D w v p q (Finished Left) (λ k e. ((told_bare bare state.Closed k.own.holds e.0, e.1), (is, tt)))) o
+        chosen D w v w p (Finished Left) (λ n. []) (same_work D w v p q (Finished Left) (λ k e u. ((told_bare bare state.Closed k.own.holds e.0, e.1), (is, tt)))) o
     begins_closing false is o = begins_kept w.kept is refl o
 
     begins : Offers (choice s (site D) w) v p → BeginsSo D w v p (λ n. begins_of s t r w n w.closing)
@@ -147,6 +147,7 @@ module _ {X A V Y M : Type 0} (D : Lawful X A V Y M) where
         Named = IsNamed D;
         EndsWell = EndsWell D;
         Tells = Tells s;
+        Keeps = KeepsSo D;
         Meets = λ w want note. known.Meets w.service want note;
         begins = λ w v p q o. let b = begins w v p q o in (b.0, b.1);
         begins_run = λ w v p view q e named o. (begins w v p q o).2 view.naming view.sight view.carried.touched named;
@@ -159,6 +160,9 @@ module _ {X A V Y M : Type 0} (D : Lawful X A V Y M) where
         meets = λ w n want note q named u. meets w n want note (l.meets w.service n.service want note q.sane named u);
         meets_heard = meets_heard;
         forgets = λ w k e. e;
+        keeps = λ w o k q e. keeps D w o k q e;
+        keeps_rest = λ w v ts e u. rests_touched D w v ts e u;
+        keeps_heard = λ w news ts u. hears_kept D w news ts u;
         owes_heard = λ w n news. hears_owed D w n news;
         owes_nothing = λ x w o f what. refl;
       }
@@ -168,13 +172,13 @@ module _ {X A V Y M : Type 0} (D : Lawful X A V Y M) where
   first_carried = record { own = learned_of []; touched = [] }
 
   -- its work is sane, and it has no names
-  pub first_good : (x : X) → IsFresh s x → sound.Sane (first_work x) × sound.Tells (first_work x) first_carried × sound.Named (first_work x) (first_naming s t r)
+  pub first_good : (x : X) → IsFresh s x → sound.Sane (first_work x) × (sound.Tells (first_work x) first_carried × sound.Keeps (first_work x) []) × sound.Named (first_work x) (first_naming s t r)
   unfolding sound
   first_good x fresh =
       let b = l.begun_sane x no_nodes in
       let bare : s.pages x ≡ [] = ap s.pages (sym fresh) ∙ b.2 in (
         record { own = tt; whole = inl refl; sane = subst known.Sane fresh b.0; opened = inl (refl, bare); kept = λ why e. let wrong : ⊥ = cc in absurd wrong },
-        ((refl, (λ k. ap (λ hs. times k (hs ++ [])) (sym bare))), λ why e. let wrong : ⊥ = cc in absurd wrong),
+        (((refl, (λ k. ap (λ hs. times k (hs ++ [])) (sym bare))), λ why e. let wrong : ⊥ = cc in absurd wrong), λ h e. let wrong : ⊥ = cc in absurd wrong),
         subst (λ (y : X). known.Named y r.unnamed) fresh (l.begun_named x no_nodes),
       )
 
@@ -185,7 +189,7 @@ module _ {X A V Y M : Type 0} (D : Lawful X A V Y M) where
   -- of which this is what is held, between two activities, and while one is under way
   pub tells_between : (w : Work X V) (k : Carried Learned) → Good (Between w) k → IsSane D w × TellsHeld s w k.own.holds
   unfolding sound
-  tells_between w k g = (g.0, g.1.0)
+  tells_between w k g = (g.0, g.1.0.0)
 
   holds_fit : (w : Work X V) (k : Carried Learned) (p : Plan (End A V)) → FitsFrom (λ (j : Carried Learned) want note. Lies j.own want note × known.Meets w.service want note) (carrying (learning frames)) (λ j o. Tells s (settled s (site D) w o) j × EndsWell D w j o) k p → Fit frames grants dom (EndsSo D w) k.own.holds p
   holds_fit w k (Finished o) f = (f.0.0, f.1.0)

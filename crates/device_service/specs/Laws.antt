@@ -15,7 +15,7 @@ use Rattle.link_core.specs.Laws.{AreOf}
 use Rattle.device_core.specs.Learned.{Learned, learning}
 use Rattle.device_core.specs.Names.{Name, Drawn, Sight, Loses, all_drawn, words_in, with_name}
 use Rattle.device_core.specs.Site.{Site}
-use Rattle.device_core.specs.Touched.{Carried, Touch, carrying, numbered}
+use Rattle.device_core.specs.Touched.{Carried, Touch, carrying, left_by, numbered}
 use Rattle.device_service.specs.Reading.{Shows}
 use Rattle.device_service.specs.Rows.{Table, Evidence, made_if}
 use Rattle.device_service.specs.Service.{Job, Works, Starves, Owed, Runs, Raises, Service}
@@ -73,8 +73,11 @@ module _ {X Y M : Type 0} (r : Shows X Y M) where
   IsTouching x m want other = Unit {0}
 
   -- what the device's accesses told, with the numbers of the names in place of the keys by which the service knows them
+  abbrev pub touched_by : X → M → List Touch → List Touch
+  touched_by x m ts = map (numbered (r.number x m)) ts
+
   abbrev pub evidence : X → M → List Touch → Found → Evidence
-  evidence x m ts f = record { touched = map (numbered (r.number x m)) ts; found = f }
+  evidence x m ts f = record { touched = touched_by x m ts; found = f }
 
   -- each name has the same number
   abbrev pub SameNumbers : X → X → M → Type 0
@@ -88,16 +91,16 @@ module _ {X Y M : Type 0} (r : Shows X Y M) where
     pub numbers : SameNumbers x y m
 
 -- An activity of the service keeps to its grants, whatever else is held beside its pages, and touches words of names as it may; it
--- leaves just the pages of the service then, and what else was held.
-abbrev pub FitsBeside : {X A V : Type 0} → Service X A V → (frames grants : ℕ → ℕ) → (dom : ℕ) → (X → Want → Note → Type 0) → (X → Found → List Touch → A → Type 0) → X → X → Plan A → Type 0
-FitsBeside s frames grants dom Meets Ends x y p =
-    (rest : List Hold) (k : Carried Learned) → AreHeld k.own.holds (s.pages x ++ rest)
+-- leaves just the pages of the service then, and what else was held. `Was` says which words were touched before.
+abbrev pub FitsBeside : {X A V : Type 0} → Service X A V → (frames grants : ℕ → ℕ) → (dom : ℕ) → (X → Want → Note → Type 0) → (List Touch → Type 0) → (X → Found → List Touch → A → Type 0) → X → X → Plan A → Type 0
+FitsBeside s frames grants dom Meets Was Ends x y p =
+    (rest : List Hold) (k : Carried Learned) → AreHeld k.own.holds (s.pages x ++ rest) → Was k.touched
     → FitsFrom (λ j want note. IsProper frames grants dom j.own.holds want note × Meets y want note) (carrying (learning frames))
     (λ j a. AreHeld j.own.holds (s.pages (s.after y a) ++ rest) × Ends y j.own.found j.touched a) k p
 
 -- What is known of a service: what is always true of what it knows, and while its device serves, with a request in hand or without;
 -- that the numbers of the names are those of what it knows; how its activities end, of the request in hand, and of an event that
--- waited; and how they touch words of names.
+-- waited; how they touch words of names; and which words were touched for the request in hand, since it came.
 pub record Facts (X A V M : Type 0) : Type 1 where
   pub Sane : X → Type 0
   pub Has : Bool → X → Type 0
@@ -105,6 +108,7 @@ pub record Facts (X A V M : Type 0) : Type 1 where
   pub EndsOwn : X → Found → List Touch → A → Type 0
   pub EndsDone : V → X → Found → List Touch → A → Type 0
   pub Meets : X → Want → Note → Type 0
+  pub Touched : X → List Touch → Type 0
 
 pub record Laws {X A V Y M : Type 0} (s : Service X A V) (t : Table Y V) (r : Shows X Y M) (known : Facts X A V M) (site : Site) (frames grants : ℕ → ℕ) : Type 0 where
   -- 1. its nodes and the host's events are those of the machine
@@ -145,7 +149,7 @@ pub record Laws {X A V Y M : Type 0} (s : Service X A V) (t : Table Y V) (r : Sh
   -- 6. what it leads to
   pub begins :
       (x y : X) (p : Plan A) → known.Sane x → known.Has true x → s.ready x ≡ false → Leads (s.job site x) y p
-      → known.Sane y × known.Has true y × FitsBeside s frames grants site.dom known.Meets known.EndsOwn x y p
+      → known.Sane y × known.Has true y × FitsBeside s frames grants site.dom known.Meets (known.Touched x) known.EndsOwn x y p
   pub begins_shows :
       (x y : X) (p : Plan A) (m : M) → known.Sane x → known.Has true x → s.ready x ≡ false → Leads (s.job site x) y p
       → known.Named x m → known.Named y m × (r.rows y m ≡ r.rows x m) × SameNumbers r x y m
@@ -176,14 +180,15 @@ pub record Laws {X A V Y M : Type 0} (s : Service X A V) (t : Table Y V) (r : Sh
       (x : X) → known.Sane x → known.Has true x → s.ready x ≡ true
       → known.Sane (s.answered x) × known.Has false (s.answered x) × AreSame (s.pages x) (s.pages (s.answered x))
   pub answers_shows :
-      (x : X) (n : ℕ) (m : M) → known.Sane x → known.Has true x → s.ready x ≡ true → known.Named x m
-      → known.Named (s.answered x) (r.named x n m) × t.IsStatus (r.rows x m) (s.status x)
-      × (r.rows (s.answered x) (r.named x n m) ≡ t.replied (r.rows x m) n (s.status x))
+      (x : X) (n : ℕ) (m : M) (ts : List Touch) → known.Sane x → known.Has true x → s.ready x ≡ true → known.Touched x ts
+      → known.Named x m
+      → known.Named (s.answered x) (r.named x n m) × t.IsStatus (r.rows x m) (touched_by r x m ts) (s.status x)
+      × (r.rows (s.answered x) (r.named x n m) ≡ t.replied (r.rows x m) (touched_by r x m ts) n (s.status x))
       × ((sight : Sight) → all_drawn sight (r.names (s.answered x) (r.named x n m)) ≡ with_name (all_drawn sight (r.names x m)) (made_if (t.makes (r.rows x m) (s.status x)) n) (words_in sight (r.made x)))
   -- 9. an event that waited: its activity always says something
   pub serves :
       (x : X) (e : V) (p : Plan A) → known.Sane x → known.Has false x → s.event x e ≡ Runs p
-      → FitsBeside s frames grants site.dom known.Meets (known.EndsDone e) x x p
+      → FitsBeside s frames grants site.dom known.Meets (λ ts. Unit {0}) (known.EndsDone e) x x p
   pub served :
       (x : X) (e : V) (f : Found) (ts : List Touch) (a : A) → known.Sane x → known.Has false x → known.EndsDone e x f ts a
       → known.Sane (s.after x a) × known.Has false (s.after x a)
@@ -218,3 +223,10 @@ pub record Laws {X A V Y M : Type 0} (s : Service X A V) (t : Table Y V) (r : Sh
   pub meets :
       (x : X) (m : M) (want : Want) (note : Note) → known.Sane x → known.Named x m → known.Meets x want note
       → IsTouching r x m want note
+  -- 12. which words were touched for the request in hand: none where it comes, and those of its activity, unless something is said at
+  -- the activity's end
+  pub takes_touched : (x : X) (part : ℕ) (words : List ℕ) → known.Touched (s.taken x part words) []
+  pub starves_touched : (x y : X) (ts : List Touch) → WantsFor (s.job site x) y → known.Touched x ts → known.Touched y ts
+  pub ends_touched :
+      (x : X) (f : Found) (ts : List Touch) (a : A) → known.Sane x → known.Has true x → known.EndsOwn x f ts a
+      → known.Touched (s.after x a) (left_by (s.says x a) ts)

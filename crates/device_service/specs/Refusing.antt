@@ -55,8 +55,8 @@ refused =
       Tells = λ site old told what new. ⊥;
       Serves = λ site old e told what new. ⊥;
       Pays = λ site old told what new. ⊥;
-      IsStatus = λ y status. status ≡ not_supported;
-      replied = λ y n status. tt;
+      IsStatus = λ y touched status. status ≡ not_supported;
+      replied = λ y touched n status. tt;
       makes = λ y status. false;
       waits = λ e. None;
       refusal = λ b vs e. refusal_of b vs;
@@ -75,4 +75,5 @@ facts =
       EndsOwn = λ x f ts a. ⊥;
       EndsDone = λ e x f ts a. ⊥;
       Meets = λ x want note. IsUntouched note;
+      Touched = λ x ts. Unit {0};
     }

@@ -45,9 +45,10 @@ pub record Table (Y V : Type 0) : Type 1 where
   pub Tells : Site → Y → Evidence → Said → Y → Type 0
   pub Serves : Site → Y → V → Evidence → Said → Y → Type 0
   pub Pays : Site → Y → Evidence → Said → Y → Type 0
-  -- a status that answers the request in hand, what the reply of this number makes of the rows, and whether it makes a name
-  pub IsStatus : Y → ℤ → Type 0
-  pub replied : Y → ℕ → ℤ → Y
+  -- a status that answers the request in hand, and what the reply of this number makes of the rows, by the words of names that were
+  -- taken and put since the request came; and whether it makes a name
+  pub IsStatus : Y → List Touch → ℤ → Type 0
+  pub replied : Y → List Touch → ℕ → ℤ → Y
   pub makes : Y → ℤ → Bool
   -- which events of the host wait, and why one is refused
   pub waits : HostEvent → Option V
@@ -117,13 +118,13 @@ module _ {Y V : Type 0} (t : Table Y V) where
     pub none : old.hand ≡ None
     pub taken : new ≡ record old { hand = Some (hand_in part words); service = t.taken old.service part words }
 
-  -- the request in hand is answered
-  pub record Replies (old : Rows Y V) (part id : ℕ) (status : ℤ) (new : Rows Y V) : Type 0 where
+  -- the request in hand is answered, by the words of names that were taken and put for it
+  pub record Replies (old : Rows Y V) (touched : List Touch) (part id : ℕ) (status : ℤ) (new : Rows Y V) : Type 0 where
     pub serving : IsServing old
     pub op : ℕ
     pub in_hand : old.hand ≡ Some (record { part = part; id = id; op = op })
-    pub status_is : t.IsStatus old.service status
-    pub done : new ≡ record old { hand = None; replies = suc old.replies; service = t.replied old.service old.replies status }
+    pub status_is : t.IsStatus old.service touched status
+    pub done : new ≡ record old { hand = None; replies = suc old.replies; service = t.replied old.service touched old.replies status }
 
   -- what is said of the request in hand before its answer
   pub record Own (site : Site) (old : Rows Y V) (told : Evidence) (what : Said) (new : Rows Y V) : Type 0 where
@@ -155,7 +156,7 @@ module _ {Y V : Type 0} (t : Table Y V) where
 
   abbrev pub Tells : Site → Rows Y V → Evidence → Said → List ℕ → Rows Y V → Type 0
   Tells site old told (said.Request part id op) taken new = Requests site old part id op taken new
-  Tells site old told (said.Replied part id status notified) taken new = Replies old part id status new
+  Tells site old told (said.Replied part id status notified) taken new = Replies old told.touched part id status new
   Tells site old told (said.Closed why) taken new = Closes site old told.found why new
   Tells site old told (said.State b) taken new = Enters site old b new
   Tells site old told other taken new = Own site old told other new ⊎ (Served site old told other new ⊎ Paid site old told other new)

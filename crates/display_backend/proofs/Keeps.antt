@@ -205,7 +205,7 @@ module _ (frames grants : ℕ → ℕ) (dom parts : ℕ) where
       let a = is_accepted (status_in p (verdict st.buffers sc q.asked)) in
       (answered_sane st sc q p s is, (refl, (refl, answer_none st q.asked a is.0)), answer_same st q.asked a s.1.distinct is.0)
 
-  answers_shows : (st : Stock) (sc : Scene) (o : Option Request) (p : Progress) (n : ℕ) (m : List ℕ) → IsSane (known st sc o p) → HasCome true (known st sc o p) → display.ready (known st sc o p) ≡ true → IsNamed (known st sc o p) m → IsNamed (display.answered (known st sc o p)) (shows.named (known st sc o p) n m) × table.IsStatus (shows.rows (known st sc o p) m) (display.status (known st sc o p)) × (shows.rows (display.answered (known st sc o p)) (shows.named (known st sc o p) n m) ≡ table.replied (shows.rows (known st sc o p) m) n (display.status (known st sc o p))) × ((sight : Sight) → all_drawn sight (shows.names (display.answered (known st sc o p)) (shows.named (known st sc o p) n m)) ≡ with_name (all_drawn sight (shows.names (known st sc o p) m)) (made_if (table.makes (shows.rows (known st sc o p) m) (display.status (known st sc o p))) n) (words_in sight (shows.made (known st sc o p))))
+  answers_shows : (st : Stock) (sc : Scene) (o : Option Request) (p : Progress) (n : ℕ) (m : List ℕ) → IsSane (known st sc o p) → HasCome true (known st sc o p) → display.ready (known st sc o p) ≡ true → IsNamed (known st sc o p) m → IsNamed (display.answered (known st sc o p)) (shows.named (known st sc o p) n m) × table.IsStatus (shows.rows (known st sc o p) m) [] (display.status (known st sc o p)) × (shows.rows (display.answered (known st sc o p)) (shows.named (known st sc o p) n m) ≡ table.replied (shows.rows (known st sc o p) m) [] n (display.status (known st sc o p))) × ((sight : Sight) → all_drawn sight (shows.names (display.answered (known st sc o p)) (shows.named (known st sc o p) n m)) ≡ with_name (all_drawn sight (shows.names (known st sc o p) m)) (made_if (table.makes (shows.rows (known st sc o p) m) (display.status (known st sc o p))) n) (words_in sight (shows.made (known st sc o p))))
   answers_shows st sc None p n m s h r named = absurd (false≢true h.0)
   answers_shows st sc (Some q) p n m s h r named =
       let is = answer_at (known st sc (Some q) p) q p q.asked (is_accepted (verdict st.buffers sc q.asked)) refl refl r h.1 in
@@ -282,8 +282,8 @@ module _ (frames grants : ℕ → ℕ) (dom parts : ℕ) where
   meets_plain x want (Puts key index) u = absurd u
 
   -- an activity that holds and finds this keeps to the laws
-  keeps : (x y : Known) (pl : Plan Ending) → ((rest held : List Hold) → AreSame held (pages_of x.stock ++ rest) → FitsFrom (IsProper frames grants dom) (holding frames) (λ h a. AreHeld h (pages_of (after_end y a).stock ++ rest) × EndsHeld y a) (holds_of held) pl) → ((f : Found) → FitFound (EndsFound y) f pl) → FitsBeside display frames grants dom Meets EndsOwn x y pl
-  keeps x y pl = beside frames grants dom display Meets (EndsHeld y) (EndsFound y) EndsOwn x y pl (meets_plain y) (λ f ts a held found. (held, found))
+  keeps : (x y : Known) (pl : Plan Ending) → ((rest held : List Hold) → AreSame held (pages_of x.stock ++ rest) → FitsFrom (IsProper frames grants dom) (holding frames) (λ h a. AreHeld h (pages_of (after_end y a).stock ++ rest) × EndsHeld y a) (holds_of held) pl) → ((f : Found) → FitFound (EndsFound y) f pl) → FitsBeside display frames grants dom Meets (λ ts. Unit {0}) EndsOwn x y pl
+  keeps x y pl = beside frames grants dom display Meets (EndsHeld y) (EndsFound y) EndsOwn (λ ts. Unit {0}) x y pl (meets_plain y) (λ f ts a held found. (held, found))
 
   request_same : (q k : Request) → Some q ≡ Some k → q ≡ k
   request_same q k e = cc
@@ -300,7 +300,7 @@ module _ (frames grants : ℕ → ℕ) (dom parts : ℕ) where
 
   -- what a request leads to
   abbrev Begun : Known → Known → Plan Ending → Type 0
-  Begun x y pl = IsSane y × HasCome true y × FitsBeside display frames grants dom Meets EndsOwn x y pl
+  Begun x y pl = IsSane y × HasCome true y × FitsBeside display frames grants dom Meets (λ ts. Unit {0}) EndsOwn x y pl
 
   begins_in : (x : Known) (q : Request) → x.request ≡ Some q → IsSane x → HasComeTo x.stock x.scene q x.progress → (p : Progress) (a : Asked) → x.progress ≡ p → q.asked ≡ a → ready_at p (has_work x.stock.buffers x.scene a) ≡ false → (y : Known) (pl : Plan Ending) → Leads (job_of site x a) y pl → Begun x y pl
   begins_in x q has s come progress.Decided (asked.Create c) e f h y pl leads =
@@ -484,10 +484,10 @@ module _ (frames grants : ℕ → ℕ) (dom parts : ℕ) where
       subst (λ z. Told x f ts m e z) (same_said _ _ i)
       (subst (λ z. Told x f ts m z (said.Shown part shown.pixels shown.mark)) d.0 (pictured x f ts m part shown named d.1))
 
-  told_fits : (x : Known) (e : Waiting) (p : Plan Ending) → IsTold x e → Runs (Finished (Served e)) ≡ Runs p → FitsBeside display frames grants dom Meets (EndsDone e) x x p
+  told_fits : (x : Known) (e : Waiting) (p : Plan Ending) → IsTold x e → Runs (Finished (Served e)) ≡ Runs p → FitsBeside display frames grants dom Meets (λ ts. Unit {0}) (EndsDone e) x x p
   told_fits x e p told event =
       let is : Finished (Served e) ≡ p = cc in
-      subst (λ (z : Plan Ending). FitsBeside display frames grants dom Meets (EndsDone e) x x z) is (λ rest k held. (held, (refl, told)))
+      subst (λ (z : Plan Ending). FitsBeside display frames grants dom Meets (λ ts. Unit {0}) (EndsDone e) x x z) is (λ rest k held was. (held, (refl, told)))
 
   -- a picture is read in the pages of its buffer
   module _ (x : Known) (s : IsSane x) (part : ℕ) (source : Source) (is : source_at x.stock.buffers x.scene part ≡ Some source) where
@@ -500,8 +500,8 @@ module _ (frames grants : ℕ → ℕ) (dom parts : ℕ) where
         let left = buffer_pages (bared source.dbuf bs) in
         are_left (grants dom) dom under left (are_same (grants dom) dom (buffer_pages bs) (under ++ left) (parted source.dbuf bs) (are_right (grants dom) dom x.stock.mapped (buffer_pages bs) s.0))
 
-    picture_fits : LiesIn under source.shape → AllByRecursion (λ (h : Hold). h.frame.0 < frames dom) under → FitsBeside display frames grants dom Meets (EndsDone (waiting.Show part)) x x (mapped (Pictured part) (scan_plan source.shape under source.dbuf))
-    picture_fits lies inside rest k held =
+    picture_fits : LiesIn under source.shape → AllByRecursion (λ (h : Hold). h.frame.0 < frames dom) under → FitsBeside display frames grants dom Meets (λ ts. Unit {0}) (EndsDone (waiting.Show part)) x x (mapped (Pictured part) (scan_plan source.shape under source.dbuf))
+    picture_fits lies inside rest k held was =
         fits_mapped May (carrying (learning frames)) (λ y. Pictured part y) End k (scan_plan source.shape under source.dbuf)
         (fits_under (carrying (learning frames)) Scans May Shows (λ j y. End j (Pictured part y)) may_so end_so k (scan_plan source.shape under source.dbuf) (shows_exactly frames source.shape under k.own.holds.held source.dbuf k lies held.0))
       where
@@ -535,18 +535,18 @@ module _ (frames grants : ℕ → ℕ) (dom parts : ℕ) where
         end_so : (j : Carried Learned) (y : Shown) → Shows j y → End j (Pictured part y)
         end_so j y (has, by) = (still j has, (refl, record { source = source; is = is; before = k.touched; by = by }))
 
-  serves_so : (x : Known) (e : Waiting) (p : Plan Ending) → IsSane x → AreWholeBut (frames dom) (λ b. false) x.stock.buffers → event_for x e ≡ Runs p → FitsBeside display frames grants dom Meets (EndsDone e) x x p
+  serves_so : (x : Known) (e : Waiting) (p : Plan Ending) → IsSane x → AreWholeBut (frames dom) (λ b. false) x.stock.buffers → event_for x e ≡ Runs p → FitsBeside display frames grants dom Meets (λ ts. Unit {0}) (EndsDone e) x x p
   serves_so x (waiting.Show part) p s whole event = by_source (source_at x.stock.buffers x.scene part) refl event
     where
-      by_within : (source : Source) → source_at x.stock.buffers x.scene part ≡ Some source → (t : Bool) → t ≡ true → show_in part (pages_under source.dbuf x.stock.buffers) source t ≡ Runs p → FitsBeside display frames grants dom Meets (EndsDone (waiting.Show part)) x x p
+      by_within : (source : Source) → source_at x.stock.buffers x.scene part ≡ Some source → (t : Bool) → t ≡ true → show_in part (pages_under source.dbuf x.stock.buffers) source t ≡ Runs p → FitsBeside display frames grants dom Meets (λ ts. Unit {0}) (EndsDone (waiting.Show part)) x x p
       by_within source is true h event =
           let same : mapped (Pictured part) (scan_plan source.shape (pages_under source.dbuf x.stock.buffers) source.dbuf) ≡ p = runs_same _ _ event in
           let within = picture_within (frames dom) x.stock.buffers x.scene part source s.1 s.2 whole is in
-          subst (λ (z : Plan Ending). FitsBeside display frames grants dom Meets (EndsDone (waiting.Show part)) x x z) same
+          subst (λ (z : Plan Ending). FitsBeside display frames grants dom Meets (λ ts. Unit {0}) (EndsDone (waiting.Show part)) x x z) same
           (picture_fits x s part source is within.0 within.1)
       by_within source is false h event = absurd (false≢true h)
 
-      by_source : (o : Option Source) → source_at x.stock.buffers x.scene part ≡ o → show_of part x.stock.buffers o ≡ Runs p → FitsBeside display frames grants dom Meets (EndsDone (waiting.Show part)) x x p
+      by_source : (o : Option Source) → source_at x.stock.buffers x.scene part ≡ o → show_of part x.stock.buffers o ≡ Runs p → FitsBeside display frames grants dom Meets (λ ts. Unit {0}) (EndsDone (waiting.Show part)) x x p
       by_source None is event = told_fits x (waiting.Show part) p is event
       by_source (Some source) is event =
           let under = pages_under source.dbuf x.stock.buffers in
@@ -554,7 +554,7 @@ module _ (frames grants : ℕ → ℕ) (dom parts : ℕ) where
           by_within source is (is_within (4096 * length under) source.shape) (within_so (4096 * length under) source.shape within.0) event
   serves_so x (waiting.Blank part) p s whole event = by_pending (pending_at x.scene part) refl event
     where
-      by_pending : (o : Option ℕ) → pending_at x.scene part ≡ o → blank_of part o ≡ Runs p → FitsBeside display frames grants dom Meets (EndsDone (waiting.Blank part)) x x p
+      by_pending : (o : Option ℕ) → pending_at x.scene part ≡ o → blank_of part o ≡ Runs p → FitsBeside display frames grants dom Meets (λ ts. Unit {0}) (EndsDone (waiting.Blank part)) x x p
       by_pending None is event = told_fits x (waiting.Blank part) p is event
       by_pending (Some fb) is event = let wrong : ⊥ = cc in absurd wrong
 
@@ -752,7 +752,7 @@ module _ (frames grants : ℕ → ℕ) (dom parts : ℕ) where
         ends_told = λ x f ts a m what s h e named i. ends_told x f ts a m what e named i;
         ends_quiet = λ x f ts a m s h e named i. ends_quiet x a m e.0 named i;
         answers = λ x s h r. let b = answers x.stock x.scene x.request x.progress s h.0 r in (b.0, (b.1, answers_whole x.stock x.scene x.request x.progress h r), b.2);
-        answers_shows = λ x n m s h r named. answers_shows x.stock x.scene x.request x.progress n m s h.0 r named;
+        answers_shows = λ x n m ts s h r touched named. answers_shows x.stock x.scene x.request x.progress n m s h.0 r named;
         serves = λ x e p s h event. serves_so x e p s (whole_none (frames dom) x.stock x.scene x.progress x.request h.0.0 h.1) event;
         served = λ x e f ts a s h d. served x e f ts a s h d;
         served_told = λ x e f ts a m what s h d named i. served_told x e f ts a m what d named i;
@@ -767,6 +767,9 @@ module _ (frames grants : ℕ → ℕ) (dom parts : ℕ) where
         full_ends = λ x o s owes. refl;
         meets_plain = meets_plain;
         meets = λ x m want note s named u. meets x m want note named u;
+        takes_touched = λ x part words. tt;
+        starves_touched = λ x y ts wants u. tt;
+        ends_touched = λ x f ts a s h e. tt;
       }
 
 pub keeps_laws : KeepsLaws display table shows facts

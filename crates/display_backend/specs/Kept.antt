@@ -165,7 +165,7 @@ module _ (frames grants : ℕ → ℕ) (dom parts : ℕ) where
   Meets x want note = IsUntouched note
 
   abbrev pub facts : Facts Known Ending Waiting (List ℕ)
-  facts = record { Sane = IsSane; Has = HasWhole; Named = IsNamed; EndsOwn = EndsOwn; EndsDone = EndsDone; Meets = Meets }
+  facts = record { Sane = IsSane; Has = HasWhole; Named = IsNamed; EndsOwn = EndsOwn; EndsDone = EndsDone; Meets = Meets; Touched = λ x ts. Unit {0} }
 
 -- where no page is held, giving up all of them changes nothing
 bare_buffers : (bs : List Held) → buffer_pages bs ≡ [] → all_bared bs ≡ bs

@@ -1,4 +1,4 @@
-mod Cells
+pub mod Cells
 mod Marks
 mod Rows
 mod Scans

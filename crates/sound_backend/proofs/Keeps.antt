@@ -229,7 +229,7 @@ module _ (frames grants : ℕ → ℕ) (dom parts : ℕ) where
       let same = answer_same s d sane.1 d.request.asked b is.0 in
       ((are_same (grants dom) dom (pages_of s) (pages_of (stock_after s d.part d.request.asked b)) same sane.0, answer_kept s d sane.1 d.request.asked b is.0), (refl, (refl, answer_none s d sane.1 d.request.asked b is.0)), same)
 
-  answers_shows : (s : Stock) (o : Option Demand) (p : Progress) (n : ℕ) (m : List Numbered) → IsSane (known s o p) → HasCome true (known s o p) → sound.ready (known s o p) ≡ true → IsNamed (known s o p) m → IsNamed (sound.answered (known s o p)) (shows.named (known s o p) n m) × table.IsStatus (shows.rows (known s o p) m) (sound.status (known s o p)) × (shows.rows (sound.answered (known s o p)) (shows.named (known s o p) n m) ≡ table.replied (shows.rows (known s o p) m) n (sound.status (known s o p))) × ((sight : Sight) → all_drawn sight (shows.names (sound.answered (known s o p)) (shows.named (known s o p) n m)) ≡ with_name (all_drawn sight (shows.names (known s o p) m)) (made_if (table.makes (shows.rows (known s o p) m) (sound.status (known s o p))) n) (words_in sight (shows.made (known s o p))))
+  answers_shows : (s : Stock) (o : Option Demand) (p : Progress) (n : ℕ) (m : List Numbered) → IsSane (known s o p) → HasCome true (known s o p) → sound.ready (known s o p) ≡ true → IsNamed (known s o p) m → IsNamed (sound.answered (known s o p)) (shows.named (known s o p) n m) × table.IsStatus (shows.rows (known s o p) m) [] (sound.status (known s o p)) × (shows.rows (sound.answered (known s o p)) (shows.named (known s o p) n m) ≡ table.replied (shows.rows (known s o p) m) [] n (sound.status (known s o p))) × ((sight : Sight) → all_drawn sight (shows.names (sound.answered (known s o p)) (shows.named (known s o p) n m)) ≡ with_name (all_drawn sight (shows.names (known s o p) m)) (made_if (table.makes (shows.rows (known s o p) m) (sound.status (known s o p))) n) (words_in sight (shows.made (known s o p))))
   answers_shows s None p n m sane h r named = absurd (false≢true h.0)
   answers_shows s (Some d) p n m sane h r named =
       let is = answer_at s d p d.request.asked (is_accepted (verdict s.streams d)) refl refl r h.1 in
@@ -310,12 +310,12 @@ module _ (frames grants : ℕ → ℕ) (dom parts : ℕ) where
     freed_split = same_parted x.stock.mapped (pages_in x.stock.held) under left (parted x.stock.held d.part)
 
   -- an activity that holds and finds this keeps to the laws
-  keeps : (x y : Known) (pl : Plan Ending) → ((rest held : List Hold) → AreSame held (pages_of x.stock ++ rest) → FitsFrom (IsProper frames grants dom) (holding frames) (λ h a. AreHeld h (pages_of (after_end y a).stock ++ rest) × EndsHeld y a) (holds_of held) pl) → ((f : Found) → FitFound (EndsFound y) f pl) → FitsBeside sound frames grants dom Meets EndsOwn x y pl
-  keeps x y pl = beside frames grants dom sound Meets (EndsHeld y) (EndsFound y) EndsOwn x y pl (λ want note u. u) (λ f ts a held found. (held, found))
+  keeps : (x y : Known) (pl : Plan Ending) → ((rest held : List Hold) → AreSame held (pages_of x.stock ++ rest) → FitsFrom (IsProper frames grants dom) (holding frames) (λ h a. AreHeld h (pages_of (after_end y a).stock ++ rest) × EndsHeld y a) (holds_of held) pl) → ((f : Found) → FitFound (EndsFound y) f pl) → FitsBeside sound frames grants dom Meets (λ ts. Unit {0}) EndsOwn x y pl
+  keeps x y pl = beside frames grants dom sound Meets (EndsHeld y) (EndsFound y) EndsOwn (λ ts. Unit {0}) x y pl (λ want note u. u) (λ f ts a held found. (held, found))
 
   -- what a request leads to
   abbrev Begun : Known → Known → Plan Ending → Type 0
-  Begun x y pl = IsSane y × HasCome true y × FitsBeside sound frames grants dom Meets EndsOwn x y pl
+  Begun x y pl = IsSane y × HasCome true y × FitsBeside sound frames grants dom Meets (λ ts. Unit {0}) EndsOwn x y pl
 
   begins_in : (x : Known) (d : Demand) → x.demand ≡ Some d → IsSane x → HasComeTo x.stock d x.progress → (p : Progress) (a : Asked) → x.progress ≡ p → d.request.asked ≡ a → ready_at p (has_work x.stock d a) ≡ false → (y : Known) (pl : Plan Ending) → Leads (job_of site x d.part a) y pl → Begun x y pl
   begins_in x d has sane come progress.Decided (asked.Open c) e f h y pl leads =
@@ -474,10 +474,10 @@ module _ (frames grants : ℕ → ℕ) (dom parts : ℕ) where
       (subst (λ v. IsOfService (said_of x.stock.streams (waiting.Tick part n)) × IsNamed (after_end x (Served (waiting.Tick part n))) m × table.Serves site (shows.rows x m) v (evidence shows x m ts f) (said_of x.stock.streams (waiting.Tick part n)) (shows.rows (after_end x (Served (waiting.Tick part n))) m) × (live_names x.stock.held m ≡ live_names x.stock.held m)) d
       (tt, ticked_named x.stock (waiting.Tick part n) m named, (refl, refl), refl))
 
-  serves : (x : Known) (e : Waiting) (p : Plan Ending) → Runs (Finished (Served e)) ≡ Runs p → FitsBeside sound frames grants dom Meets (EndsDone e) x x p
+  serves : (x : Known) (e : Waiting) (p : Plan Ending) → Runs (Finished (Served e)) ≡ Runs p → FitsBeside sound frames grants dom Meets (λ ts. Unit {0}) (EndsDone e) x x p
   serves x (waiting.Tick part n) p event =
       let is : Finished (Served (waiting.Tick part n)) ≡ p = cc in
-      subst (λ (z : Plan Ending). FitsBeside sound frames grants dom Meets (EndsDone (waiting.Tick part n)) x x z) is (λ rest k held. (held, refl))
+      subst (λ (z : Plan Ending). FitsBeside sound frames grants dom Meets (λ ts. Unit {0}) (EndsDone (waiting.Tick part n)) x x z) is (λ rest k held was. (held, refl))
 
   served : (x : Known) (e : Waiting) (f : Found) (ts : List Touch) (a : Ending) → IsSane x → HasCome false x → EndsDone e x f ts a → IsSane (after_end x a) × HasCome false (after_end x a)
   served x e f ts (Listed came) sane h d = absurd d
@@ -544,7 +544,7 @@ module _ (frames grants : ℕ → ℕ) (dom parts : ℕ) where
         ends_told = λ x f ts a m what s h e named i. ends_told x f ts a m what e named i;
         ends_quiet = λ x f ts a m s h e named i. ends_quiet x a m e.0 named i;
         answers = λ x s h r. answers x.stock x.demand x.progress s h r;
-        answers_shows = λ x n m s h r named. answers_shows x.stock x.demand x.progress n m s h r named;
+        answers_shows = λ x n m ts s h r touched named. answers_shows x.stock x.demand x.progress n m s h r named;
         serves = λ x e p s h event. serves x e p event;
         served = λ x e f ts a s h d. served x e f ts a s h d;
         served_told = λ x e f ts a m what s h d named i. served_told x e f ts a m what d named i;
@@ -559,6 +559,9 @@ module _ (frames grants : ℕ → ℕ) (dom parts : ℕ) where
         full_ends = λ x o s owes. none_due x.demand;
         meets_plain = λ x want note u. u;
         meets = λ x m want note s named u. meets x m want note u;
+        takes_touched = λ x part words. tt;
+        starves_touched = λ x y ts wants u. tt;
+        ends_touched = λ x f ts a s h e. tt;
       }
 
 pub keeps_laws : KeepsLaws sound table shows facts

@@ -131,6 +131,7 @@ module _ (frames grants : ℕ → ℕ) (dom parts : ℕ) where
         EndsOwn = EndsOwn;
         EndsDone = EndsDone;
         Meets = λ x want note. IsUntouched note;
+        Touched = λ x ts. Unit {0};
       }
 
 -- where no page is held, giving up all of them changes nothing

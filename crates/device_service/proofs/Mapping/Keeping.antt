@@ -66,8 +66,8 @@ module _ (frames grants : ℕ → ℕ) (dom : ℕ) where
 
   module _ {X A V : Type 0} (s : Service X A V) where
     -- what an activity holds and what it finds is what the laws ask of it
-    pub beside : (Meets : X → Want → Note → Type 0) (EndsHeld : A → Type 0) (EndsFound : Found → A → Type 0) (EndsOwn : X → Found → List Touch → A → Type 0) (x y : X) (pl : Plan A) → ((want : Want) (note : Note) → IsUntouched note → Meets y want note) → ((f : Found) (ts : List Touch) (a : A) → EndsHeld a → EndsFound f a → EndsOwn y f ts a) → ((rest held : List Hold) → AreSame held (s.pages x ++ rest) → Fit (λ h a. AreHeld h (s.pages (s.after y a) ++ rest) × EndsHeld a) (holds_of held) pl) → ((f : Found) → FitFound EndsFound f pl) → FitsBeside s frames grants dom Meets EndsOwn x y pl
-    beside Meets EndsHeld EndsFound EndsOwn x y pl plain own a b rest k held =
+    pub beside : (Meets : X → Want → Note → Type 0) (EndsHeld : A → Type 0) (EndsFound : Found → A → Type 0) (EndsOwn : X → Found → List Touch → A → Type 0) (Was : List Touch → Type 0) (x y : X) (pl : Plan A) → ((want : Want) (note : Note) → IsUntouched note → Meets y want note) → ((f : Found) (ts : List Touch) (a : A) → EndsHeld a → EndsFound f a → EndsOwn y f ts a) → ((rest held : List Hold) → AreSame held (s.pages x ++ rest) → Fit (λ h a. AreHeld h (s.pages (s.after y a) ++ rest) × EndsHeld a) (holds_of held) pl) → ((f : Found) → FitFound EndsFound f pl) → FitsBeside s frames grants dom Meets Was EndsOwn x y pl
+    beside Meets EndsHeld EndsFound EndsOwn Was x y pl plain own a b rest k held was =
         fits_carried frames (IsProper frames grants dom) (Meets y) plain (λ h e. AreHeld h (s.pages (s.after y e) ++ rest) × EndsHeld e) EndsFound (λ (j : Carried Learned) e. AreHeld j.own.holds (s.pages (s.after y e) ++ rest) × EndsOwn y j.own.found j.touched e)
         (λ j e p q. (p.0, own j.own.found j.touched e p.1 q)) k pl
         (subst (λ (h : Holds). Fit (λ h e. AreHeld h (s.pages (s.after y e) ++ rest) × EndsHeld e) h pl) (sym held.0) (a rest k.own.holds.held held.1)) (b k.own.found)

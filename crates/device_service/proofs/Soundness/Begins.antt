@@ -21,13 +21,13 @@ use Rattle.device_service.specs.Laws.{AreLost, SameNumbers}
 use Rattle.device_service.specs.Reading.{Naming, numbers, rows_of, names_of, begins_close}
 use Rattle.device_service.specs.Rows.{Rows, Hand, Event}
 use Rattle.device_service.specs.Work.{Work, End, Saw, Answered, Shut, ring_hold, ring_page, all_pages, answer_of, counted, part_of, close, leaving, nothing, after_answer, settled, device}
-use Rattle.device_service.proofs.Fitting.{fits_carried}
+use Rattle.device_service.proofs.Fitting.{fits_carried, fits_kept}
 use Rattle.device_service.proofs.Soundness.Parts.{part_in, counted_pages, fits_answer}
 use Rattle.device_service.proofs.Soundness.Plans.{Fit, IsOwn, own_in, own_are, fits_drop}
 use Rattle.device_service.proofs.Soundness.Same.{IsIn, in_right, in_same, are_append}
 use Rattle.device_service.proofs.Soundness.Settles.{no_reason}
 use Rattle.device_service.proofs.Soundness.Tells.{numbers_same}
-use Rattle.device_service.proofs.Soundness.Work.{Lawful, held_pages, TellsHeld, KeptFound, Tells, IsServing, site, learned, IsNamed, IsDue, IsSane, EndsWell, EndsSo, EndsFoundSo}
+use Rattle.device_service.proofs.Soundness.Work.{Lawful, held_pages, TellsHeld, KeptFound, Tells, IsServing, site, learned, IsNamed, IsDue, IsSane, EndsFound, EndsWell, EndsSo, EndsFoundSo, KeepsSo}
 
 pub unkept_found : {X V : Type 0} (w : Work X V) (f : Found) → w.kept ≡ None → KeptFound w f
 unkept_found w f none why e = absurd (no_reason w.kept why none e)
@@ -74,7 +74,7 @@ module _ {X A V Y M : Type 0} (D : Lawful X A V Y M) where
   abbrev pub BeginsSo : Work X V → Work X V → Plan (End A V) → (Naming M → List (Happening Event)) → Type 0
   BeginsSo w v p es =
       IsSane D v
-      × ((k : Carried Learned) → Tells s w k → FitsAll v k p)
+      × ((k : Carried Learned) → Tells s w k → KeepsSo D w k.touched → FitsAll v k p)
       × ((n : Naming M) (sight : Sight) (ts : List Touch) → IsNamed D w n → IsNamed D v n × RunsTo sight (shown_of w n sight ts) (es n) (shown_of v n sight ts))
 
   pub chosen : (w v x : Work X V) (p q : Plan (End A V)) (es : Naming M → List (Happening Event)) → BeginsSo w x q es → Offers (Act x q) v p → BeginsSo w v p es
@@ -87,6 +87,19 @@ module _ {X A V Y M : Type 0} (D : Lawful X A V Y M) where
       fits_carried frames (IsProper frames grants dom) (known.Meets w.service) (λ want note u. l.meets_plain w.service want note u) (EndsSo D w) (EndsFoundSo D w) (λ (j : Carried Learned) o. Tells s (settled s (site D) w o) j × EndsWell D w j o)
       (λ j o x y. ((x.0, y.0), (x.1, y.1 j.touched))) k p a b
 
+  -- the same by what was touched before it
+  abbrev pub EndsKept : Work X V → List Touch → Found → End A V → Type 0
+  EndsKept w ts f o = KeptFound (settled s (site D) w o) f × EndsFound D w f ts o
+
+  pub kept_fits : (w : Work X V) (k : Carried Learned) (p : Plan (End A V)) → Fit frames grants dom (EndsSo D w) k.own.holds p → FitFound (EndsKept w k.touched) k.own.found p → FitsAll w k p
+  kept_fits w k p a b =
+      fits_kept frames (IsProper frames grants dom) (known.Meets w.service) (λ want note u. l.meets_plain w.service want note u) (EndsSo D w) (EndsKept w k.touched) (λ (j : Carried Learned) o. Tells s (settled s (site D) w o) j × EndsWell D w j o) k.touched
+      (λ j o same x y. ((x.0, y.0), (x.1, subst (λ ts. EndsFound D w j.own.found ts o) (sym same) y.1))) k p refl a b
+
+  -- where no request is in hand, nothing is kept
+  pub none_kept : (w : Work X V) (ts : List Touch) → w.hand ≡ None → KeepsSo D w ts
+  none_kept w ts none h e = let wrong : ⊥ = cc in absurd wrong
+
   -- where just these pages are held
   pub held_so : (w : Work X V) (p : Plan (End A V)) (h : Holds) → h ≡ holds_of h.held → Fit frames grants dom (EndsSo D w) (holds_of h.held) p → Fit frames grants dom (EndsSo D w) h p
   held_so w p h e f = subst (λ (k : Holds). Fit frames grants dom (EndsSo D w) k p) (sym e) f
@@ -95,6 +108,11 @@ module _ {X A V Y M : Type 0} (D : Lawful X A V Y M) where
   mapped_fits w k end p e a b =
       plain_fits w k (mapped end p) (held_so w (mapped end p) k.own.holds e (fits_mapped (IsProper frames grants dom) (holding frames) end (EndsSo D w) (holds_of k.own.holds.held) p a))
       (fits_mapped (λ (g : Found) want note. IsUntouched note) (λ g (note : Note) c. finding g c) end (EndsFoundSo D w) k.own.found p b)
+
+  pub mapped_kept : {B : Type 0} (w : Work X V) (k : Carried Learned) (end : B → End A V) (p : Plan B) → k.own.holds ≡ holds_of k.own.holds.held → Fit frames grants dom (λ h b. EndsSo D w h (end b)) (holds_of k.own.holds.held) p → FitFound (λ f b. EndsKept w k.touched f (end b)) k.own.found p → FitsAll w k (mapped end p)
+  mapped_kept w k end p e a b =
+      kept_fits w k (mapped end p) (held_so w (mapped end p) k.own.holds e (fits_mapped (IsProper frames grants dom) (holding frames) end (EndsSo D w) (holds_of k.own.holds.held) p a))
+      (fits_mapped (λ (g : Found) want note. IsUntouched note) (λ g (note : Note) c. finding g c) end (EndsKept w k.touched) k.own.found p b)
 
   -- the page of a part's ring is the domain's own, and is held
   pub ring_own : (w : Work X V) (k : ℕ) (j : Joined) → IsSane D w → slice_get w.parts k ≡ Some j → IsOwn frames grants dom (ring_hold j.event j.ring)
@@ -119,15 +137,15 @@ module _ {X A V Y M : Type 0} (D : Lawful X A V Y M) where
   answer_kept w (Some h) = refl
 
   -- an answer fits
-  pub answer_fits : (w : Work X V) (h : Hand) (j : Joined) → IsSane D w → w.kept ≡ None → IsServing w → w.hand ≡ Some h → part_of s w h ≡ Some j → known.Has true w.service → s.ready w.service ≡ true → (k : Carried Learned) → Tells s w k → FitsAll w k (answer_of s w.service j)
+  pub answer_fits : (w : Work X V) (h : Hand) (j : Joined) → IsSane D w → w.kept ≡ None → IsServing w → w.hand ≡ Some h → part_of s w h ≡ Some j → known.Has true w.service → s.ready w.service ≡ true → (k : Carried Learned) → Tells s w k → KeepsSo D w k.touched → FitsAll w k (answer_of s w.service j)
   unfolding settled
-  answer_fits w h j q none serving has at is ready k e =
+  answer_fits w h j q none serving has at is ready k e u =
       let same = answered_same w w.hand q is ready in
       let plan = answer_plan (ring_page j) j.rsp (s.reply w.service) in
-      mapped_fits w k (λ b. Answered b) plan e.0.0
+      mapped_kept w k (λ b. Answered b) plan e.0.0
       (fits_answer frames grants dom k.own.holds.held j (ring_own w h.part j q at) (ring_held w h.part j k.own.holds e.0 at) (λ x b. EndsSo D w x (Answered b)) (s.reply w.service) (l.short w.service)
       (λ b. ((refl, (λ g. e.0.1 g ∙ same g)), (serving, (h, has), is, ready))))
-      (found_any (λ f b. EndsFoundSo D w f (Answered b)) (λ f b. (unkept_found (after_answer s w w.hand) f (answer_kept w w.hand ∙ none), λ ts. tt)) k.own.found plan (answer_none (ring_page j) j.rsp (s.reply w.service)))
+      (found_any (λ f b. EndsKept w k.touched f (Answered b)) (λ f b. (unkept_found (after_answer s w w.hand) f (answer_kept w w.hand ∙ none), u)) k.own.found plan (answer_none (ring_page j) j.rsp (s.reply w.service)))
 
   -- what begins an activity that its service knows of: the names that are lost
   pub run_to : (w : Work X V) (y : X) (n : Naming M) (sight : Sight) (ts : List Touch) (es : List (Happening Event)) → r.rows y n.service ≡ r.rows w.service n.service → SameNumbers r w.service y n.service → RunsTo sight (shown_of w n sight ts) es (record { rows = rows_of s t r w n; names = all_drawn sight (r.names y n.service); touched = touched_of w.service n ts; owes = None }) → RunsTo sight (shown_of w n sight ts) es (shown_of (record w { service = y }) n sight ts)
@@ -137,14 +155,14 @@ module _ {X A V Y M : Type 0} (D : Lawful X A V Y M) where
 
   module _ (w v : Work X V) (p : Plan (End A V)) (q : IsSane D w) where
     -- what begins nothing of the machine's
-    pub same_work : (x : Plan (End A V)) → ((k : Carried Learned) → Tells s w k → FitsAll w k x) → BeginsSo w w x (λ n. [])
+    pub same_work : (x : Plan (End A V)) → ((k : Carried Learned) → Tells s w k → KeepsSo D w k.touched → FitsAll w k x) → BeginsSo w w x (λ n. [])
     same_work x fits = (q, fits, (λ n sight ts named. (named, refl)))
 
     -- nothing comes of a part that isn't there
     pub begins_nothing : IsServing w → Offers (nothing s w) v p → BeginsSo w v p (λ n. [])
     unfolding settled
     begins_nothing serving o =
-        chosen w v w p (Finished (Saw looked.Nothing)) (λ n. []) (same_work (Finished (Saw looked.Nothing)) (λ k e. (e, ((serving, (0, 0, refl)), tt)))) o
+        chosen w v w p (Finished (Saw looked.Nothing)) (λ n. []) (same_work (Finished (Saw looked.Nothing)) (λ k e u. (e, ((serving, (0, 0, refl)), u)))) o
 
     -- while a part is connected, the service has come so far
     pub opened_at : (k : ℕ) (j : Joined) → slice_get w.parts k ≡ Some j → IsServing w × known.Has (is_some w.hand) w.service
@@ -179,4 +197,4 @@ module _ {X A V Y M : Type 0} (D : Lawful X A V Y M) where
 
       pub begins_leaving : Offers (close s w why) v p → BeginsSo w v p (λ n. begins_close s t r w n)
       begins_leaving o =
-          chosen w v (leaving s w) p (unmaps (held_pages s w) (Finished (Shut why))) (λ n. begins_close s t r w n) (leaving_sane, leaving_fits, leaving_run) o
+          chosen w v (leaving s w) p (unmaps (held_pages s w) (Finished (Shut why))) (λ n. begins_close s t r w n) (leaving_sane, (λ k e u. leaving_fits k e), leaving_run) o

@@ -30,12 +30,12 @@ use Rattle.device_service.specs.Reading.{all_gone, rows_of, begins_event, begins
 use Rattle.device_service.specs.Rows.{Hand, Rows}
 use Rattle.device_service.specs.Service.{Job, Works, Starves, Deed, Runs, Raises}
 use Rattle.device_service.specs.Work.{Work, Round, Looks, Sleeps, Idles, End, Saw, Took, Own, Done, Slept, Raised, all_pages, sleep_all, ring_page, with_event, raises_if, does_event, answer_of, looks_at, in_round, takes_from, with_left, with_rings, does, decides, decides_by, part_of, serves_by, with_waiting, with_hand, after_look, after_sleep, after_raise, settled}
-use Rattle.device_service.proofs.Soundness.Begins.{BeginsSo, RunsTo, answer_fits, begins_leaving, begins_nothing, chosen, lost_run, mapped_fits, opened_at, page_held, ring_held, ring_own, run_to, same_work, shown_of, touched_of, unkept_found}
+use Rattle.device_service.proofs.Soundness.Begins.{BeginsSo, RunsTo, answer_fits, begins_leaving, begins_nothing, chosen, lost_run, mapped_fits, opened_at, page_held, ring_held, ring_own, run_to, same_work, shown_of, touched_of, unkept_found, none_kept}
 use Rattle.device_service.proofs.Soundness.Found.{put_shows, sleeps_none}
 use Rattle.device_service.proofs.Soundness.Parts.{event_in, evented_pages, fits_look, fits_take, fits_sleeps, fits_put}
 use Rattle.device_service.proofs.Soundness.Plans.{own_in}
 use Rattle.device_service.proofs.Soundness.Settles.{found_index, no_reason}
-use Rattle.device_service.proofs.Soundness.Work.{Lawful, held_pages, KeptFound, IsFoundIn, Tells, IsServing, site, learned, IsSane, IsRaising, EndsWell, EndsSo, EndsFoundSo, look_pages, sleep_pages}
+use Rattle.device_service.proofs.Soundness.Work.{Lawful, held_pages, KeptFound, IsFoundIn, Tells, IsServing, site, learned, IsSane, IsRaising, EndsWell, EndsSo, EndsFoundSo, look_pages, sleep_pages, KeepsSo}
 
 module _ {X A V Y M : Type 0} (D : Lawful X A V Y M) where
   open D use {s, t, r, known, frames, grants, dom, parts, l}
@@ -62,28 +62,28 @@ module _ {X A V Y M : Type 0} (D : Lawful X A V Y M) where
   raise_pages w part e (put.Spent prod) q i = refl
 
   module _ (w v : Work X V) (p : Plan (End A V)) (q : IsSane D w) (none : w.kept ≡ None) where
-    begins_look : (k : ℕ) (x : Option Joined) → IsServing w → slice_get w.parts k ≡ x → Offers (looks_at s w x) v p → BeginsSo D w v p (λ n. [])
+    begins_look : (k : ℕ) (x : Option Joined) → IsServing w → w.hand ≡ None → slice_get w.parts k ≡ x → Offers (looks_at s w x) v p → BeginsSo D w v p (λ n. [])
     unfolding settled
-    begins_look k None serving at o = begins_nothing D w v p q serving o
-    begins_look k (Some j) serving at o =
+    begins_look k None serving empty at o = begins_nothing D w v p q serving o
+    begins_look k (Some j) serving empty at o =
         let plan = look_plan (ring_page j) j.rsp in
-        let fits = λ (c : Carried Learned) (e : Tells s w c). mapped_fits D w c (λ x. Saw x) plan e.0.0
+        let fits = λ (c : Carried Learned) (e : Tells s w c) (u : KeepsSo D w c.touched). mapped_fits D w c (λ x. Saw x) plan e.0.0
         (fits_look frames grants dom c.own.holds.held j (ring_own D w k j q at) (ring_held D w k j c.own.holds e.0 at) (λ x y. EndsSo D w x (Saw y))
         (λ prod. ((refl, subst (λ y. AreSame c.own.holds.held y) (sym (look_pages D w (looked_of j.rsp prod))) e.0.1), (serving, (j.rsp, prod, refl)))))
         (fits_so (λ (g : Found) want note. IsUntouched note) (λ g (note : Note) a. finding g a) (λ g x. (prod : ℕ) × (g.word ≡ Some prod) × (x ≡ looked_of j.rsp prod)) (λ g x. EndsFoundSo D w g (Saw x))
-        (λ g x h. (sees w j.rsp g x h.0 none h.1 h.2, λ ts. tt)) c.own.found plan (looks_show (ring_page j) j.rsp c.own.found)) in
+        (λ g x h. (sees w j.rsp g x h.0 none h.1 h.2, λ ts. none_kept D w ts empty)) c.own.found plan (looks_show (ring_page j) j.rsp c.own.found)) in
         chosen D w v w p (mapped (λ x. Saw x) plan) (λ n. []) (same_work D w v p q (mapped (λ x. Saw x) plan) fits) o
 
-    begins_round : (x : Round) → IsServing w → Offers (in_round s w x) v p → BeginsSo D w v p (λ n. [])
+    begins_round : (x : Round) → IsServing w → w.hand ≡ None → Offers (in_round s w x) v p → BeginsSo D w v p (λ n. [])
     unfolding settled
-    begins_round (Looks part served) serving o = begins_look part (slice_get w.parts part) serving refl o
-    begins_round Sleeps serving o =
-        let fits = λ (c : Carried Learned) (e : Tells s w c). mapped_fits D w c (λ b. Slept b) (sleep_all w.parts) e.0.0
+    begins_round (Looks part served) serving empty o = begins_look part (slice_get w.parts part) serving empty refl o
+    begins_round Sleeps serving empty o =
+        let fits = λ (c : Carried Learned) (e : Tells s w c) (u : KeepsSo D w c.touched). mapped_fits D w c (λ b. Slept b) (sleep_all w.parts) e.0.0
         (fits_sleeps frames grants dom c.own.holds.held (λ x b. EndsSo D w x (Slept b))
         (λ b. ((refl, subst (λ y. AreSame c.own.holds.held y) (sym (sleep_pages D w b)) e.0.1), tt)) w.parts q.own (λ x at. page_held D w c.own.holds x e.0 at))
-        (found_any (λ f b. EndsFoundSo D w f (Slept b)) (λ f b. (unkept_found (after_sleep s w b) f (sleep_kept w b ∙ none), λ ts. tt)) c.own.found (sleep_all w.parts) (sleeps_none w.parts)) in
+        (found_any (λ f b. EndsFoundSo D w f (Slept b)) (λ f b. (unkept_found (after_sleep s w b) f (sleep_kept w b ∙ none), λ ts. none_kept D w ts empty)) c.own.found (sleep_all w.parts) (sleeps_none w.parts)) in
         chosen D w v w p (mapped (λ b. Slept b) (sleep_all w.parts)) (λ n. []) (same_work D w v p q (mapped (λ b. Slept b) (sleep_all w.parts)) fits) o
-    begins_round Idles serving o = absurd o
+    begins_round Idles serving empty o = absurd o
 
     -- where no request is in hand, a part that is connected is there for a service without one
     has_none : (k : ℕ) (j : Joined) → w.hand ≡ None → slice_get w.parts k ≡ Some j → known.Has false w.service
@@ -98,14 +98,14 @@ module _ {X A V Y M : Type 0} (D : Lawful X A V Y M) where
     begins_take (Some j) serving empty at o =
         let small : w.at < parts = omega (arith, slice_get_within w.parts w.at j at, few_parts) in
         let plan = take_plan (ring_page j) j.rsp in
-        let fits = λ (c : Carried Learned) (e : Tells s w c). mapped_fits D w c (λ x. Took x) plan e.0.0
+        let fits = λ (c : Carried Learned) (e : Tells s w c) (u : KeepsSo D w c.touched). mapped_fits D w c (λ x. Took x) plan e.0.0
         (fits_take frames grants dom c.own.holds.held j (ring_own D w w.at j q at) (ring_held D w w.at j c.own.holds e.0 at) (λ x words. EndsSo D w x (Took words))
         (λ words. ((refl, subst (λ y. AreSame c.own.holds.held (y ++ all_pages w.parts)) (sym (l.takes_pages w.service w.at words)) e.0.1), (serving, empty, small, has_none w.at j empty at))))
         (found_any (λ f words. EndsFoundSo D w f (Took words)) (λ f words. ((λ why h. absurd (no_reason w.kept why none h)), λ ts. tt)) c.own.found plan (take_none (ring_page j) j.rsp)) in
         chosen D w v w p (mapped (λ x. Took x) plan) (λ n. []) (same_work D w v p q (mapped (λ x. Took x) plan) fits) o
 
     begins_left : (n : ℕ) → IsServing w → w.hand ≡ None → Offers (with_left s w n) v p → BeginsSo D w v p (λ n. [])
-    begins_left zero serving empty o = begins_round w.round serving o
+    begins_left zero serving empty o = begins_round w.round serving empty o
     begins_left (suc n) serving empty o = begins_take (slice_get w.parts w.at) serving empty refl o
 
     begins_rings : (kind : Kind) → IsServing w → w.hand ≡ None → Offers (with_rings s w kind) v p → BeginsSo D w v p (λ n. [])
@@ -120,10 +120,10 @@ module _ {X A V Y M : Type 0} (D : Lawful X A V Y M) where
           let b = l.begins w.service y x q.sane come apart leads in
           let new : Work X V = record w { service = y } in
           let sane : IsSane D new = record { own = q.own; whole = q.whole; sane = b.0; opened = inr (serving, subst (λ (z : Option Hand). known.Has (is_some z) y) (sym has) b.1); kept = q.kept } in
-          let fits = λ (c : Carried Learned) (e : Tells s w c).
+          let fits = λ (c : Carried Learned) (e : Tells s w c) (u : KeepsSo D w c.touched).
           fits_mapped (λ (j : Carried Learned) want note. IsProper frames grants dom j.own.holds want note × known.Meets y want note) (carrying (learning frames)) (λ a. Own a) (λ (j : Carried Learned) o. Tells s (settled s (site D) new o) j × EndsWell D new j o) c x
           (fits_so (λ (j : Carried Learned) want note. IsProper frames grants dom j.own.holds want note × known.Meets y want note) (carrying (learning frames)) (λ (j : Carried Learned) a. AreHeld j.own.holds (s.pages (s.after y a) ++ all_pages w.parts) × known.EndsOwn y j.own.found j.touched a) (λ (j : Carried Learned) a. Tells s (settled s (site D) new (Own a)) j × EndsWell D new j (Own a))
-          (λ j a g. ((g.0, (λ why i. absurd (no_reason w.kept why none i))), ((serving, (h, has), b.1), g.1))) c x (b.2 (all_pages w.parts) c e.0)) in (
+          (λ j a g. ((g.0, (λ why i. absurd (no_reason w.kept why none i))), ((serving, (h, has), b.1), g.1))) c x (b.2 (all_pages w.parts) c e.0 (u h has))) in (
             sane,
             fits,
             λ n sight ts named.
@@ -141,7 +141,7 @@ module _ {X A V Y M : Type 0} (D : Lawful X A V Y M) where
           let pages = λ (k : Hold). let same = b.3 k in
           let all : times k (held_pages s w) ≡ times k (held_pages s new) = omega (arith, same, times_append k (s.pages w.service) (all_pages w.parts), times_append k (s.pages u) (all_pages w.parts)) in all in (
             sane,
-            λ c e. answer_fits D new h j sane none serving has at b.1 b.2 c ((e.0.0, λ g. e.0.1 g ∙ pages g), e.1),
+            λ c e kept. answer_fits D new h j sane none serving has at b.1 b.2 c ((e.0.0, λ g. e.0.1 g ∙ pages g), e.1) (λ h is. l.starves_touched w.service u c.touched wants (kept h is)),
             λ n sight ts named.
                 let shows = l.starves_shows w.service u n.service q.sane come apart wants named in
                 let run = ap (λ (names : List Name). let x : Snapshot (Rows Y V) = record { rows = rows_of s t r w n; names = all_drawn sight names; touched = touched_of D w.service n ts; owes = None } in x) (sym shows.0.names) in
@@ -172,7 +172,7 @@ module _ {X A V Y M : Type 0} (D : Lawful X A V Y M) where
     begins_raising e part words j true i at short is o =
         let plan = put_plan (link.page_at j.event) j.prod (words j.prod) in
         let own = own_in frames grants dom j.event (all_pages w.parts) q.own (event_in w.parts part j at) in
-        let fits = λ (c : Carried Learned) (x : Tells s w c). mapped_fits D w c (λ y. Raised part e y) plan x.0.0
+        let fits = λ (c : Carried Learned) (x : Tells s w c) (u : KeepsSo D w c.touched). mapped_fits D w c (λ y. Raised part e y) plan x.0.0
         (fits_put frames grants dom c.own.holds.held event_layout (omega arith, omega arith, omega arith) j.event own (page_held D w c.own.holds j.event x.0 (event_in w.parts part j at)) (λ z y. EndsSo D w z (Raised part e y)) j.prod 1 (words j.prod)
         ((refl, subst (λ y. AreSame c.own.holds.held y) (sym (raise_pages w part e put.Done q i)) x.0.1), (i, tt))
         ((refl, subst (λ y. AreSame c.own.holds.held y) (sym (raise_pages w part e put.Full q i)) x.0.1), (i, tt))
@@ -187,10 +187,10 @@ module _ {X A V Y M : Type 0} (D : Lawful X A V Y M) where
     unfolding settled
     begins_deed x xs (Runs pl) j serving empty is at event o =
         let has = has_none (s.at x) j empty at in
-        let fits = λ (c : Carried Learned) (e : Tells s w c).
+        let fits = λ (c : Carried Learned) (e : Tells s w c) (u : KeepsSo D w c.touched).
         fits_mapped (λ (k : Carried Learned) want note. IsProper frames grants dom k.own.holds want note × known.Meets w.service want note) (carrying (learning frames)) (λ a. Done a) (λ (k : Carried Learned) o. Tells s (settled s (site D) w o) k × EndsWell D w k o) c pl
         (fits_so (λ (k : Carried Learned) want note. IsProper frames grants dom k.own.holds want note × known.Meets w.service want note) (carrying (learning frames)) (λ (k : Carried Learned) a. AreHeld k.own.holds (s.pages (s.after w.service a) ++ all_pages w.parts) × known.EndsDone x w.service k.own.found k.touched a) (λ (k : Carried Learned) a. Tells s (settled s (site D) w (Done a)) k × EndsWell D w k (Done a))
-        (λ k a z. ((z.0, (λ why i. absurd (no_reason w.kept why none i))), ((serving, empty, has), (x, xs, is, z.1)))) c pl (l.serves w.service x pl q.sane has event (all_pages w.parts) c e.0)) in
+        (λ k a z. ((z.0, (λ why i. absurd (no_reason w.kept why none i))), ((serving, empty, has), (x, xs, is, z.1)))) c pl (l.serves w.service x pl q.sane has event (all_pages w.parts) c e.0 tt)) in
         chosen D w v w p (mapped (λ a. Done a) pl) (λ n. []) (same_work D w v p q (mapped (λ a. Done a) pl) fits) o
     begins_deed x xs (Raises words) j serving empty is at event o =
         begins_raising (Some x) (s.at x) words j (nat_lt j.prod limit) (record { serving = serving; none = empty; has = has_none (s.at x) j empty at; raise = (words, event, refl); oldest = (xs, is) }) at (λ n. l.event_short w.service x words n event) refl o

@@ -18,7 +18,7 @@ use Rattle.device_core.specs.Learned.{Learned}
 use Rattle.device_core.specs.Machine.{Stays}
 use Rattle.device_core.specs.Order.{Order, Rest}
 use Rattle.device_core.specs.Site.{Site}
-use Rattle.device_core.specs.Touched.{Carried}
+use Rattle.device_core.specs.Touched.{Carried, Touch, left_by}
 use Rattle.device_service.specs.Nodes.{Kind, Ringed, Ringless}
 use Rattle.link_core.specs.declared.link.Put.{Put}
 use Rattle.link_core.specs.declared.link.Put.TheVariants as put
@@ -26,11 +26,11 @@ use Rattle.link_core.specs.Raise.{limit}
 use Rattle.device_service.specs.Reading.{Naming}
 use Rattle.device_service.specs.Rows.{Hand}
 use Rattle.device_service.specs.Service.{Service, Job, Works, Starves, Owed, Deed, Runs, Raises}
-use Rattle.device_service.specs.Work.{Work, Round, Looks, Sleeps, Idles, End, Saw, Took, Own, Done, Answered, Slept, Met, Denied, Lacked, Shut, Left, Renewed, Raised, all_pages, raises_if, does_event, pays, with_owed, looks_at, in_round, takes_from, with_left, with_rings, does, decides, decides_by, part_of, serves_by, with_waiting, with_hand, with_state, with_action, with_kept, with_closing, choice, device, after_look, after_sleep, after_answer, after_raise, shut, entered, settled}
+use Rattle.device_service.specs.Work.{Work, Round, Looks, Sleeps, Idles, End, Saw, Took, Own, Done, Answered, Slept, Met, Denied, Lacked, Shut, Left, Renewed, Raised, all_pages, raises_if, does_event, pays, with_owed, looks_at, in_round, takes_from, with_left, with_rings, does, decides, decides_by, part_of, serves_by, with_waiting, with_hand, with_state, with_action, with_kept, with_closing, choice, device, after_look, after_sleep, after_answer, after_raise, shut, entered, settled, said_at}
 use Rattle.xenbus_states.proofs.Actions.{closed_apart}
 use Rattle.device_service.proofs.Soundness.Parts.{counted_pages, counted_length, counted_none, evented_pages, evented_length, evented_none}
 use Rattle.device_service.proofs.Soundness.Plans.{AllOwn}
-use Rattle.device_service.proofs.Soundness.Work.{Lawful, Tells, IsServing, IsKept, IsPut, site, learned, IsNamed, IsBare, IsSane, IsRaising, EndsWell, bare_unless}
+use Rattle.device_service.proofs.Soundness.Work.{Lawful, Tells, IsServing, IsKept, IsPut, site, learned, IsNamed, IsBare, IsSane, IsRaising, EndsWell, bare_unless, KeepsSo}
 
 -- an overrun is true
 found_in : (b c : Bool) (ready prod rsp x y : ℕ) → (c ≡ false → 32 < ready) → cond b looked.Nothing (cond c (looked.Ready ready) (looked.Overrun prod rsp)) ≡ looked.Overrun x y → (x ≡ prod) × ((y ≡ rsp) × (32 < ready))
@@ -287,3 +287,44 @@ module _ {X A V Y M : Type 0} (D : Lawful X A V Y M) where
       let same = pauses s w v (site D) e in
       subst (λ x. RestsAs w x) same.1
       (record { own = q.own; whole = q.whole; sane = q.sane; opened = q.opened; kept = q.kept }, (λ k h. (h, (λ n named. (named, record { rows = refl; names = refl; numbers = refl })))))
+
+  -- what was touched for the request in hand, where it rests, and after an activity's end
+  pub rests_touched : (w v : Work X V) (ts : List Touch) → choice s (site D) w ≡ Rest v → KeepsSo D w ts → KeepsSo D v ts
+  rests_touched w v ts e u =
+      let same = pauses s w v (site D) e in
+      subst (λ x. KeepsSo D x ts) same.1 u
+
+  answered_none : (w : Work X V) (x : Option Hand) (ts : List Touch) (h : Hand) → x ≡ Some h → KeepsSo D (after_answer s w x) ts
+  answered_none w None ts h has g e = let wrong : ⊥ = cc in absurd wrong
+  answered_none w (Some y) ts h has g e = let wrong : ⊥ = cc in absurd wrong
+
+  looked_kept : (w : Work X V) (x : Looked) (ts : List Touch) → KeepsSo D w ts → KeepsSo D (after_look s (site D) w x) ts
+  looked_kept w looked.Nothing ts u = u
+  looked_kept w (looked.Ready n) ts u = u
+  looked_kept w (looked.Overrun prod rsp) ts u = u
+
+  slept_kept : (w : Work X V) (b : Bool) (ts : List Touch) → KeepsSo D w ts → KeepsSo D (after_sleep s w b) ts
+  slept_kept w true ts u = u
+  slept_kept w false ts u = u
+
+  raised_none : (w : Work X V) (part : ℕ) (e : Option V) (p : Put) (ts : List Touch) → w.hand ≡ None → KeepsSo D (after_raise s w part e p) ts
+  raised_none w part e put.Done ts none h g = let wrong : ⊥ = cc in absurd wrong
+  raised_none w part e put.Full ts none h g = let wrong : ⊥ = cc in absurd wrong
+  raised_none w part e (put.BadCons prod cons) ts none h g = let wrong : ⊥ = cc in absurd wrong
+  raised_none w part e (put.Spent prod) ts none h g = let wrong : ⊥ = cc in absurd wrong
+
+  pub keeps : (w : Work X V) (o : End A V) (k : Carried Learned) → IsSane D w → EndsWell D w k o → KeepsSo D (settled s (site D) w o) (left_by (said_at s w o) k.touched)
+  unfolding settled said_at
+  keeps w (Saw x) k q e = looked_kept w x k.touched e.1
+  keeps w (Took words) k q e = λ h is. l.takes_touched w.service w.at words
+  keeps w (Own a) k q e = λ h is. l.ends_touched w.service k.own.found k.touched a q.sane e.0.2 e.1
+  keeps w (Done a) k q e = λ h is. let none : w.hand ≡ None = e.0.1 in let wrong : ⊥ = cc in absurd wrong
+  keeps w (Answered b) k q e = answered_none w w.hand (left_by (said_at s w (Answered b)) k.touched) e.0.1.0 e.0.1.1
+  keeps w (Slept b) k q e = slept_kept w b k.touched e.1
+  keeps w (Met ps) k q e = λ h is. let wrong : ⊥ = cc in absurd wrong
+  keeps w (Denied why) k q e = λ h is. let wrong : ⊥ = cc in absurd wrong
+  keeps w (Lacked problem) k q e = λ h is. let wrong : ⊥ = cc in absurd wrong
+  keeps w (Shut why) k q e = λ h is. let wrong : ⊥ = cc in absurd wrong
+  keeps w Left k q e = λ h is. let wrong : ⊥ = cc in absurd wrong
+  keeps w Renewed k q e = λ h is. let wrong : ⊥ = cc in absurd wrong
+  keeps w (Raised part e p) k q i = raised_none w part e p (left_by (said_at s w (Raised part e p)) k.touched) i.0.0.none

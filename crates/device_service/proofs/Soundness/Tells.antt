@@ -207,7 +207,7 @@ module _ {X A V Y M : Type 0} (D : Lawful X A V Y M) where
 
   tells_reply : (w : Work X V) (k : Carried Learned) (h : Hand) (b : Bool) (n : Naming M) → IsSane D w → EndsWell D w k (Answered b) → w.hand ≡ Some h → IsNamed D w n → TellsSo w k n (said.Replied h.part h.id (s.status w.service) b) [] (made_by s t r w (Some h)) (after_answer s w (Some h)) (named_by s t r w (Some h) n)
   tells_reply w k h b n q e has named =
-      let a = l.answers_shows w.service n.replies n.service q.sane e.0.2 e.0.3 named in (
+      let a = l.answers_shows w.service n.replies n.service k.touched q.sane e.0.2 e.0.3 (e.1 h has) named in (
         a.0,
         record {
           move = record { serving = e.0.0; op = h.op; in_hand = has; status_is = a.1; done = ap (λ (y : Y). let x : Rows Y V = record (row w n) { hand = None; replies = suc n.replies; service = y } in x) a.2 };

@@ -182,8 +182,15 @@ module _ {X A V Y M : Type 0} (D : Lawful X A V Y M) where
   abbrev pub IsDone : Work X V → Found → List Touch → A → Type 0
   IsDone w f ts a = (e : V) × (later : List V) × (w.waiting ≡ e ∷ later) × known.EndsDone e w.service f ts a
 
+  -- the words of names that were touched are those that the request in hand led to
+  abbrev pub KeepsSo : Work X V → List Touch → Type 0
+  KeepsSo w ts = (h : Hand) → w.hand ≡ Some h → known.Touched w.service ts
+
   -- and as the words show that were found last, and those of names that were touched
   abbrev pub EndsFound : Work X V → Found → List Touch → End A V → Type 0
+  EndsFound w f ts (Saw x) = KeepsSo w ts
+  EndsFound w f ts (Slept quiet) = KeepsSo w ts
+  EndsFound w f ts (Answered notified) = KeepsSo w ts
   EndsFound w f ts (Own a) = known.EndsOwn w.service f ts a
   EndsFound w f ts (Done a) = IsDone w f ts a
   EndsFound w f ts (Denied why) = IsDue w f (reason.Refused why)
@@ -361,12 +368,12 @@ module _ {X A V Y M : Type 0} (D : Lawful X A V Y M) where
       held_now Renewed q = (q.0, h.back ∙ q.1, h.again q.2, q.3)
 
       found_now : (f : Found) (ts : List Touch) (o : End A V) → EndsFound w f ts o → EndsFound now f ts o
-      found_now f ts (Saw x) q = tt
+      found_now f ts (Saw x) q = q
       found_now f ts (Took words) q = tt
       found_now f ts (Own a) q = q
       found_now f ts (Done a) q = let o = h.oldest q.0 q.1 q.2 in (q.0, o.0, o.1, q.3)
-      found_now f ts (Answered notified) q = tt
-      found_now f ts (Slept quiet) q = tt
+      found_now f ts (Answered notified) q = q
+      found_now f ts (Slept quiet) q = q
       found_now f ts (Met ps) q = tt
       found_now f ts (Denied why) q = h.due f (reason.Refused why) q
       found_now f ts (Lacked problem) q = h.due f (reason.Node problem.part problem.key problem.fault) q
@@ -424,3 +431,8 @@ module _ {X A V Y M : Type 0} (D : Lawful X A V Y M) where
   pub hears_owed : (w : Work X V) (n : Naming M) (news : News) → owes t (rows_of s t r w n) (Hears news) ≡ refused_by (device s site) w news
   hears_owed w n (Sets front nodes) = refl
   hears_owed w n (Hosts e) = sym (l.refusal_is w.connection.back w.waiting e)
+
+  -- news change nothing of what was touched for the request in hand
+  pub hears_kept : (w : Work X V) (news : News) (ts : List Touch) → KeepsSo w ts → KeepsSo (told s w news) ts
+  hears_kept w (Sets front nodes) ts u = u
+  hears_kept w (Hosts e) ts u = u

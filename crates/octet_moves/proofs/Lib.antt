@@ -1,0 +1,6 @@
+mod Lists
+mod Pieces
+mod Put
+mod Putting
+mod Taken
+mod Takings

@@ -1,6 +1,6 @@
 -- A sound stream and the rows of its requests (operations of sndif.h; the checks, their order and the queue of twice the
 -- buffer are this project's own). It knows no page, and of its queue the octets alone.
-use Rattle.std.specs.Prelude.{ℕ, ◌+◌, ◌*◌, ◌-◌, Bool, true, false, not, ◌||◌, nat_lt, if◌then◌else◌, List, [], ◌++◌, ◌∷◌, length, drop, Option, Some, None, Result, Ok, Err}
+use Rattle.std.specs.Prelude.{ℕ, ◌+◌, ◌*◌, ◌-◌, Bool, true, false, not, ◌||◌, nat_lt, if◌then◌else◌, List, [], ◌++◌, ◌∷◌, length, drop, take, Option, Some, None, Result, Ok, Err}
 use Rattle.pv_words.specs.declared.device.StreamKind.{StreamKind}
 use Rattle.pv_words.specs.declared.device.StreamKind.TheVariants.{Playback, Capture}
 use Rattle.pcm_params.specs.declared.params.Params.{Params}
@@ -128,6 +128,10 @@ pushed s octet = record s { queue = s.queue ++ octet ∷ [] }
 
 abbrev pub popped : Pcm → ℕ → Pcm
 popped s count = record s { queue = drop count s.queue }
+
+-- so many octets of a WRITE that isn't answered are gone again
+abbrev pub cut : Pcm → ℕ → Pcm
+cut s count = record s { queue = take (length s.queue - count) s.queue }
 
 -- the event that was owed is told
 abbrev pub told : Pcm → Pcm

@@ -5,7 +5,7 @@ ghost use Rattle.pv_words.specs.Mark.{mark_of};
 ghost use Rattle.pcm_params.specs.Params.{is_accepted};
 ghost use Rattle.pcm_stream.specs.Queue.{queue_for};
 ghost use Rattle.pcm_stream.specs.State.{is_closed};
-ghost use Rattle.pcm_stream.specs.Stream.{close_check, closed, open_check, opened, popped, pushed};
+ghost use Rattle.pcm_stream.specs.Stream.{close_check, closed, cut, open_check, opened, popped, pushed};
 ghost use Rattle.pcm_stream.specs.Stream.{read_check, room, told, triggered, trigger_check, write_check};
 ghost use Rattle.pcm_stream.specs.Tick.{after_tick, carried, counted, limit_of, octets_of, ticked_of};
 
@@ -304,6 +304,15 @@ impl Stream {
     {
         if let Some(queue) = &mut self.queue {
             queue.truncate_front(queue.len() - count as usize);
+        }
+    }
+
+    /// Removes so many octets of the queue, the youngest first; all of them, where fewer are queued.
+    pub fn take_back(&mut self, count: u32)
+        ensures { self.new ≡ cut self.old count }
+    {
+        if let Some(queue) = &mut self.queue {
+            queue.truncate_back(queue.len().saturating_sub(count as usize));
         }
     }
 

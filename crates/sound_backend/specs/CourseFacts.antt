@@ -6,11 +6,15 @@ use Rattle.pv_words.specs.declared.grant.Hold.{Hold}
 use Rattle.snd_wire.specs.declared.types.Asked.{Asked}
 use Rattle.snd_wire.specs.declared.types.Asked.TheVariants as asked
 use Rattle.sound_backend.specs.declared.course.Demand.{Demand}
+use Rattle.sound_backend.specs.declared.course.Moved.{Moved}
+use Rattle.sound_backend.specs.declared.course.Moved.TheVariants as moved
 use Rattle.sound_backend.specs.declared.course.Course.{Course}
-use Rattle.sound_backend.specs.declared.course.Course.TheVariants.{Rests, Walks, Frees}
+use Rattle.sound_backend.specs.declared.course.Course.TheVariants.{Rests, Walks, Frees, Takes, Puts}
 use Rattle.page_directory.specs.declared.progress.Progress.{Progress}
 use Rattle.page_directory.specs.declared.progress.Progress.TheVariants as progress
-use Rattle.sound_backend.specs.Course.{Opens, ComesTo, InHand, HasOpen, HasClose, Releases, Stands}
+use Rattle.sound_backend.specs.Course.{Opens, ComesTo, InHand, HasOpen, HasClose, HasMove, HasMoved, HasToMove, IsMove, IsRead, IsWrite, MovesIn, Releases, Stands}
+use Rattle.sound_backend.specs.Stock.{Stock}
+use Rattle.octet_moves.specs.Span.{Way}
 use Rattle.page_directory.specs.Going.{goes_prop}
 
 opens_prop : (asks : Asked) (queue : Option (Buffer ℕ)) → IsProp (Opens asks queue)
@@ -37,7 +41,37 @@ close_prop (Some d) part = hlevel props
 releases_prop : (part : ℕ) (hand : Option Demand) (held : List (List Hold)) → IsProp (Releases part hand held)
 releases_prop part hand held = hlevel (props, close_prop)
 
-pub stands_prop : (course : Course) (hand : Option Demand) (p : Progress) (held : List (List Hold)) (queue : Option (Buffer ℕ)) → IsProp (Stands course hand p held queue)
-stands_prop Rests hand p held queue = hand_prop hand p queue
-stands_prop (Walks w) hand p held queue = hlevel (props, open_prop, goes_prop)
-stands_prop (Frees part) hand p held queue = hlevel (props, releases_prop)
+is_move_prop : (asks : Asked) → IsProp (IsMove asks)
+is_move_prop (asked.Read o z) = hlevel props
+is_move_prop (asked.Write o z) = hlevel props
+is_move_prop asks = hlevel props
+
+is_write_prop : (asks : Asked) → IsProp (IsWrite asks)
+is_write_prop (asked.Write o z) = hlevel props
+is_write_prop asks = hlevel props
+
+is_read_prop : (asks : Asked) → IsProp (IsRead asks)
+is_read_prop (asked.Read o z) = hlevel props
+is_read_prop asks = hlevel props
+
+has_move_prop : (hand : Option Demand) → IsProp (HasMove hand)
+has_move_prop None = hlevel props
+has_move_prop (Some d) = is_move_prop d.request.asked
+
+has_moved_prop : (m : Moved) (hand : Option Demand) → IsProp (HasMoved m hand)
+has_moved_prop moved.Nothing hand = hlevel props
+has_moved_prop m hand = has_move_prop hand
+
+to_move_prop : (Is : Asked → Type 0) → ((asks : Asked) → IsProp (Is asks)) → (hand : Option Demand) (part : ℕ) (s : Stock) → IsProp (HasToMove Is hand part s)
+to_move_prop Is is None part s = hlevel props
+to_move_prop Is is (Some d) part s = hlevel (props, is)
+
+moves_in_prop : (part : ℕ) (w : Way) (s : Stock) → IsProp (MovesIn part w s)
+moves_in_prop part w s = hlevel props
+
+pub stands_prop : (course : Course) (hand : Option Demand) (p : Progress) (s : Stock) (queue : Option (Buffer ℕ)) (m : Moved) → IsProp (Stands course hand p s queue m)
+stands_prop Rests hand p s queue m = hlevel (props, hand_prop, has_moved_prop)
+stands_prop (Walks w) hand p s queue m = hlevel (props, open_prop, goes_prop, has_moved_prop)
+stands_prop (Frees part) hand p s queue m = hlevel (props, releases_prop, has_moved_prop)
+stands_prop (Takes part t) hand p s queue m = hlevel (props, to_move_prop IsWrite is_write_prop, moves_in_prop)
+stands_prop (Puts part t) hand p s queue m = hlevel (props, to_move_prop IsRead is_read_prop, moves_in_prop)

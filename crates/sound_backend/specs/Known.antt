@@ -10,7 +10,7 @@ use Rattle.sound_backend.specs.Stock.{pages_of}
 use Rattle.sound_backend.specs.Store.{stock_of}
 
 abbrev pub known_of : Service → Known
-known_of s = record { stock = stock_at s.course (stock_of s.store); demand = s.hand; progress = s.progress }
+known_of s = record { stock = stock_at s.course (stock_of s.store); demand = s.hand; progress = s.progress; moved = s.moved }
 
 abbrev pub going_of : Service → Bool
 going_of s = is_under_way s.course

@@ -4,6 +4,7 @@ pub mod Held
 pub mod Kept
 pub mod Known
 pub mod Laws
+pub mod Moves
 pub mod Names
 pub mod Over
 pub mod Service

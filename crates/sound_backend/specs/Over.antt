@@ -9,11 +9,13 @@ use Rattle.pcm_stream.specs.Queue.{queue_for}
 use Rattle.pcm_stream.specs.Stream.{Pcm}
 use Rattle.page_directory.specs.declared.walk.Walked.{Walked}
 use Rattle.device_core.specs.Site.{Site}
-use Rattle.device_service.specs.Operating.{Begins, site_over}
+use Rattle.device_service.specs.Operating.{Begins, Continues, site_over}
 use Rattle.device_service.specs.declared.deed.Deed.{Deed}
 use Rattle.sound_backend.specs.declared.course.Demand.{Demand}
 use Rattle.sound_backend.specs.declared.service.Service.{Service}
-use Rattle.sound_backend.specs.Course.{HasOpen}
+use Rattle.sound_backend.specs.declared.course.Course.{Course}
+use Rattle.sound_backend.specs.Course.{HasOpen, left_at, stock_at}
+use Rattle.sound_backend.specs.Store.{stock_of}
 use Rattle.sound_backend.specs.Known.{known_of, left_of}
 use Rattle.sound_backend.specs.Service.{job_of, open_walk, sound}
 
@@ -26,6 +28,11 @@ module _ (site : Site) (old : Service) where
   abbrev pub BeginsOpen : (part : ℕ) → Params → Deed → Service → Type 0
   BeginsOpen part p deed new =
       Begins sound (job_of site (known_of old) part (asked.Open p)) deed.access deed.now deed.said (known_of new) (left_of site new)
+
+  -- the next step of what this course leads to, whose next access wasn't made yet
+  abbrev pub ContinuesAt : Course → Deed → Service → Type 0
+  ContinuesAt course deed new =
+      Continues sound (record (known_of old) { stock = stock_at course (stock_of old.store) }) (left_at site course (stock_of old.store)) deed.access deed.now deed.said (known_of new) (left_of site new)
 
 module _ {W : Type 0} (m : Words W) (words : W) where
   -- the walk of an OPEN

@@ -1,5 +1,5 @@
 -- The sound device as a service of the order of work of every device.
-use Rattle.std.specs.Prelude.{◌≡◌, ℕ, ◌%◌, ◌&&◌, nat_lt, ℤ, pos, Bool, true, false, List, [], length, map, replicate, Option, Some, None, if◌then◌else◌}
+use Rattle.std.specs.Prelude.{◌≡◌, ℕ, ◌%◌, ◌&&◌, nat_lt, ℤ, pos, Bool, true, false, List, [], length, map, replicate, take, Option, Some, None, if◌then◌else◌}
 use Rattle.pv_words.specs.declared.device.Said.{Said}
 use Rattle.pv_words.specs.declared.device.Said.TheVariants as said
 use Rattle.pv_words.specs.declared.device.StreamKind.{StreamKind}
@@ -20,40 +20,54 @@ use Rattle.host_events.specs.Queue.{refusal_of}
 use Rattle.link_core.specs.Activities.{unmaps}
 use Rattle.device_core.specs.Names.{cells_of}
 use Rattle.device_core.specs.Site.{Site}
+use Rattle.device_core.specs.Touched.{Touch}
+use Rattle.octet_moves.specs.Moving.{read_plan, write_plan}
 use Rattle.device_service.specs.Mapping.{denied_by}
 use Rattle.device_service.specs.Nodes.{Ringed}
 use Rattle.device_service.specs.Reading.{Shows}
 use Rattle.device_service.specs.Rows.{Table, Evidence}
 use Rattle.device_service.specs.Service.{Job, Works, Starves, Owed, Runs, Service}
 use Rattle.sound_backend.specs.declared.course.Demand.{Demand}
+use Rattle.sound_backend.specs.declared.course.Moved.{Moved}
+use Rattle.sound_backend.specs.declared.course.Moved.TheVariants as moved
 use Rattle.page_directory.specs.declared.progress.Progress.{Progress}
 use Rattle.page_directory.specs.declared.progress.Progress.TheVariants as progress
 use Rattle.sound_backend.specs.declared.waiting.Due.{Due}
 use Rattle.sound_backend.specs.declared.waiting.Waiting.{Waiting}
 use Rattle.sound_backend.specs.declared.waiting.Waiting.TheVariants as waiting
 use Rattle.sound_backend.specs.Held.{list_at}
+use Rattle.sound_backend.specs.Moves.{IsMoved, appended, are_for_writing, is_in, streams_replied}
 use Rattle.sound_backend.specs.Names.{Numbered, live_names, names_under, number_under, numbered_after}
 use Rattle.device_service.specs.Named.{numbers}
-use Rattle.sound_backend.specs.Stock.{Stock, all_closed, bared, changed, kinds_in, pages_of, raised, stock_after, streams_after, undue}
+use Rattle.sound_backend.specs.Stock.{Stock, all_closed, bared, changed, kinds_in, pages_of, raised, restored, stock_after, stream_at, undue, unmoved}
 use Rattle.sound_backend.specs.Stock as stock
 use Rattle.sound_backend.specs.Verdict.{IsStatus, answer_in, is_opening, mode_at, verdict}
 use Rattle.page_directory.specs.Progress.{is_accepted, is_denied, status_in, ready_at}
 use Rattle.sound_backend.specs.Waiting.{due_ticked, said_of, stock_ticked, streams_ticked, waiting_of}
 
--- the streams and the pages that are held; the request in hand, and how far it has come
+-- the streams and the pages that are held; the request in hand, how far it has come, and what its Move came to
 pub record Known : Type 0 where
   pub stock : Stock
   pub demand : Option Demand
   pub progress : Progress
+  pub moved : Moved
 
--- how an activity of a sound device ends: what the walk of an OPEN came to; the pages of a stream are unmapped; an event is done
+-- how an activity of a sound device ends: what the walk of an OPEN came to; the pages of a stream are unmapped; the octets that the
+-- Move of a WRITE took; that of a READ put its octets; an event is done
 pub data Ending : Type 0 where
   Listed : Walked → Ending
   Freed : Ending
+  Written : List ℕ → Ending
+  Filled : Ending
   Served : Waiting → Ending
 
+-- the verdict on the request in hand: one whose Move is over is accepted
+abbrev pub verdict_by : Moved → List Pcm → Demand → ℤ
+verdict_by moved.Nothing streams d = verdict streams d
+verdict_by m streams d = pos 0
+
 abbrev pub status_of : Known → Demand → ℤ
-status_of x d = status_in x.progress (verdict x.stock.streams d)
+status_of x d = status_in x.progress (verdict_by x.moved x.stock.streams d)
 
 abbrev pub status_for : Known → Option Demand → ℤ
 status_for x None = pos 0
@@ -67,15 +81,23 @@ abbrev pub reply_for : Known → Option Demand → List ℕ
 reply_for x None = replicate 16 0
 reply_for x (Some d) = reply_to x.stock.streams d (status_of x d)
 
--- an accepted OPEN isn't answered at once, nor an accepted CLOSE of a stream that has pages
-abbrev pub has_work : Stock → Demand → Asked → Bool
-has_work s d (asked.Open p) = is_accepted (verdict s.streams d)
-has_work s d asked.Close = is_accepted (verdict s.streams d) && nat_lt 0 (length (list_at s.held d.part))
-has_work s d asks = false
+-- Octets are to be moved of an accepted READ or WRITE that names some, and whose Move isn't over. A stream that is open has all pages of
+-- its buffer, so that they lie in its pages, and a capture stream has them for writing.
+abbrev pub is_to_move : Moved → Stock → Demand → (offset size : ℕ) → Bool
+is_to_move moved.Nothing s d offset size = is_accepted (verdict s.streams d) && is_in (list_at s.held d.part) offset size
+is_to_move m s d offset size = false
+
+-- an accepted OPEN isn't answered at once, nor an accepted CLOSE of a stream that has pages, nor a READ or WRITE that is to move octets
+abbrev pub has_work : Moved → Stock → Demand → Asked → Bool
+has_work m s d (asked.Open p) = is_accepted (verdict s.streams d)
+has_work m s d asked.Close = is_accepted (verdict s.streams d) && nat_lt 0 (length (list_at s.held d.part))
+has_work m s d (asked.Read offset size) = is_to_move m s d offset size && are_for_writing (list_at s.held d.part)
+has_work m s d (asked.Write offset size) = is_to_move m s d offset size
+has_work m s d asks = false
 
 abbrev pub ready_for : Known → Option Demand → Bool
 ready_for x None = true
-ready_for x (Some d) = ready_at x.progress (has_work x.stock d d.request.asked)
+ready_for x (Some d) = ready_at x.progress (has_work x.moved x.stock d d.request.asked)
 
 -- the walk of an OPEN: for reading in a playback stream, for writing in a capture stream
 abbrev pub open_walk : Site → List Pcm → ℕ → Params → Plan Walked
@@ -89,6 +111,9 @@ abbrev pub job_of : Site → Known → ℕ → Asked → Job Known Ending
 job_of site x part (asked.Open p) =
     Starves (record x { progress = progress.NoMemory }) x (mapped Listed (open_walk site x.stock.streams part p))
 job_of site x part asked.Close = Works (freeing x part) (unmaps (list_at x.stock.held part) (Finished Freed))
+job_of site x part (asked.Write offset size) = Works x (mapped Written (write_plan (list_at x.stock.held part) part offset size))
+job_of site x part (asked.Read offset size) =
+    Works x (mapped (λ over. Filled) (read_plan (list_at x.stock.held part) part offset size (take size (stream_at x.stock.streams part).queue)))
 job_of site x part asks = Works x (Finished Freed)
 
 abbrev pub job_for : Site → Known → Option Demand → Job Known Ending
@@ -98,6 +123,8 @@ job_for site x (Some d) = job_of site x d.part d.request.asked
 abbrev pub says_at : Known → Ending → Option Said
 says_at x (Listed came) = denied_by came
 says_at x Freed = None
+says_at x (Written octets) = None
+says_at x Filled = None
 says_at x (Served e) = Some (said_of x.stock.streams e)
 
 abbrev pub after_walk : Known → Walked → Known
@@ -107,9 +134,20 @@ after_walk x (walked.Refused why) = record x { progress = progress.Denied }
 abbrev pub ticking : Known → Waiting → Known
 ticking x e = record x { stock = stock_ticked x.stock e }
 
+-- the octets that were taken wait at the end of the queue
+abbrev pub written : Known → Option Demand → List ℕ → Known
+written x None octets = x
+written x (Some d) octets =
+    record x {
+      stock = record x.stock { streams = changed (λ s. appended s octets) x.stock.streams d.part };
+      moved = moved.Took d.part (length octets);
+    }
+
 abbrev pub after_end : Known → Ending → Known
 after_end x (Listed came) = after_walk x came
 after_end x Freed = record x { progress = progress.Released }
+after_end x (Written octets) = written x x.demand octets
+after_end x Filled = record x { moved = moved.Filled }
 after_end x (Served e) = ticking x e
 
 abbrev pub answered_for : Known → Option Demand → Known
@@ -119,6 +157,7 @@ answered_for x (Some d) =
       stock = stock_after x.stock d.part d.request.asked (is_accepted (status_of x d));
       demand = None;
       progress = progress.Decided;
+      moved = moved.Nothing;
     }
 
 -- the event that is due: none while a request is in hand
@@ -156,7 +195,7 @@ part_of (waiting.Tick part frames) = part
 
 -- At first all streams are closed. Wherever a connection begins or has ended they are so again, each of its kind.
 abbrev pub first_known : List StreamKind → Known
-first_known kinds = record { stock = all_closed kinds; demand = None; progress = progress.Decided }
+first_known kinds = record { stock = all_closed kinds; demand = None; progress = progress.Decided; moved = moved.Nothing }
 
 abbrev pub closed_known : Known → Known
 closed_known x = first_known (kinds_in x.stock.streams)
@@ -168,8 +207,9 @@ sound =
       begun = λ x nodes. closed_known x;
       pages = λ x. pages_of x.stock;
       stripped = λ x. record x { stock = stock.stripped x.stock };
-      dropped = λ x. record { stock = undue x.stock; demand = None; progress = progress.Decided };
-      taken = λ x part words. record { stock = undue x.stock; demand = Some (demanding part words); progress = progress.Decided };
+      dropped = λ x. record { stock = undue (restored x.moved x.stock); demand = None; progress = progress.Decided; moved = moved.Nothing };
+      taken = λ x part words.
+          record { stock = undue (restored x.moved x.stock); demand = Some (demanding part words); progress = progress.Decided; moved = moved.Nothing };
       ready = λ x. ready_for x x.demand;
       job = λ site x. job_for site x x.demand;
       reply = λ x. reply_for x x.demand;
@@ -187,10 +227,11 @@ sound =
       refusal = λ b es e. refusal_of b es;
     }
 
--- the rows of a sound device: the streams, the request in hand, whether a page was denied to it, and the event that is due directly
--- after a tick
+-- the rows of a sound device: the streams, the numbers of the names of their buffers, the request in hand, whether a page was denied to
+-- it, and the event that is due directly after a tick
 pub record Lines : Type 0 where
   pub streams : List Pcm
+  pub names : List Numbered
   pub demand : Option Demand
   pub denied : Bool
   pub due : Option Due
@@ -225,13 +266,22 @@ IsPaid old d other new = ⊥
 abbrev pub Pays : Site → Lines → Evidence → Said → Lines → Type 0
 Pays site old told what new = (d : Due) × (old.due ≡ Some d) × IsPaid old d what new
 
-abbrev pub IsAnswer : Lines → ℤ → Type 0
-IsAnswer y status = (d : Demand) × (y.demand ≡ Some d) × IsStatus y.denied y.streams d status
+-- the request in hand has this status, and its Move touched these words of its stream's buffer
+abbrev pub IsAnswer : Lines → List Touch → ℤ → Type 0
+IsAnswer y touched status =
+    (d : Demand) × (y.demand ≡ Some d) × IsStatus y.denied y.streams d status
+    × IsMoved (number_under d.part y.names) (stream_at y.streams d.part).queue d.request.asked (is_accepted status) touched
 
-abbrev pub replied_for : Lines → Option Demand → ℤ → Lines
-replied_for y None status = y
-replied_for y (Some d) status =
-    record { streams = streams_after y.streams d.part d.request.asked (is_accepted status); demand = None; denied = false; due = y.due }
+abbrev pub replied_for : Lines → Option Demand → List Touch → ℕ → ℤ → Lines
+replied_for y None touched n status = y
+replied_for y (Some d) touched n status =
+    record {
+      streams = streams_replied y.streams d.part d.request.asked (is_accepted status) touched;
+      names = numbered_after y.names n d.part d.request.asked (is_accepted status);
+      demand = None;
+      denied = false;
+      due = y.due;
+    }
 
 abbrev pub makes_for : Option Demand → ℤ → Bool
 makes_for None status = false
@@ -241,14 +291,14 @@ abbrev pub table : Table Lines Waiting
 table =
     record {
       kind = Ringed;
-      begun = λ y nodes. record { streams = map closed (kinds_in y.streams); demand = None; denied = false; due = None };
-      taken = λ y part words. record { streams = y.streams; demand = Some (demanding part words); denied = false; due = None };
-      dropped = λ y. record { streams = y.streams; demand = None; denied = false; due = None };
+      begun = λ y nodes. record { streams = map closed (kinds_in y.streams); names = []; demand = None; denied = false; due = None };
+      taken = λ y part words. record y { demand = Some (demanding part words); denied = false; due = None };
+      dropped = λ y. record y { demand = None; denied = false; due = None };
       Tells = Tells;
       Serves = Serves;
 Pays = Pays;
-      IsStatus = λ y touched status. IsAnswer y status;
-      replied = λ y touched n status. replied_for y y.demand status;
+      IsStatus = IsAnswer;
+      replied = λ y touched n status. replied_for y y.demand touched n status;
       makes = λ y status. makes_for y.demand status;
       waits = waiting_of;
       refusal = λ b es e. refusal_of b es;
@@ -274,7 +324,14 @@ goes_for x m (Some d) = goes_of x m d.part d.request.asked
 abbrev pub shows : Shows Known Lines (List Numbered)
 shows =
     record {
-      rows = λ x m. record { streams = x.stock.streams; demand = x.demand; denied = is_denied x.progress; due = x.stock.due };
+      rows = λ x m.
+          record {
+            streams = unmoved x.moved x.stock.streams;
+            names = m;
+            demand = x.demand;
+            denied = is_denied x.progress;
+            due = x.stock.due;
+          };
       names = λ x m. live_names x.stock.held m;
       number = λ x m key. number_under key m;
       named = λ x n m. named_for x x.demand n m;

@@ -1,10 +1,13 @@
 -- The streams of a sound device, and the pages that it holds for them.
-use Rattle.std.specs.Prelude.{ℕ, zero, suc, Bool, true, List, [], ◌∷◌, ◌++◌, length, map, replicate, Option, Some, None}
+use Rattle.std.specs.Prelude.{ℕ, zero, suc, Bool, true, List, [], ◌∷◌, ◌++◌, length, map, replicate, slice_get, Option, Some, None}
 use Rattle.pv_words.specs.declared.device.StreamKind.{StreamKind}
+use Rattle.pv_words.specs.declared.device.StreamKind.TheVariants.{Playback}
 use Rattle.pv_words.specs.declared.grant.Hold.{Hold}
 use Rattle.snd_wire.specs.declared.types.Asked.{Asked}
 use Rattle.snd_wire.specs.declared.types.Asked.TheVariants as asked
-use Rattle.pcm_stream.specs.Stream.{Pcm, closed, opened, told, triggered}
+use Rattle.pcm_stream.specs.Stream.{Pcm, closed, cut, opened, popped, told, triggered}
+use Rattle.sound_backend.specs.declared.course.Moved.{Moved}
+use Rattle.sound_backend.specs.declared.course.Moved.TheVariants as moved
 use Rattle.sound_backend.specs.declared.waiting.Due.{Due}
 use Rattle.sound_backend.specs.Held.{all_bared, pages_in, with_list}
 use Rattle.sound_backend.specs.Held as lists
@@ -54,6 +57,23 @@ changed f [] k = []
 changed f (s ∷ ss) zero = f s ∷ ss
 changed f (s ∷ ss) (suc k) = s ∷ changed f ss k
 
+-- the stream of a part; a closed one stands for one that isn't there
+abbrev pub stream_or : Option Pcm → Pcm
+stream_or None = closed Playback
+stream_or (Some s) = s
+
+abbrev pub stream_at : List Pcm → ℕ → Pcm
+stream_at streams part = stream_or (slice_get streams part)
+
+-- The streams without what the Move of the request in hand took: the octets of a WRITE aren't theirs before its reply.
+abbrev pub unmoved : Moved → List Pcm → List Pcm
+unmoved moved.Nothing streams = streams
+unmoved (moved.Took part count) streams = changed (λ s. cut s count) streams part
+unmoved moved.Filled streams = streams
+
+abbrev pub restored : Moved → Stock → Stock
+restored m s = record s { streams = unmoved m s.streams }
+
 -- no event is due any more
 abbrev pub undue : Stock → Stock
 undue s = record s { due = None }
@@ -66,12 +86,13 @@ raised_by s (Some d) = record s { streams = changed told s.streams d.part; due =
 abbrev pub raised : Stock → Stock
 raised s = raised_by s s.due
 
--- after an accepted OPEN the stream has the pages that were mapped for it, after an accepted CLOSE it is closed, and an accepted
--- TRIGGER leads it to another state
+-- after an accepted OPEN the stream has the pages that were mapped for it, after an accepted CLOSE it is closed, an accepted TRIGGER
+-- leads it to another state, and an accepted READ removes its octets; those of a WRITE were appended by its Move
 abbrev pub streams_after : List Pcm → ℕ → Asked → Bool → List Pcm
 streams_after streams part (asked.Open p) true = changed (λ s. opened s.kind p) streams part
 streams_after streams part asked.Close true = changed (λ s. closed s.kind) streams part
 streams_after streams part (asked.Trigger kind) true = changed (λ s. triggered s kind) streams part
+streams_after streams part (asked.Read offset size) true = changed (λ s. popped s size) streams part
 streams_after streams part asks accepted = streams
 
 abbrev pub stock_after : Stock → ℕ → Asked → Bool → Stock

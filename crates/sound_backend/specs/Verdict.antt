@@ -10,7 +10,7 @@ use Rattle.pcm_params.specs.declared.ranges.Answer.{Answer}
 use Rattle.pcm_params.specs.Ranges.{answer_of, no_ranges}
 use Rattle.pcm_stream.specs.declared.state.StreamRefusal.{StreamRefusal}
 use Rattle.pcm_stream.specs.Refusal.{status_of}
-use Rattle.pcm_stream.specs.Stream.{Pcm, close_check, open_check, trigger_check}
+use Rattle.pcm_stream.specs.Stream.{Pcm, close_check, open_check, read_check, trigger_check, write_check}
 use Rattle.sound_backend.specs.declared.course.Demand.{Demand}
 use Rattle.page_directory.specs.Progress.{IsStatusOf}
 
@@ -27,11 +27,13 @@ abbrev pub checked : Result (Unit {0}) StreamRefusal → Answer
 checked (Ok fine) = refused (pos 0)
 checked (Err why) = refused (status_of why)
 
--- The answer to a request of a stream, by the first check that fails, without those on memory and pages: OPEN, CLOSE and TRIGGER by
--- their checks, a query in any state by what it and what is offered have in common; no other operation is met.
+-- The answer to a request of a stream, by the first check that fails, without those on memory and pages: OPEN, CLOSE, READ, WRITE and
+-- TRIGGER by their checks, a query in any state by what it and what is offered have in common; no other operation is met.
 abbrev pub answer_by : Pcm → Asked → Answer
 answer_by s (asked.Open p) = checked (open_check s p)
 answer_by s asked.Close = checked (close_check s)
+answer_by s (asked.Read offset size) = checked (read_check s offset size)
+answer_by s (asked.Write offset size) = checked (write_check s offset size)
 answer_by s (asked.Trigger kind) = checked (trigger_check s kind)
 answer_by s (asked.Query ranges) = answer_of ranges
 answer_by s asks = refused not_supported

@@ -2,10 +2,11 @@
 
 ghost use Rattle.std.specs.Prelude.{◌≡◌, ◌<◌, ◌≤◌, ◌*◌, ◌==◌, [], length, replicate, slice_get, IfOk, Some};
 ghost use Rattle.pv_words.specs.Release.{Drops, MayDrop};
+ghost use Rattle.sound_backend.specs.Moves.{are_for_writing};
 ghost use Rattle.sound_backend.specs.Held.{all_bared, less_one, list_at, pages_in, with_list, without_first, IsPage};
 
 use page_directory::{Pages, Release};
-use pv_words::{Access, Hold, Words};
+use pv_words::{Access, Hold, Mode, PageList, Words};
 use std::alloc::{AllocError, Global};
 use std::marker::Model;
 
@@ -89,6 +90,30 @@ impl LeftPages {
     }
 }
 
+// Whether all these pages are held for writing.
+pub(crate) fn are_for_writing(pages: &LeftPages) -> bool
+    ensures { result ≡ are_for_writing pages.now }
+{
+    for i in 0..pages.count() {
+        if pages.get(i).mode != Mode::Write {
+            return false;
+        }
+    }
+    true
+}
+
+impl PageList for LeftPages {
+    ghost holds = { λ p. p };
+
+    fn len(&self) -> u32 {
+        self.count()
+    }
+
+    fn get(&self, i: u32) -> Hold {
+        LeftPages::get(self, i)
+    }
+}
+
 // At most four lists of pages.
 #[derive(Drop)]
 pub(crate) struct PageLists {
@@ -128,6 +153,14 @@ impl PageLists {
         ensures few { result ≤ 4 }
     {
         self.lists.len() as u32
+    }
+
+    // The list at this place.
+    pub(crate) fn list(&self, k: u32) -> &LeftPages
+        requires { k < length self.now }
+        ensures { result.now ≡ list_at self.now k }
+    {
+        &self.lists[k as usize]
     }
 
     // How many pages are left of the list at this place.

@@ -6,10 +6,11 @@ ghost use Rattle.sound_backend.specs.Course.{Stands, pages_walked};
 ghost use Rattle.sound_backend.specs.CourseFacts.{stands_prop};
 ghost use Rattle.sound_backend.specs.Store.{queue_of, stock_of};
 
-use crate::course::{Course, Demand};
+use crate::course::{Course, Demand, Moved};
 use crate::store::Store;
 use crate::waiting::{Due, Waiting, waiting_of};
 use device_service::{Deed, Now, Serve};
+use octet_moves::{ReadMove, WriteMove};
 use page_directory::{Progress, Walk, Walked};
 use pcm_params::Params;
 use pv_words::{Access, DomId, GrantRef, Hold, HostEvent, Said, StreamKind, Words};
@@ -28,7 +29,9 @@ pub struct Service {
     hand: Option<Demand>,
     progress: Progress,
     course: Course,
-    ghost stands: { Stands course hand progress (stock_of store).held (queue_of store) } by { Prim.hlevel (props, stands_prop) },
+    // What its Move came to.
+    moved: Moved,
+    ghost stands: { Stands course hand progress (stock_of store) (queue_of store) moved } by { Prim.hlevel (props, stands_prop) },
 }
 
 impl Service {
@@ -46,7 +49,12 @@ impl Service {
     ghost use Rattle.snd_wire.specs.declared.types.Asked.TheVariants as asked;
     ghost use Rattle.sound_backend.specs.declared.course.Course.TheVariants as course;
     ghost use Rattle.page_directory.specs.declared.progress.Progress.TheVariants as progress;
+    ghost use Rattle.octet_moves.specs.Moving.{read_left, write_left};
     ghost use Rattle.sound_backend.specs.Course.{HasOpen};
+    ghost use Rattle.sound_backend.specs.declared.course.Moved.TheVariants as moved;
+    ghost use Rattle.sound_backend.specs.Over.{ContinuesAt};
+    ghost use Rattle.sound_backend.specs.Stock.{pages_of, restored, stream_at};
+    ghost use Rattle.sound_backend.specs.Service.{is_to_move, verdict_by};
     ghost use Rattle.sound_backend.specs.Held.{list_at};
     ghost use Rattle.sound_backend.specs.Known.{known_of, going_of, left_of, is_of, held_of};
     ghost use Rattle.sound_backend.specs.Over.{BeginsOpen, OpensBy, walk_for};
@@ -54,7 +62,6 @@ impl Service {
     ghost use Rattle.device_service.specs.Mapping.{WalksBy, walk_over};
     ghost use Rattle.sound_backend.specs.Service.{Freed, Listed, after_walk, due_for, first_known, sound};
     ghost use Rattle.device_service.specs.Mapping.{denied_by};
-    ghost use Rattle.sound_backend.specs.Verdict.{verdict};
     ghost use Rattle.page_directory.specs.Progress.{status_in};
 
     /// The service of a sound device with streams of these kinds that isn't connected.
@@ -71,6 +78,7 @@ impl Service {
             hand: None,
             progress: Progress::Decided,
             course: Course::Rests,
+            moved: Moved::Nothing,
         })
     }
 
@@ -91,22 +99,50 @@ impl Service {
     {
         match &self.course {
             Course::Walks(walk) => walk.held(),
-            Course::Rests | Course::Frees(_) => 0,
+            Course::Rests | Course::Frees(_) | Course::Takes(..) | Course::Puts(..) => 0,
         }
     }
 
-    // The verdict on this request.
+    // The verdict on this request; one whose Move is over is accepted.
     fn verdict_on(&self, demand: &Demand) -> i32
-        ensures { result ≡ verdict (stock_of self.now.store).streams demand.now }
+        ensures { result ≡ verdict_by self.now.moved (stock_of self.now.store).streams demand.now }
     {
-        self.store
-            .answer_to(demand.part, &demand.request.asked)
-            .status
+        match self.moved {
+            Moved::Nothing => {
+                let asked = &demand.request.asked;
+                self.store.answer_to(demand.part, asked).status
+            }
+            _ => 0,
+        }
+    }
+
+    // Whether octets from this one on, so many, are to be moved by this request.
+    fn is_to_move(&self, demand: &Demand, offset: u32, size: u32) -> bool
+        ensures { result ≡ is_to_move self.now.moved (stock_of self.now.store) demand.now offset size }
+    {
+        match self.moved {
+            Moved::Nothing => {
+                self.verdict_on(demand) == 0 && self.store.has_range(demand.part, offset, size)
+            }
+            _ => false,
+        }
+    }
+
+    // The octets that the Move of the request in hand took go back.
+    fn restore(&mut self)
+        requires idle { going_of self.old ≡ false }
+        ensures knows { known_of self.new ≡ record (known_of self.old) { stock = restored self.old.moved (stock_of self.old.store); moved = moved.Nothing } }
+        ensures rests { self.new.course ≡ self.old.course }
+    {
+        if let Moved::Took(part, count) = self.moved {
+            self.store.take_back(part, count);
+        }
+        self.moved = Moved::Nothing;
     }
 
     // The status of this request, as far as it has come.
     fn status_of(&self, demand: &Demand) -> i32
-        ensures { result ≡ status_in self.now.progress (verdict (stock_of self.now.store).streams demand.now) }
+        ensures { result ≡ status_in self.now.progress (verdict_by self.now.moved (stock_of self.now.store).streams demand.now) }
     {
         self.progress.status(self.verdict_on(demand))
     }
@@ -216,6 +252,66 @@ impl Service {
             now: Now::Over,
         }
     }
+
+    // The next access of this Move of a WRITE of the stream of this part.
+    fn take_on<W: Words>(&mut self, words: &mut W, part: u8, write: WriteMove) -> Deed
+        requires idle { self.old.course ≡ course.Rests }
+        requires takes { Stands (course.Takes part write) self.old.hand self.old.progress (stock_of self.old.store) (queue_of self.old.store) self.old.moved }
+        requires may { MayGo (W.may words.old) (write_left (list_at (stock_of self.old.store).held part) write (stream_at (stock_of self.old.store).streams part).queue) }
+        ensures goes { (site : Site) → ContinuesAt site self.old (course.Takes part write) result self.new }
+        ensures made { Makes W.makes words.old result.access words.new }
+        ensures stays { AccessIn (pages_of (stock_of self.old.store)) result.access }
+        ensures going { going_of self.new ≡ is_going result.now }
+        ensures domain { (dom : ℕ) → is_of dom self.new ≡ true }
+    {
+        let mut write = write;
+        let turn = self.store.take_on(part, &mut write, words);
+        let now = match turn.done {
+            None => {
+                self.course = Course::Takes(part, write);
+                Now::GoesOn
+            }
+            Some(()) => {
+                self.moved = Moved::Took(part, write.taken());
+                Now::Over
+            }
+        };
+        Deed {
+            access: turn.access,
+            said: None,
+            now,
+        }
+    }
+
+    // The next access of this Move of a READ of the stream of this part.
+    fn put_on<W: Words>(&mut self, words: &mut W, part: u8, read: ReadMove) -> Deed
+        requires idle { self.old.course ≡ course.Rests }
+        requires puts { Stands (course.Puts part read) self.old.hand self.old.progress (stock_of self.old.store) (queue_of self.old.store) self.old.moved }
+        requires may { MayGo (W.may words.old) (read_left (list_at (stock_of self.old.store).held part) read (stream_at (stock_of self.old.store).streams part).queue) }
+        ensures goes { (site : Site) → ContinuesAt site self.old (course.Puts part read) result self.new }
+        ensures made { Makes W.makes words.old result.access words.new }
+        ensures stays { AccessIn (pages_of (stock_of self.old.store)) result.access }
+        ensures going { going_of self.new ≡ is_going result.now }
+        ensures domain { (dom : ℕ) → is_of dom self.new ≡ true }
+    {
+        let mut read = read;
+        let turn = self.store.put_on(part, &mut read, words);
+        let now = match turn.done {
+            None => {
+                self.course = Course::Puts(part, read);
+                Now::GoesOn
+            }
+            Some(()) => {
+                self.moved = Moved::Filled;
+                Now::Over
+            }
+        };
+        Deed {
+            access: turn.access,
+            said: None,
+            now,
+        }
+    }
 }
 
 impl Serve for Service {
@@ -288,9 +384,11 @@ impl Serve for Service {
         self.store.clear();
         self.hand = None;
         self.progress = Progress::Decided;
+        self.moved = Moved::Nothing;
     }
 
     fn take(&mut self, part: u8, words: &[u32; 16]) {
+        self.restore();
         self.store.drop_due();
         self.hand = Some(Demand {
             part,
@@ -303,8 +401,10 @@ impl Serve for Service {
         let Some(demand) = self.hand else {
             return true;
         };
-        if let Course::Frees(_) = self.course {
-            return true;
+        match self.course {
+            Course::Frees(_) => return true,
+            Course::Takes(..) | Course::Puts(..) => return false,
+            Course::Rests | Course::Walks(_) => {}
         }
         match self.progress {
             Progress::Decided => match demand.request.asked {
@@ -312,6 +412,11 @@ impl Serve for Service {
                 Asked::Close => {
                     self.verdict_on(&demand) != 0 || self.store.held_of(demand.part) == 0
                 }
+                Asked::Read(offset, size) => {
+                    !(self.is_to_move(&demand, offset, size)
+                        && self.store.is_for_writing(demand.part))
+                }
+                Asked::Write(offset, size) => !self.is_to_move(&demand, offset, size),
                 _ => true,
             },
             _ => true,
@@ -327,6 +432,14 @@ impl Serve for Service {
             Asked::Close => {
                 self.course = Course::Frees(demand.part);
                 self.free(words, demand.part)
+            }
+            Asked::Read(offset, size) => {
+                let read = ReadMove::new(u64::from(demand.part), offset, size);
+                self.put_on(words, demand.part, read)
+            }
+            Asked::Write(offset, size) => {
+                let write = WriteMove::new(u64::from(demand.part), offset, size);
+                self.take_on(words, demand.part, write)
             }
             _ => unreachable!(),
         }
@@ -389,6 +502,8 @@ impl Serve for Service {
         }
         match mem::replace(&mut self.course, Course::Rests) {
             Course::Walks(walk) => self.walk(words, walk),
+            Course::Takes(part, write) => self.take_on(words, part, write),
+            Course::Puts(part, read) => self.put_on(words, part, read),
             Course::Rests | Course::Frees(_) => unreachable!(),
         }
     }
@@ -414,6 +529,7 @@ impl Serve for Service {
         }
         self.hand = None;
         self.progress = Progress::Decided;
+        self.moved = Moved::Nothing;
         status
     }
 
@@ -437,6 +553,7 @@ impl Serve for Service {
     }
 
     fn drop_hand(&mut self) {
+        self.restore();
         self.store.drop_due();
         self.hand = None;
         self.progress = Progress::Decided;

@@ -5,13 +5,14 @@ ghost use Rattle.pcm_params.specs.Params.{is_accepted as are_accepted};
 ghost use Rattle.pcm_stream.specs.Queue.{queue_for};
 ghost use Rattle.sound_backend.specs.Verdict.{answer_by, answer_to, mode_for};
 
-use crate::held::{LeftPages, PageLists};
+use crate::held::{LeftPages, PageLists, are_for_writing};
 use crate::verdict::{EOPNOTSUPP, checked, refused};
 use crate::waiting::{Due, due_at};
+use octet_moves::{ReadMove, WriteMove};
 use page_directory::{Pages, Walk};
 use pcm_params::{Answer, Params, answer_query};
 use pcm_stream::{Queue, Stream, Ticked, queue};
-use pv_words::{Access, DomId, GrantRef, Hold, Mode, StreamKind, Words};
+use pv_words::{Access, DomId, GrantRef, Hold, Mode, StreamKind, Turn, Words};
 use snd_wire::Asked;
 use std::alloc::{AllocError, Global};
 
@@ -36,6 +37,8 @@ fn answer_by(stream: &Stream, asked: &Asked) -> Answer
     match asked {
         Asked::Open(params) => checked(stream.can_begin(params)),
         Asked::Close => checked(stream.can_finish()),
+        Asked::Read(offset, size) => checked(stream.can_read(*offset, *size)),
+        Asked::Write(offset, size) => checked(stream.can_write(*offset, *size)),
         Asked::Trigger(kind) => checked(stream.can_trigger(*kind)),
         Asked::Query(ranges) => answer_query(ranges),
         _ => refused(EOPNOTSUPP),
@@ -43,9 +46,16 @@ fn answer_by(stream: &Stream, asked: &Asked) -> Answer
 }
 
 impl Store {
+    ghost use Rattle.pv_words.specs.Plan.{MayGo, Makes};
     ghost use Rattle.pv_words.specs.Release.{Drops, MayDrop};
+    ghost use Rattle.octet_moves.specs.Moving.{read_left, write_left};
+    ghost use Rattle.octet_moves.specs.Steps.{PutsOn, TakesOn};
+    ghost use Rattle.link_core.specs.Stays.{AccessIn};
+    ghost use Rattle.sound_backend.specs.Course.{HasQueued, HasRoomFor, MovesIn};
+    ghost use Rattle.sound_backend.specs.Moves.{are_for_writing, is_in};
+    ghost use Rattle.sound_backend.specs.declared.course.Moved.TheVariants as moved;
     ghost use Rattle.sound_backend.specs.Held.{list_at};
-    ghost use Rattle.sound_backend.specs.Stock.{all_closed, kinds_in, less_one, pages_of, raised, stock_after, undue, without_first};
+    ghost use Rattle.sound_backend.specs.Stock.{all_closed, changed, kinds_in, less_one, pages_of, raised, restored, stock_after, stream_at, undue, without_first};
     ghost use Rattle.sound_backend.specs.Store.{BeginsFor, NeedsQueue, queue_of, stock_of};
     ghost use Rattle.sound_backend.specs.Waiting.{stock_ticked, ticked_in};
     ghost use Rattle.snd_wire.specs.declared.types.Asked.TheVariants as asked;
@@ -150,6 +160,78 @@ impl Store {
         let _ = self.streams[usize::from(part)].trigger(kind);
     }
 
+    // The first so many octets of the queue of the stream of this part go; all of them, where fewer are queued.
+    fn skip(&mut self, part: u8, count: u32)
+        ensures stock { stock_of self.new ≡ stock_after (stock_of self.old) part (asked.Read 0 count) true }
+        ensures queue { queue_of self.new ≡ queue_of self.old }
+    {
+        let k = usize::from(part);
+        if k >= self.streams.len() {
+            return;
+        }
+        let queued = self.streams[k].queued();
+        self.streams[k].skip(count.min(queued));
+    }
+
+    /// The last so many octets of the queue of the stream of this part, which the Move of a WRITE took, go back.
+    pub fn take_back(&mut self, part: u8, count: u32)
+        ensures stock { stock_of self.new ≡ restored (moved.Took part count) (stock_of self.old) }
+        ensures queue { queue_of self.new ≡ queue_of self.old }
+    {
+        let k = usize::from(part);
+        if k >= self.streams.len() {
+            return;
+        }
+        self.streams[k].take_back(count);
+    }
+
+    /// Whether so many octets from this one on, and some, lie in the pages of the stream of this part.
+    pub fn has_range(&self, part: u8, offset: u32, size: u32) -> bool
+        ensures { result ≡ is_in (list_at (stock_of self.now).held part) offset size }
+    {
+        let pages = self.held_of(part);
+        size > 0 && u64::from(offset) + u64::from(size) <= 4096 * u64::from(pages)
+    }
+
+    /// Whether all pages of the stream of this part are held for writing.
+    pub fn is_for_writing(&self, part: u8) -> bool
+        ensures { result ≡ are_for_writing (list_at (stock_of self.now).held part) }
+    {
+        if usize::from(part) >= self.streams.len() {
+            return true;
+        }
+        are_for_writing(self.held.list(u32::from(part)))
+    }
+
+    /// The next access of the Move of a WRITE of the stream of this part, to whose queue the octets go.
+    pub fn take_on<W: Words>(&mut self, part: u8, write: &mut WriteMove, words: &mut W) -> Turn<()>
+        requires moves { MovesIn part write.old.way (stock_of self.old) }
+        requires room { HasRoomFor write.old (stream_at (stock_of self.old).streams part) }
+        requires may { MayGo (W.may words.old) (write_left (list_at (stock_of self.old).held part) write.old (stream_at (stock_of self.old).streams part).queue) }
+        ensures takes { TakesOn (list_at (stock_of self.old).held part) write.old (stream_at (stock_of self.old).streams part) result.access result.done write.new (stream_at (stock_of self.new).streams part) }
+        ensures stock { stock_of self.new ≡ record (stock_of self.old) { streams = changed (λ s. stream_at (stock_of self.new).streams part) (stock_of self.old).streams part } }
+        ensures queue { queue_of self.new ≡ queue_of self.old }
+        ensures made { Makes W.makes words.old result.access words.new }
+        ensures stays { AccessIn (pages_of (stock_of self.old)) result.access }
+    {
+        let pages = self.held.list(u32::from(part));
+        write.step(pages, &mut self.streams[usize::from(part)], words)
+    }
+
+    /// The next access of the Move of a READ of the stream of this part, whose queue stays.
+    pub fn put_on<W: Words>(&self, part: u8, read: &mut ReadMove, words: &mut W) -> Turn<()>
+        requires moves { MovesIn part read.old.way (stock_of self.now) }
+        requires queued { HasQueued read.old (stream_at (stock_of self.now).streams part) }
+        requires writes { are_for_writing (list_at (stock_of self.now).held part) ≡ true }
+        requires may { MayGo (W.may words.old) (read_left (list_at (stock_of self.now).held part) read.old (stream_at (stock_of self.now).streams part).queue) }
+        ensures puts { PutsOn (list_at (stock_of self.now).held part) read.old (stream_at (stock_of self.now).streams part) result.access result.done read.new }
+        ensures made { Makes W.makes words.old result.access words.new }
+        ensures stays { AccessIn (pages_of (stock_of self.now)) result.access }
+    {
+        let pages = self.held.list(u32::from(part));
+        read.step(pages, &self.streams[usize::from(part)], words)
+    }
+
     /// A request by this part is answered with status 0, which makes this of its stream.
     pub fn answered(&mut self, part: u8, asked: &Asked)
         requires accepted { (answer_to (slice_get (stock_of self.old).streams part) asked.now).status ≡ pos 0 }
@@ -160,6 +242,7 @@ impl Store {
             Asked::Open(params) => self.open(part, params),
             Asked::Close => self.close(part),
             Asked::Trigger(kind) => self.trigger(part, *kind),
+            Asked::Read(_, size) => self.skip(part, *size),
             _ => {}
         }
     }

@@ -246,7 +246,7 @@ table =
       dropped = λ y. record { streams = y.streams; demand = None; denied = false; due = None };
       Tells = Tells;
       Serves = Serves;
-Pays = Pays;
+      Pays = Pays;
       IsStatus = λ y touched status. IsAnswer y status;
       replied = λ y touched n status. replied_for y y.demand status;
       makes = λ y status. makes_for y.demand status;

@@ -136,8 +136,11 @@ tick_same s n = by_test (is_running s.state)
 pub tick_kind : (n : ℕ) (s : Pcm) → (after_tick s n).kind ≡ s.kind
 tick_kind n s = (tick_same s n).0
 
+pub tick_state : (n : ℕ) (s : Pcm) → (after_tick s n).state ≡ s.state
+tick_state n s = (tick_same s n).1
+
 pub tick_closed : (n : ℕ) (s : Pcm) → is_closed (after_tick s n).state ≡ is_closed s.state
-tick_closed n s = ap is_closed (tick_same s n).1
+tick_closed n s = ap is_closed (tick_state n s)
 
 -- a trigger leaves the kind of a stream, and leads none from or to where it is closed
 led_kind : (s : Pcm) (t : Trigger) (next : Option StreamState) → (led s t next).kind ≡ s.kind

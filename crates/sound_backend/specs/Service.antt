@@ -296,7 +296,7 @@ table =
       dropped = λ y. record y { demand = None; denied = false; due = None };
       Tells = Tells;
       Serves = Serves;
-Pays = Pays;
+      Pays = Pays;
       IsStatus = IsAnswer;
       replied = λ y touched n status. replied_for y y.demand touched n status;
       makes = λ y status. makes_for y.demand status;

@@ -4,7 +4,6 @@ use Rattle.std.proofs.lemmas.Bool.{true≢false}
 use Rattle.std.specs.List.{AllByRecursion}
 use Rattle.pv_words.specs.declared.grant.Hold.{Hold}
 use Rattle.pv_words.specs.declared.grant.Mode.{Mode}
-
 use Rattle.pv_words.specs.declared.place.Place.{Place}
 use Rattle.pv_words.specs.Found.{Found}
 use Rattle.pv_words.specs.Plan.{Want, Load, Store, Note, Takes as takes, Puts as puts, IsUntouched}

@@ -109,7 +109,7 @@ fn steps(sound: &mut Sound, domain: &mut Domain) -> Step {
 // The last that a sound device says until it is idle.
 fn says(sound: &mut Sound, domain: &mut Domain) -> Option<Said> {
     let mut said = None;
-    for _ in 0..200 {
+    for _ in 0..3000 {
         let step = steps(sound, domain);
         if step == Step::idle() {
             return said;
@@ -206,7 +206,7 @@ const OFFERED: [u32; 10] = [0x3FFF, 0, 8000, 192_000, 1, 8, 1, 1_048_576, 1, 1_0
 type Row = (u32, [u32; 10], i32, [u32; 10]);
 
 // Requests of a stream of playback that are taken one after another.
-const PLAYED: [Row; 32] = [
+const PLAYED: [Row; 36] = [
     (1, NOTHING, -16, NOTHING),
     (0, [7999, 514, 4096, 2, 4, 0, 0, 0, 0, 0], -22, NOTHING),
     (0, [192_001, 514, 4096, 2, 4, 0, 0, 0, 0, 0], -22, NOTHING),
@@ -225,13 +225,17 @@ const PLAYED: [Row; 32] = [
     (0, OPEN, 0, NOTHING),
     (0, OPEN, -16, NOTHING),
     (0, [7999, 514, 4096, 2, 4, 0, 0, 0, 0, 0], -16, NOTHING),
-    (2, NOTHING, -95, NOTHING),
-    (3, NOTHING, -95, NOTHING),
+    (2, NOTHING, -22, NOTHING),
+    (3, NOTHING, 0, NOTHING),
+    (3, [4093, 3, 0, 0, 0, 0, 0, 0, 0, 0], 0, NOTHING),
+    (3, [4093, 4, 0, 0, 0, 0, 0, 0, 0, 0], -22, NOTHING),
+    (3, [0, 4096, 0, 0, 0, 0, 0, 0, 0, 0], 0, NOTHING),
+    (3, [0, 4096, 0, 0, 0, 0, 0, 0, 0, 0], -11, NOTHING),
     (4, NOTHING, -95, NOTHING),
     (5, NOTHING, -95, NOTHING),
     (6, NOTHING, -95, NOTHING),
     (7, NOTHING, -95, NOTHING),
-    (8, NOTHING, -95, NOTHING),
+    (8, NOTHING, 0, NOTHING),
     (10, NOTHING, -95, NOTHING),
     (9, [u32::MAX; 10], -22, NOTHING),
     (

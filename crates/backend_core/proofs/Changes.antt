@@ -29,7 +29,8 @@ use Rattle.display_backend.specs.Scene.{IsSound, Scene, after_blank_at, asking, 
 use Rattle.display_backend.specs.Verdict.{verdict}
 use Rattle.display_backend.proofs.Numbered.{passes_by}
 use Rattle.display_backend.proofs.Scenes.{answered_scene, asked_scene, blanked_scene, none_sound}
-use Rattle.backend_core.specs.Pictures.{Change, Created, Destroyed, Attached, Detached, Configured, Flipped, Raised, answered_after, attached, is_marked, made, named, rectangle_at}
+use Rattle.backend_core.specs.Past.{answered_after}
+use Rattle.backend_core.specs.Pictures.{Change, Created, Destroyed, Attached, Detached, Configured, Flipped, Raised, attached, is_marked, made, named, rectangle_at, telling}
 use Rattle.backend_core.proofs.Answers.{none_some}
 use Rattle.backend_core.proofs.Pending.{Pends, configured_pends, detached_pends, flipped_pends, nothing_pends, raised_pends}
 
@@ -297,10 +298,10 @@ module _ (bs : List (Live ℕ)) (sc : Scene) (cs : List Change) (are : AreChange
       }
 
   -- an answer, by 0 or by another status
-  pub changes_answered : (n : ℕ) (asks : Asked) (accepted : Bool) → (accepted ≡ true → verdict bs sc asks ≡ pos 0) → AreChanges (replied_to bs n asks accepted) (scene_after bs sc asks accepted) (answered_after n (Some (record { part = sc.part; asks = asks })) accepted cs)
+  pub changes_answered : (n : ℕ) (asks : Asked) (accepted : Bool) → (accepted ≡ true → verdict bs sc asks ≡ pos 0) → AreChanges (replied_to bs n asks accepted) (scene_after bs sc asks accepted) (answered_after telling n (Some (record { part = sc.part; asks = asks })) accepted cs)
   changes_answered n asks accepted h = by_asked asks accepted h (answered_scene bs sc are.sound n asks accepted h)
     where
-      by_asked : (asks : Asked) (accepted : Bool) → (accepted ≡ true → verdict bs sc asks ≡ pos 0) → IsSound (replied_to bs n asks accepted) (scene_after bs sc asks accepted) → AreChanges (replied_to bs n asks accepted) (scene_after bs sc asks accepted) (answered_after n (Some (record { part = sc.part; asks = asks })) accepted cs)
+      by_asked : (asks : Asked) (accepted : Bool) → (accepted ≡ true → verdict bs sc asks ≡ pos 0) → IsSound (replied_to bs n asks accepted) (scene_after bs sc asks accepted) → AreChanges (replied_to bs n asks accepted) (scene_after bs sc asks accepted) (answered_after telling n (Some (record { part = sc.part; asks = asks })) accepted cs)
       by_asked (asked.Create c) true h sound = created n c (passes_by (check_of bs c) (h refl)) sound
       by_asked (asked.Destroy cookie) true h sound = destroyed cookie sound
       by_asked (asked.Attach a) true h sound = attaches a (passes_by (attach_check sc.frames a (buffer_at a.dbuf_cookie bs)) (h refl)) sound

@@ -5,6 +5,7 @@ use Rattle.std.specs.List.{AllByRecursion}
 use Rattle.cookie_table.proofs.Keys.{all_but, all_middle, all_push}
 use Rattle.pv_words.specs.declared.device.Said.TheVariants as said
 use Rattle.pv_words.specs.Along.{after}
+use Rattle.displ_wire.specs.declared.Asked.{Asked}
 use Rattle.displ_wire.specs.declared.Request.{Request}
 use Rattle.device_core.specs.Machine.{Happening, Row, Meanwhile, Refuses, Gone, Draw, Touches, HappensTo, IsRun, Snapshot}
 use Rattle.device_core.specs.Names.{Drawn, Loses, Redraws, Stroke, with_name}
@@ -17,10 +18,12 @@ use Rattle.display_backend.specs.Service.{Lines, makes_for, table}
 use Rattle.page_directory.specs.Progress.{is_accepted}
 use Rattle.backend_core.specs.Drawn.{Drawing, Came, Wrote, Sheet, TakesLast, came_by, came_if, creates, drawings_next, no_sheet, sheet_next, word_at}
 use Rattle.backend_core.specs.Nature.{display_nature, first_snapshot, machine}
-use Rattle.backend_core.specs.Pictures.{Past}
+use Rattle.backend_core.specs.Past.{Past}
+use Rattle.backend_core.specs.Pictures.{Change, telling}
 use Rattle.backend_core.proofs.Answers.{run_parts}
 use Rattle.backend_core.proofs.Going.{IsFew, are_below, counts, few_stays, others_apart}
-use Rattle.backend_core.proofs.Pictures.{IsNow, asking_of, happens_now, nothing_now}
+use Rattle.backend_core.proofs.Pasts.{happens_now}
+use Rattle.backend_core.proofs.Pictures.{Now, asking_of, display_tells, nothing_now}
 
 -- one comes in between
 all_put : {X : Type 0} (Q : X → Type 0) (xs : List X) (y : X) (ys : List X) → AllByRecursion Q (xs ++ ys) → Q y → AllByRecursion Q (xs ++ y ∷ ys)
@@ -99,14 +102,14 @@ made_same part (Some q) status = refl
 module _ (site : Site) where
   -- the names are those of the sheet
   record IsSheet (x : Sheet) (m : Snapshot (Rows Lines Waiting)) : Type 0 where
-    now : IsNow site x.past m
+    now : Now site x.past m
     few : (n : ℕ) → IsFew n m.names m.rows.replies
     drawn : AreDrawn x.drawings m.names
 
-  moved_drawn : (p : Past) (ds : List Drawing) (m k : Snapshot (Rows Lines Waiting)) (e : Event) (words : List ℕ) → IsNow site p m → AllByRecursion (λ (n : Drawn). n.number < p.replies) m.names → AreDrawn ds m.names → k.names ≡ with_name m.names (makes table m.rows e) words → AreDrawn (came_by p e words ds) k.names
+  moved_drawn : (p : Past Asked Change) (ds : List Drawing) (m k : Snapshot (Rows Lines Waiting)) (e : Event) (words : List ℕ) → Now site p m → AllByRecursion (λ (n : Drawn). n.number < p.replies) m.names → AreDrawn ds m.names → k.names ≡ with_name m.names (makes table m.rows e) words → AreDrawn (came_by p e words ds) k.names
   moved_drawn p ds m k (Says (said.Replied part id status notified) taken f) words now below are is =
       let same : makes_for m.rows.service.request status ≡ (creates p.hand && is_accepted status) =
-      sym (made_same m.rows.service.scene.part m.rows.service.request status) ∙ ap (λ o. creates o && is_accepted status) (sym now.rows.told.hand) in
+      sym (made_same m.rows.service.scene.part m.rows.service.request status) ∙ ap (λ o. creates o && is_accepted status) (sym now.rows.told.hand_is) in
       let names : k.names ≡ with_name m.names (made_if (creates p.hand && is_accepted status) p.replies) words =
       is ∙ (ap (λ t. with_name m.names (made_if t m.rows.replies) words) same ∙ ap (λ n. with_name m.names (made_if (creates p.hand && is_accepted status) n) words) (sym now.rows.replies)) in
       subst (λ ns. AreDrawn (came_if (creates p.hand && is_accepted status) p.replies words ds) ns) (sym names)
@@ -132,7 +135,7 @@ module _ (site : Site) where
   happens_sheet : (x : Sheet) (m k : Snapshot (Rows Lines Waiting)) (e : Happening Event) → HappensTo true (machine display_nature site) m e k → IsSheet x m → IsSheet (sheet_next x e) k
   happens_sheet x m k e h is =
       record {
-        now = happens_now site x.past m k e h is.now;
+        now = happens_now table site telling (display_tells site) x.past m k e h is.now;
         few = λ n. few_stays n m.names k.names m.rows.replies k.rows.replies (counts table site n m k e h) (is.few n);
         drawn = happens_drawn x m k e h is;
       }

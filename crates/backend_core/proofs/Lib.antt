@@ -12,8 +12,10 @@ pub mod Items
 pub mod OneNext
 mod Natures
 mod Outcomes
+mod Pasts
 mod Pending
 mod Pictures
+mod Sounding
 mod Sounds
 mod Stepping
 mod Truth

@@ -5,7 +5,7 @@ use Rattle.std.proofs.lemmas.Option.{same_Some}
 use Rattle.std.specs.List.{AllByRecursion}
 use Rattle.pv_words.specs.declared.device.Said.{Said}
 use Rattle.pv_words.specs.declared.device.Said.TheVariants as said
-use Rattle.pv_words.specs.Along.{after}
+use Rattle.displ_wire.specs.declared.Asked.{Asked}
 use Rattle.displ_wire.specs.declared.Request.{Request}
 use Rattle.displ_wire.specs.declared.buffer.Buffer.{Buffer}
 use Rattle.display_buffers.specs.declared.live.Live.{Live}
@@ -18,162 +18,86 @@ use Rattle.connectors.specs.Connectors.{lies_in, picture_in}
 use Rattle.connectors.specs.Laws as connectors
 use Rattle.picture_scan.specs.declared.scan.Shown.{Shown}
 use Rattle.picture_scan.specs.Laws.{HasShown}
-use Rattle.device_core.specs.Machine.{Happening, Row, Meanwhile, Refuses, Gone, Draw, Touches, HappensTo, IsRun, Snapshot}
-use Rattle.device_core.specs.Order.{Sets, Hosts}
+use Rattle.device_core.specs.Machine.{Happening, Row, HappensTo, IsRun, Snapshot}
 use Rattle.device_core.specs.Site.{Site}
 use Rattle.device_core.specs.Touched.{Touch}
-use Rattle.device_service.specs.Rows.{Event, Evidence, Moves, Own, Paid, Rows, Says, Hears, Begins, Served, Tells as SaysBy}
+use Rattle.device_service.specs.Rows.{Event, Evidence, Rows, Says, Tells as SaysBy}
 use Rattle.display_backend.specs.declared.waiting.Waiting.{Waiting}
 use Rattle.display_backend.specs.declared.waiting.Waiting.TheVariants as waiting
 use Rattle.display_backend.specs.Picture.{AreShown, number_under, source_at, source_by, source_in, source_of}
 use Rattle.display_backend.specs.Scene.{LiesInLive, Scene, after_blank_at, connector_at, live_among}
 use Rattle.display_backend.specs.Service.{Lines, Serves, Tells, replied_for, table}
-use Rattle.display_backend.specs.Verdict.{IsStatus, verdict}
+use Rattle.display_backend.specs.Verdict.{IsStatus, is_creation, verdict}
 use Rattle.page_directory.specs.Progress.{is_accepted}
-use Rattle.page_directory.proofs.Ready.{accepted_is}
 use Rattle.display_backend.proofs.Scenes.{connector_sound}
 use Rattle.backend_core.specs.Nature.{display_nature, first_snapshot, machine}
 use Rattle.backend_core.specs.Flips.{FlipsKeepOrder}
-use Rattle.backend_core.specs.Pictures.{Asking, Change, IsPictureOf, IsShownAt, IsShownOf, Making, Past, ShowsNamed, answered_after, event_after, made, named, no_past, past_next, past_of, rectangle_at, said_after, shape_in}
-use Rattle.backend_core.proofs.Answers.{false_true, none_some, run_parts}
+use Rattle.backend_core.specs.Past.{Asking, Past, answered_after, no_past, past_of}
+use Rattle.backend_core.specs.Pictures.{Change, IsPictureOf, IsShownAt, IsShownOf, Making, Raised, ShowsNamed, made, named, rectangle_at, shape_in, spoken_after, telling}
+use Rattle.backend_core.proofs.Answers.{none_some}
 use Rattle.backend_core.proofs.Pending.{in_order}
 use Rattle.backend_core.proofs.Changes.{AreChanges, IsFrame, asked_by, changes_answered, changes_raised, nothing_changed}
-
--- a status that accepts is the verdict
-status_accepts : (denied : Bool) (y : Lines) (q : Request) (status : ℤ) → IsStatus denied y.buffers y.scene q.asked status → is_accepted status ≡ true → verdict y.buffers y.scene q.asked ≡ pos 0
-status_accepts true y q status is h = false_true (ap is_accepted (sym is) ∙ h)
-status_accepts false y q status (inl is) h = sym is ∙ accepted_is status h
-status_accepts false y q status (inr x) h = x.1
+use Rattle.backend_core.proofs.Pasts.{IsNow, MovesAsTold, at_place, status_accepts}
 
 -- the request in hand, with the part by which it came
-abbrev pub asking_of : ℕ → Request → Asking
+abbrev pub asking_of : ℕ → Request → Asking Asked
 asking_of part q = record { part = part; asks = q.asked }
 
--- what a display's rows are is told by the past
-pub record IsToldBy (p : Past) (y : Lines) : Type 0 where
-  pub hand : p.hand ≡ option_map (asking_of y.scene.part) y.request
-  pub are : AreChanges y.buffers y.scene p.changes
-
-pub record IsPast (p : Past) (r : Rows Lines Waiting) : Type 0 where
-  pub replies : p.replies ≡ r.replies
-  pub told : IsToldBy p r.service
+-- what a display's rows are is told by the request in hand and the changes
+pub record IsToldBy (hand : Option (Asking Asked)) (cs : List Change) (y : Lines) : Type 0 where
+  pub hand_is : hand ≡ option_map (asking_of y.scene.part) y.request
+  pub are : AreChanges y.buffers y.scene cs
 
 -- after a reply
-replied_told : (y : Lines) (o : Option Request) (p : Past) (n : ℕ) (status : ℤ) → y.request ≡ o → (q : Request) → o ≡ Some q → IsStatus y.denied y.buffers y.scene q.asked status → IsToldBy p y → p.replies ≡ n → IsToldBy (said_after p (said.Replied 0 0 status false) []) (replied_for y o n status)
-replied_told y None p n status in_hand q e is old same = none_some q e
-replied_told y (Some r) p n status in_hand q e is old same =
-    let hand : p.hand ≡ Some (asking_of y.scene.part r) = old.hand ∙ ap (option_map (asking_of y.scene.part)) in_hand in
+replied_told : (hand : Option (Asking Asked)) (cs : List Change) (y : Lines) (n : ℕ) (o : Option Request) (status : ℤ) → y.request ≡ o → (q : Request) → o ≡ Some q → IsStatus y.denied y.buffers y.scene q.asked status → IsToldBy hand cs y → IsToldBy None (answered_after telling n hand (is_accepted status) cs) (replied_for y o n status)
+replied_told hand cs y n None status in_hand q e is old = none_some q e
+replied_told hand cs y n (Some r) status in_hand q e is old =
+    let same : hand ≡ Some (asking_of y.scene.part r) = old.hand_is ∙ ap (option_map (asking_of y.scene.part)) in_hand in
     let right : IsStatus y.denied y.buffers y.scene r.asked status = subst (λ (x : Request). IsStatus y.denied y.buffers y.scene x.asked status) (sym (same_Some r q e)) is in
-    let new = changes_answered y.buffers y.scene p.changes old.are n r.asked (is_accepted status) (status_accepts y.denied y r status right) in
+    let new = changes_answered y.buffers y.scene cs old.are n r.asked (is_accepted status) (status_accepts y.denied (is_creation r.asked) (verdict y.buffers y.scene r.asked) status right) in
     record {
-      hand = refl;
-      are = subst (λ o. AreChanges (replied_for y (Some r) n status).buffers (replied_for y (Some r) n status).scene (answered_after p.replies o (is_accepted status) p.changes)) (sym hand)
-          (subst (λ k. AreChanges (replied_for y (Some r) n status).buffers (replied_for y (Some r) n status).scene (answered_after k (Some (asking_of y.scene.part r)) (is_accepted status) p.changes)) (sym same) new);
+      hand_is = refl;
+      are = subst (λ o. AreChanges (replied_for y (Some r) n status).buffers (replied_for y (Some r) n status).scene (answered_after telling n o (is_accepted status) cs)) (sym same) new;
     }
 
 module _ (site : Site) where
   -- after what is said of the request in hand
-  own_told : (p : Past) (y z : Lines) (told : Evidence) (what : Said) (words : List ℕ) → Tells site y told what z → IsToldBy p y → IsToldBy (said_after p what words) z
-  own_told p y z told (said.Denied why) words x old = subst (λ l. IsToldBy p l) (sym x.left) (record { hand = old.hand; are = old.are })
-  own_told p y z told other words x old = absurd x
+  own_told : (hand : Option (Asking Asked)) (cs : List Change) (y z : Lines) (told : Evidence) (what : Said) → Tells site y told what z → IsToldBy hand cs y → IsToldBy hand (spoken_after what cs) z
+  own_told hand cs y z told (said.Denied why) x old = subst (λ l. IsToldBy hand cs l) (sym x.left) (record { hand_is = old.hand_is; are = old.are })
+  own_told hand cs y z told other x old = absurd x
 
   -- after an event that waited is done
-  served_told : (p : Past) (y z : Lines) (e : Waiting) (told : Evidence) (what : Said) (words : List ℕ) → Serves site y e told what z → IsToldBy p y → IsToldBy (said_after p what words) z
-  served_told p y z (waiting.Blank part) told (said.Blank k) words x old = subst (λ l. IsToldBy p l) (sym x.2) old
-  served_told p y z (waiting.Blank part) told (said.Full k) words x old = subst (λ l. IsToldBy p l) (sym x.2) old
-  served_told p y z (waiting.Blank part) told (said.Raised k fb) words x old =
-      subst (λ l. IsToldBy (said_after p (said.Raised k fb) words) l) (sym x.2)
-      (subst (λ n. IsToldBy (said_after p (said.Raised n fb) words) (record y { scene = after_blank_at y.scene part })) (sym x.0)
-      (record { hand = old.hand; are = changes_raised y.buffers y.scene p.changes old.are part fb x.1 }))
-  served_told p y z (waiting.Show part) told (said.Shown k pixels mark) words x old = subst (λ l. IsToldBy p l) (sym x.2) old
-  served_told p y z (waiting.Blank part) told other words x old = absurd x
-  served_told p y z (waiting.Show part) told other words x old = absurd x
+  served_told : (hand : Option (Asking Asked)) (cs : List Change) (y z : Lines) (e : Waiting) (told : Evidence) (what : Said) → Serves site y e told what z → IsToldBy hand cs y → IsToldBy hand (spoken_after what cs) z
+  served_told hand cs y z (waiting.Blank part) told (said.Blank k) x old = subst (λ l. IsToldBy hand cs l) (sym x.2) old
+  served_told hand cs y z (waiting.Blank part) told (said.Full k) x old = subst (λ l. IsToldBy hand cs l) (sym x.2) old
+  served_told hand cs y z (waiting.Blank part) told (said.Raised k fb) x old =
+      subst (λ l. IsToldBy hand (Raised k fb ∷ cs) l) (sym x.2)
+      (subst (λ n. IsToldBy hand (Raised n fb ∷ cs) (record y { scene = after_blank_at y.scene part })) (sym x.0)
+      (record { hand_is = old.hand_is; are = changes_raised y.buffers y.scene cs old.are part fb x.1 }))
+  served_told hand cs y z (waiting.Show part) told (said.Shown k pixels mark) x old = subst (λ l. IsToldBy hand cs l) (sym x.2) old
+  served_told hand cs y z (waiting.Blank part) told other x old = absurd x
+  served_told hand cs y z (waiting.Show part) told other x old = absurd x
 
-  -- nothing of these is the beginning or the end of a request
-  abbrev IsOwn : Rows Lines Waiting → Evidence → Said → Rows Lines Waiting → Type 0
-  IsOwn old told what new = Own table site old told what new ⊎ (Served table site old told what new ⊎ Paid table site old told what new)
-
-  abbrev Keeps : Said → Type 0
-  Keeps what = (p : Past) (words : List ℕ) → (said_after p what words).replies ≡ p.replies
-
-  own_past : (p : Past) (old new : Rows Lines Waiting) (told : Evidence) (what : Said) (words : List ℕ) → Keeps what → IsOwn old told what new → IsPast p old → IsPast (said_after p what words) new
-  own_past p old new told what words keeps (inl x) was =
-      subst (λ r. IsPast (said_after p what words) r) (sym x.done)
-      (record { replies = keeps p words ∙ was.replies; told = own_told p old.service x.service told what words x.tells was.told })
-  own_past p old new told what words keeps (inr (inl x)) was =
-      subst (λ r. IsPast (said_after p what words) r) (sym x.done)
-      (record { replies = keeps p words ∙ was.replies; told = served_told p old.service x.service x.event told what words x.serves was.told })
-  own_past p old new told what words keeps (inr (inr x)) was = absurd x.pays
-
-  says_past : (p : Past) (old new : Rows Lines Waiting) (told : Evidence) (what : Said) (words : List ℕ) → SaysBy table site old told what words new → IsPast p old → IsPast (said_after p what words) new
-  says_past p old new told (said.Request part id op) words x was =
-      subst (λ r. IsPast (said_after p (said.Request part id op) words) r) (sym x.taken)
-      (record { replies = was.replies; told = record { hand = refl; are = asked_by old.service.buffers old.service.scene p.changes was.told.are part } })
-  says_past p old new told (said.Replied part id status notified) words x was =
-      let new_told = replied_told old.service old.service.request p old.replies status refl x.status_is.0 x.status_is.1 x.status_is.2 was.told was.replies in
-      subst (λ r. IsPast (said_after p (said.Replied part id status notified) words) r) (sym x.done)
-      (record { replies = ap suc was.replies; told = record { hand = new_told.hand; are = new_told.are } })
-  says_past p old new told (said.Closed why) words x was =
-      subst (λ r. IsPast (said_after p (said.Closed why) words) r) (sym x.1)
-      (record { replies = was.replies; told = record { hand = refl; are = was.told.are } })
-  says_past p old new told (said.State s) words x was =
-      subst (λ r. IsPast (said_after p (said.State s) words) r) (sym x.1)
-      (record { replies = was.replies; told = record { hand = refl; are = nothing_changed } })
-  says_past p old new told other words x was = own_past p old new told other words (λ q ws. refl) x was
-
-  moves_past : (p : Past) (old new : Rows Lines Waiting) (touched : List Touch) (e : Event) → Moves table site old touched e new → IsPast p old → IsPast (event_after p e) new
-  moves_past p old new touched (Says what words f) x was = says_past p old new (record { touched = touched; found = f }) what words x was
-  moves_past p old new touched (Hears (Sets front nodes)) x was = subst (λ r. IsPast p r) (sym x) (record { replies = was.replies; told = was.told })
-  moves_past p old new touched (Hears (Hosts e)) x was = subst (λ r. IsPast p r) (sym x) (record { replies = was.replies; told = was.told })
-  moves_past p old new touched Begins x was = subst (λ r. IsPast p r) (sym x.1) (record { replies = was.replies; told = was.told })
-
-  -- the words that were taken and put stay, whatever is said
-  said_keeps : (p : Past) (what : Said) (words : List ℕ) → (said_after p what words).touched ≡ p.touched
-  said_keeps p (said.Request part id op) words = refl
-  said_keeps p (said.Replied part id status notified) words = refl
-  said_keeps p (said.Raised part fb) words = refl
-  said_keeps p (said.Closed why) words = refl
-  said_keeps p (said.State s) words = refl
-  said_keeps p other words = refl
-
-  event_keeps : (p : Past) (e : Event) → (event_after p e).touched ≡ p.touched
-  event_keeps p (Says what words f) = said_keeps p what words
-  event_keeps p (Hears news) = refl
-  event_keeps p Begins = refl
-
-  -- so it is after each thing that happens
-  pub record IsNow (p : Past) (m : Snapshot (Rows Lines Waiting)) : Type 0 where
-    pub rows : IsPast p m.rows
-    pub touched : p.touched ≡ m.touched
-
-  past_with : (p : Past) (r : Rows Lines Waiting) (ts : List Touch) → IsPast p r → IsPast (record p { touched = ts }) r
-  past_with p r ts was = record { replies = was.replies; told = record { hand = was.told.hand; are = was.told.are } }
-
-  pub happens_now : (p : Past) (m k : Snapshot (Rows Lines Waiting)) (e : Happening Event) → HappensTo true (machine display_nature site) m e k → IsNow p m → IsNow (past_next p e) k
-  happens_now p m k (Row e words) x now =
-      record { rows = past_with (event_after p e) k.rows [] (moves_past p m.rows k.rows m.touched e x.move now.rows); touched = sym x.touched }
-  happens_now p m k (Meanwhile e) x now =
-      record { rows = moves_past p m.rows k.rows m.touched e x.move now.rows; touched = event_keeps p e ∙ (now.touched ∙ sym x.touched) }
-  happens_now p m k (Touches w) x now =
+  -- its rows move as is told
+  pub display_tells : MovesAsTold table site telling
+  display_tells =
       record {
-        rows = past_with p k.rows (p.touched ++ w ∷ []) (subst (λ r. IsPast p r) (sym x.rows) now.rows);
-        touched = ap (λ ts. ts ++ w ∷ []) now.touched ∙ sym x.touched;
+        IsTold = IsToldBy;
+        begun = λ hand cs y nodes was. record { hand_is = refl; are = nothing_changed };
+        taken = λ hand cs y part words was. record { hand_is = refl; are = asked_by y.buffers y.scene cs was.are part };
+        dropped = λ hand cs y was. record { hand_is = refl; are = was.are };
+        replied = λ hand cs y touched n status is was. replied_told hand cs y n y.request status refl is.0 is.1 is.2 was;
+        tells = own_told;
+        serves = served_told;
+        pays = λ hand cs old new told what x was. absurd x;
       }
-  happens_now p m k (Refuses why) x now =
-      record {
-        rows = subst (λ r. IsPast p r) (sym (ap (λ (n : Snapshot (Rows Lines Waiting)). n.rows) x.1)) now.rows;
-        touched = now.touched ∙ sym (ap (λ (n : Snapshot (Rows Lines Waiting)). n.touched) x.1);
-      }
-  happens_now p m k (Gone number) x now = record { rows = subst (λ r. IsPast p r) (sym x.0.rows) now.rows; touched = now.touched ∙ sym x.0.touched }
-  happens_now p m k (Draw w) x now = record { rows = subst (λ r. IsPast p r) (sym x.0.rows) now.rows; touched = now.touched ∙ sym x.0.touched }
 
-  -- at first
-  pub nothing_now : IsNow no_past (first_snapshot display_nature)
-  nothing_now = record { rows = record { replies = refl; told = record { hand = refl; are = nothing_changed } }; touched = refl }
+  abbrev pub Now : Past Asked Change → Snapshot (Rows Lines Waiting) → Type 0
+  Now p m = IsNow table site telling display_tells p m
 
-  run_now : (p : Past) (m n : Snapshot (Rows Lines Waiting)) (es : List (Happening Event)) → IsRun (HappensTo true (machine display_nature site)) m es n → IsNow p m → IsNow (after past_next p es) n
-  run_now p m n [] x now = subst (λ k. IsNow p k) x now
-  run_now p m n (e ∷ es) x now = run_now (past_next p e) x.0 n es x.2 (happens_now p m x.0 e x.1 now)
+  -- at first nothing is told
+  pub nothing_now : Now no_past (first_snapshot display_nature)
+  nothing_now = record { rows = record { replies = refl; told = record { hand_is = refl; are = nothing_changed } }; touched = refl }
 
 -- the number of the name of a live buffer
 number_found : (d : ℕ) (bs : List (Live ℕ)) (b : Live ℕ) → buffer_of d bs ≡ Some b → number_under d bs ≡ b.pages
@@ -244,7 +168,7 @@ module _ (bs : List (Live ℕ)) (sc : Scene) (changes : List Change) (are : AreC
 
 module _ (site : Site) where
   -- where a display says what it shows
-  served_shows : (p : Past) (y z : Lines) (e : Waiting) (told : Evidence) (part pixels mark : ℕ) → Serves site y e told (said.Shown part pixels mark) z → part < 4 → IsToldBy p y → p.touched ≡ told.touched → IsShownAt part p (record { pixels = pixels; mark = mark })
+  served_shows : (p : Past Asked Change) (y z : Lines) (e : Waiting) (told : Evidence) (part pixels mark : ℕ) → Serves site y e told (said.Shown part pixels mark) z → part < 4 → IsToldBy p.hand p.changes y → p.touched ≡ told.touched → IsShownAt part p (record { pixels = pixels; mark = mark })
   served_shows p y z (waiting.Blank k) told part pixels mark x small was same = absurd x
   served_shows p y z (waiting.Show k) told part pixels mark x small was same =
       let shown : Shown = record { pixels = pixels; mark = mark } in
@@ -253,23 +177,19 @@ module _ (site : Site) where
       shown_named y.buffers y.scene p.changes was.are p.touched shown part small
       (subst (λ ts. AreShown y.buffers (source_at y.buffers y.scene part) ts shown) (sym same) of)
 
-  says_shows : (p : Past) (old new : Rows Lines Waiting) (told : Evidence) (part pixels mark : ℕ) → IsOwn site old told (said.Shown part pixels mark) new → part < 4 → IsPast p old → p.touched ≡ told.touched → IsShownAt part p (record { pixels = pixels; mark = mark })
-  says_shows p old new told part pixels mark (inl x) small was same = absurd x.tells
-  says_shows p old new told part pixels mark (inr (inl x)) small was same =
-      served_shows p old.service x.service x.event told part pixels mark x.serves small was.told same
-  says_shows p old new told part pixels mark (inr (inr x)) small was same = absurd x.pays
+  says_shows : (p : Past Asked Change) (m : Snapshot (Rows Lines Waiting)) (new : Rows Lines Waiting) (told : Evidence) (part pixels mark : ℕ) → told.touched ≡ m.touched → SaysBy table site m.rows told (said.Shown part pixels mark) [] new → part < 4 → Now site p m → IsShownAt part p (record { pixels = pixels; mark = mark })
+  says_shows p m new told part pixels mark same (inl x) small was = absurd x.tells
+  says_shows p m new told part pixels mark same (inr (inl x)) small was =
+      served_shows p m.rows.service x.service x.event told part pixels mark x.serves small was.rows.told (was.touched ∙ sym same)
+  says_shows p m new told part pixels mark same (inr (inr x)) small was = absurd x.pays
 
   pub display_names : (es : List (Happening Event)) (end : Snapshot (Rows Lines Waiting)) → IsRun (HappensTo true (machine display_nature site)) (first_snapshot display_nature) es end → ShowsNamed es
   display_names es end run before later part pixels mark taken drawn found split small =
-      let whole = subst (λ (hs : List (Happening Event)). IsRun (HappensTo true (machine display_nature site)) (first_snapshot display_nature) hs end) split run in
-      let parts = run_parts (HappensTo true (machine display_nature site)) (first_snapshot display_nature) end before (Row (Says (said.Shown part pixels mark) taken found) drawn ∷ later) whole in
-      let now = run_now site no_past (first_snapshot display_nature) parts.0 before parts.1 (nothing_now site) in
-      says_shows (past_of before) parts.0.rows parts.2.0.rows (record { touched = parts.0.touched; found = found }) part pixels mark parts.2.1.move small now.rows now.touched
+      let at = at_place table site telling (display_tells site) (first_snapshot display_nature) end es before (Row (Says (said.Shown part pixels mark) taken found) drawn ∷ later) (nothing_now site) run split in
+      says_shows (past_of telling before) at.here at.goes_on.0.rows (record { touched = at.here.touched; found = found }) part pixels mark refl at.goes_on.1.move small at.now
 
   -- what was accepted and done of flips
   pub display_flips : (es : List (Happening Event)) (end : Snapshot (Rows Lines Waiting)) → IsRun (HappensTo true (machine display_nature site)) (first_snapshot display_nature) es end → FlipsKeepOrder es
   display_flips es end run part before later split =
-      let whole = subst (λ (hs : List (Happening Event)). IsRun (HappensTo true (machine display_nature site)) (first_snapshot display_nature) hs end) split run in
-      let parts = run_parts (HappensTo true (machine display_nature site)) (first_snapshot display_nature) end before later whole in
-      let now = run_now site no_past (first_snapshot display_nature) parts.0 before parts.1 (nothing_now site) in
-      in_order parts.0.rows.service.scene (past_of before).changes part now.rows.told.are.pends
+      let at = at_place table site telling (display_tells site) (first_snapshot display_nature) end es before later (nothing_now site) run split in
+      in_order at.here.rows.service.scene (past_of telling before).changes part at.now.rows.told.are.pends

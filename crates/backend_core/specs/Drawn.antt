@@ -2,13 +2,15 @@
 use Rattle.std.specs.Prelude.{◌≡◌, ℕ, ◌==◌, ◌&&◌, Bool, true, false, List, [], ◌∷◌, ◌++◌, slice_get, Option, Some, None, if◌then◌else◌}
 use Rattle.pv_words.specs.declared.device.Said.TheVariants as said
 use Rattle.pv_words.specs.Along.{after}
+use Rattle.displ_wire.specs.declared.Asked.{Asked}
 use Rattle.device_core.specs.Machine.{Happening, Row, Draw, Touches}
 use Rattle.device_core.specs.Names.{Stroke}
 use Rattle.device_core.specs.Touched.{Took}
 use Rattle.device_service.specs.Rows.{Event, Says}
 use Rattle.display_backend.specs.Verdict.{is_creation}
 use Rattle.page_directory.specs.Progress.{is_accepted}
-use Rattle.backend_core.specs.Pictures.{Asking, Past, no_past, past_next}
+use Rattle.backend_core.specs.Past.{Asking, Past, no_past, past_next}
+use Rattle.backend_core.specs.Pictures.{Change, telling}
 
 -- A name came, with these words, or somebody wrote a word of one.
 pub data Drawing : Type 0 where
@@ -24,7 +26,7 @@ word_at name index (Wrote s ∷ earlier) =
 word_at name index (Came n words ∷ earlier) = if n == name then slice_get words index else word_at name index earlier
 
 -- a reply makes a name where it accepts a CREATE
-abbrev pub creates : Option Asking → Bool
+abbrev pub creates : Option (Asking Asked) → Bool
 creates None = false
 creates (Some a) = is_creation a.asks
 
@@ -33,23 +35,23 @@ came_if true name words earlier = Came name words ∷ earlier
 came_if false name words earlier = earlier
 
 -- after something is said, by what was told before; a name has the number of the reply that makes it
-abbrev pub came_by : Past → Event → List ℕ → List Drawing → List Drawing
+abbrev pub came_by : Past Asked Change → Event → List ℕ → List Drawing → List Drawing
 came_by p (Says (said.Replied part id status notified) taken found) words earlier =
     came_if (creates p.hand && is_accepted status) p.replies words earlier
 came_by p other words earlier = earlier
 
 -- what was told, and what was drawn, newest first
 pub record Sheet : Type 0 where
-  pub past : Past
+  pub past : Past Asked Change
   pub drawings : List Drawing
 
-abbrev pub drawings_next : Past → Happening Event → List Drawing → List Drawing
+abbrev pub drawings_next : Past Asked Change → Happening Event → List Drawing → List Drawing
 drawings_next p (Row e words) earlier = came_by p e words earlier
 drawings_next p (Draw s) earlier = Wrote s ∷ earlier
 drawings_next p other earlier = earlier
 
 abbrev pub sheet_next : Sheet → Happening Event → Sheet
-sheet_next x e = record { past = past_next x.past e; drawings = drawings_next x.past e x.drawings }
+sheet_next x e = record { past = past_next telling x.past e; drawings = drawings_next x.past e x.drawings }
 
 abbrev pub no_sheet : Sheet
 no_sheet = record { past = no_past; drawings = [] }

@@ -2,7 +2,8 @@
 use Rattle.std.specs.Prelude.{◌≡◌, ◌⊎◌, ℕ, ◌==◌, List, [], ◌∷◌, ◌++◌, if◌then◌else◌}
 use Rattle.device_core.specs.Machine.{Happening}
 use Rattle.device_service.specs.Rows.{Event}
-use Rattle.backend_core.specs.Pictures.{Change, Flipped, Raised, past_of}
+use Rattle.backend_core.specs.Past.{past_of}
+use Rattle.backend_core.specs.Pictures.{Change, Flipped, Raised, telling}
 
 -- the cookies of the flips that were accepted on the connector of a part, oldest first
 abbrev pub accepted : (part : ℕ) → List Change → List ℕ
@@ -23,4 +24,4 @@ AreInOrder part changes =
 
 -- So it is on each connector at each moment, in the connection that stands then.
 abbrev pub FlipsKeepOrder : List (Happening Event) → Type 0
-FlipsKeepOrder es = (part : ℕ) (before later : List (Happening Event)) → es ≡ before ++ later → AreInOrder part (past_of before).changes
+FlipsKeepOrder es = (part : ℕ) (before later : List (Happening Event)) → es ≡ before ++ later → AreInOrder part (past_of telling before).changes

@@ -8,4 +8,6 @@ pub mod Kinds
 pub mod Laws
 pub mod Marked
 pub mod Nature
+pub mod Past
 pub mod Pictures
+pub mod Sounding

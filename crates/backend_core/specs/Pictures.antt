@@ -1,9 +1,8 @@
 -- Which picture a display shows: that of the framebuffer which was named last. It is read off what the display says, where each request
 -- comes with its words, and off the words of its buffers that it takes.
-use Rattle.std.specs.Prelude.{◌≡◌, ℕ, suc, ◌+◌, ◌<◌, ◌≤◌, ◌==◌, ◌&&◌, Bool, true, false, List, [], ◌∷◌, ◌++◌, Option, Some, None, if◌then◌else◌}
+use Rattle.std.specs.Prelude.{◌≡◌, ℕ, ◌+◌, ◌<◌, ◌≤◌, ◌==◌, ◌&&◌, Bool, true, false, List, [], ◌∷◌, ◌++◌, Option, Some, None, if◌then◌else◌}
 use Rattle.pv_words.specs.declared.device.Said.{Said}
 use Rattle.pv_words.specs.declared.device.Said.TheVariants as said
-use Rattle.pv_words.specs.Along.{after}
 use Rattle.pv_words.specs.Found.{Found}
 use Rattle.displ_wire.specs.declared.Asked.{Asked}
 use Rattle.displ_wire.specs.declared.Asked.TheVariants as asked
@@ -16,10 +15,10 @@ use Rattle.connectors.specs.Connectors.{other_than, rectangle_of}
 use Rattle.picture_scan.specs.declared.scan.Shown.{Shown}
 use Rattle.picture_scan.specs.declared.shape.Shape.{Shape}
 use Rattle.picture_scan.specs.Laws.{HasShown}
-use Rattle.device_core.specs.Machine.{Happening, Row, Meanwhile, Touches}
+use Rattle.device_core.specs.Machine.{Happening, Row}
 use Rattle.device_core.specs.Touched.{Touch}
 use Rattle.device_service.specs.Rows.{Event, Says}
-use Rattle.page_directory.specs.Progress.{is_accepted}
+use Rattle.backend_core.specs.Past.{Past, Telling, past_of}
 
 -- What comes to pass on a display. A request was answered by 0: a display buffer is made, whose name has this number, or is unmade; a
 -- framebuffer is attached, or detached; the connector of a part is configured, or is to flip to a framebuffer. Or such a flip is done.
@@ -106,22 +105,6 @@ IsShownOf (Some r) (Some fb) changes taken x = IsPictureOf r fb changes taken x
 IsShownOf (Some r) None changes taken x = (x.pixels ≡ 0) × (x.mark ≡ 0)
 IsShownOf None fb changes taken x = (x.pixels ≡ 0) × (x.mark ≡ 0)
 
--- what a request asks, and by which part it came
-pub record Asking : Type 0 where
-  pub part : ℕ
-  pub asks : Asked
-
--- What is told by what happened: the request in hand; how many requests were answered; what came to pass in this connection, newest
--- first; and the words that were taken and put since the device last said something.
-pub record Past : Type 0 where
-  pub hand : Option Asking
-  pub replies : ℕ
-  pub changes : List Change
-  pub touched : List Touch
-
-abbrev pub no_past : Past
-no_past = record { hand = None; replies = 0; changes = []; touched = [] }
-
 -- the changes after a request, by this part, that was accepted by the reply of this number
 abbrev pub accepted_after : (number part : ℕ) → Asked → List Change → List Change
 accepted_after number part (asked.Create c) earlier = Created number c ∷ earlier
@@ -132,44 +115,17 @@ accepted_after number part (asked.Config c) earlier = Configured part c ∷ earl
 accepted_after number part (asked.Flip fb) earlier = Flipped part fb ∷ earlier
 accepted_after number part asked.Other earlier = earlier
 
--- after the request in hand is answered, by 0 (which accepts it) or by another status
-abbrev pub answered_after : (number : ℕ) → Option Asking → (accepted : Bool) → List Change → List Change
-answered_after number (Some a) true earlier = accepted_after number a.part a.asks earlier
-answered_after number (Some a) false earlier = earlier
-answered_after number None accepted earlier = earlier
+-- and after something else is said: a flip that is raised is done
+abbrev pub spoken_after : Said → List Change → List Change
+spoken_after (said.Raised part fb) earlier = Raised part fb ∷ earlier
+spoken_after other earlier = earlier
 
--- after something is said, where a request has these words; a state that the backend takes begins anew
-abbrev pub said_after : Past → Said → (words : List ℕ) → Past
-said_after p (said.Request part id op) words =
-    record p { hand = Some (record { part = part; asks = (request_of words).asked }) }
-said_after p (said.Replied part id status notified) words =
-    record {
-      hand = None;
-      replies = suc p.replies;
-      changes = answered_after p.replies p.hand (is_accepted status) p.changes;
-      touched = p.touched;
-    }
-said_after p (said.Raised part fb) words = record p { changes = Raised part fb ∷ p.changes }
-said_after p (said.Closed why) words = record p { hand = None }
-said_after p (said.State s) words = record p { hand = None; changes = [] }
-said_after p other words = p
-
-abbrev pub event_after : Past → Event → Past
-event_after p (Says what words found) = said_after p what words
-event_after p other = p
-
--- after one more thing that happens to the display's machine
-abbrev pub past_next : Past → Happening Event → Past
-past_next p (Row e words) = let x = event_after p e in record x { touched = [] }
-past_next p (Meanwhile e) = event_after p e
-past_next p (Touches x) = record p { touched = p.touched ++ x ∷ [] }
-past_next p other = p
-
-abbrev pub past_of : List (Happening Event) → Past
-past_of es = after past_next no_past es
+-- so a display tells
+abbrev pub telling : Telling Asked Change
+telling = record { asked = λ words. (request_of words).asked; accepted = accepted_after; spoken = spoken_after }
 
 -- what a connector shows, after all this, are so many pixels with this mark
-abbrev pub IsShownAt : (part : ℕ) → Past → Shown → Type 0
+abbrev pub IsShownAt : (part : ℕ) → Past Asked Change → Shown → Type 0
 IsShownAt part p x = IsShownOf (rectangle_at part p.changes) (named part p.changes) p.changes p.touched x
 
 -- Each time that a display says what one of its connectors shows (it has at most four), that is the rectangle of the last SET_CONFIG
@@ -178,4 +134,4 @@ abbrev pub ShowsNamed : List (Happening Event) → Type 0
 ShowsNamed es =
     (before later : List (Happening Event)) (part pixels mark : ℕ) (taken drawn : List ℕ) (found : Found)
     → es ≡ before ++ Row (Says (said.Shown part pixels mark) taken found) drawn ∷ later → part < 4
-    → IsShownAt part (past_of before) (record { pixels = pixels; mark = mark })
+    → IsShownAt part (past_of telling before) (record { pixels = pixels; mark = mark })

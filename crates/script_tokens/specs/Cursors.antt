@@ -1,5 +1,6 @@
 -- How far the tokens of a line were read.
 use Rattle.std.specs.Prelude.{◌≡◌, ℕ, ◌+◌, List, [], ◌∷◌, length, drop, Option, Some, None, Result}
+use Rattle.std.specs.Borrow.{Bor}
 use Rattle.std.specs.List.{position_or_len, before_first}
 use Rattle.script_tokens.specs.declared.fault.Flaw.{Flaw}
 use Rattle.script_tokens.specs.declared.fault.FaultKind.TheVariants.{MissingWord}
@@ -52,3 +53,12 @@ abbrev pub StandsAt : ℕ → List ℕ → List Piece → Type 0
 StandsAt column octets ts =
     ts ≡ record { column = column; octets = before_first is_blank octets }
     ∷ tokens (column + position_or_len is_blank octets) (drop (position_or_len is_blank octets) octets)
+
+-- where the next token begins: how many octets of the code stand before it, and those from there on; nothing, where there is none
+abbrev pub StartsAt : Cursor → Option (ℕ × Bor (List ℕ)) → Type 0
+StartsAt c None = c.tokens ≡ []
+StartsAt c (Some x) = StandsAt (x.0 + 1) x.1.now c.tokens
+
+-- what is left of a line's code behind so many octets of it
+abbrev pub IsRest : ℕ → List ℕ → List ℕ → Type 0
+IsRest n rest code = (n + length rest ≡ length code) × (rest ≡ drop n code)

@@ -1,6 +1,6 @@
 //! The tokens of a line, one after the other.
 
-ghost use Rattle.std.specs.Prelude.{◌≡◌, ◌<◌, ◌≤◌, ◌+◌, ◌-◌, ◌^◌, not, length, drop, option_map, IfOk, IfSome, MatchOption, []};
+ghost use Rattle.std.specs.Prelude.{◌≡◌, ◌<◌, ◌≤◌, ◌-◌, ◌^◌, not, length, option_map, IfOk, IfSome};
 ghost use Rattle.std.specs.List.{position_or_len};
 ghost use Rattle.script_tokens.specs.Tokens.{is_blank, tokens};
 
@@ -69,7 +69,8 @@ impl<'a> Token<'a> {
 
 impl<'a> Tokens<'a> {
     ghost use Rattle.script_tokens.specs.Flaws.{Gives};
-    ghost use Rattle.script_tokens.specs.Cursors.{Cursor, cursor_at, cursor, seen, seen_token, first_of, next_of, StandsAt};
+    ghost use Rattle.script_tokens.specs.Cursors.{Cursor, cursor_at, cursor, seen, seen_token, first_of, next_of};
+    ghost use Rattle.script_tokens.specs.Cursors.{StartsAt, IsRest};
     ghost use Rattle.script_tokens.specs.Next.{number_at, between_at, below_at, keyword_at};
 
     /// The tokens of a line's code.
@@ -83,8 +84,8 @@ impl<'a> Tokens<'a> {
     /// How many octets stand before the next token, and the octets from there on, if there is one.
     #[inline(always)]
     fn start(self) -> Option<(usize, &'a [u8])>
-        ensures at { MatchOption result (tokens (self.entry.read + 1) (drop self.entry.read self.entry.code.now) ≡ []) (λ x. StandsAt (x.0 + 1) x.1.now (tokens (self.entry.read + 1) (drop self.entry.read self.entry.code.now))) }
-        ensures place { IfSome result (λ x. (x.0 + length x.1.now ≡ length self.entry.code.now) × (x.1.now ≡ drop x.0 self.entry.code.now)) }
+        ensures at { StartsAt (cursor self.entry) result }
+        ensures place { IfSome result (λ x. IsRest x.0 x.1.now self.entry.code.now) }
     {
         let (_, rest) = self.code.split_at(self.read);
         let skipped = blank_len(rest);

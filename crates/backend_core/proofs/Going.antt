@@ -19,7 +19,7 @@ abbrev one_if : Bool → ℕ
 one_if b = cond b 1 0
 
 -- how many of the live names have this number
-abbrev times : ℕ → List Drawn → ℕ
+abbrev pub times : ℕ → List Drawn → ℕ
 times n [] = 0
 times n (d ∷ ds) = one_if (d.number == n) + times n ds
 
@@ -88,8 +88,34 @@ named_counted n names (Some number) words before after x = by_test (number == n)
         inr (omega (arith, one, ap one_if e), omega (arith, x.1))
 
 -- of each number at most one name is live, and only that of a reply that was made
-abbrev IsFew : ℕ → List Drawn → (replies : ℕ) → Type 0
+abbrev pub IsFew : ℕ → List Drawn → (replies : ℕ) → Type 0
 IsFew n names replies = (times n names ≡ 0) ⊎ ((times n names ≡ 1) × (n < replies))
+
+-- no other live name has the number of one
+none_of : (n : ℕ) (names : List Drawn) → times n names ≡ 0 → AllByRecursion (λ (d : Drawn). d.number ≢ n) names
+none_of n [] e = tt
+none_of n (d ∷ ds) e =
+    (λ same. omega (arith, e, ap (λ k. one_if (k == n)) same ∙ itself n), none_of n ds (omega (arith, e)))
+
+pub others_apart : (n replies : ℕ) (words : List ℕ) (before behind : List Drawn) → IsFew n (before ++ drawn_as n words ∷ behind) replies → AllByRecursion (λ (d : Drawn). d.number ≢ n) (before ++ behind)
+others_apart n replies words before behind few = none_of n (before ++ behind) (none few)
+  where
+    none : IsFew n (before ++ drawn_as n words ∷ behind) replies → times n (before ++ behind) ≡ 0
+    none (inl z) = absurd (omega (arith, drawn_times n n words before behind, itself n, z))
+    none (inr y) = omega (arith, drawn_times n n words before behind, itself n, y.0)
+
+-- each is that of a reply that was made
+below_among : (replies : ℕ) (names some : List Drawn) → ((n : ℕ) → times n some ≤ times n names) → ((n : ℕ) → IsFew n names replies) → AllByRecursion (λ (d : Drawn). d.number < replies) some
+below_among replies names [] among few = tt
+below_among replies names (d ∷ ds) among few =
+    (by_few (few d.number), below_among replies names ds (λ n. omega (arith, among n)) few)
+  where
+    by_few : IsFew d.number names replies → d.number < replies
+    by_few (inl z) = absurd (omega (arith, among d.number, itself d.number, z))
+    by_few (inr y) = y.1
+
+pub are_below : (replies : ℕ) (names : List Drawn) → ((n : ℕ) → IsFew n names replies) → AllByRecursion (λ (d : Drawn). d.number < replies) names
+are_below replies names few = below_among replies names names (λ n. omega arith) few
 
 -- a name that was made is live no longer
 abbrev IsGone : ℕ → List Drawn → (replies : ℕ) → Type 0
@@ -100,7 +126,7 @@ none_or_one zero x = inl refl
 none_or_one (suc zero) x = inr refl
 none_or_one (suc (suc c)) x = absurd (omega (arith, x))
 
-few_stays : (n : ℕ) (old new : List Drawn) (before after : ℕ) → AreCounted n old new before after → IsFew n old before → IsFew n new after
+pub few_stays : (n : ℕ) (old new : List Drawn) (before after : ℕ) → AreCounted n old new before after → IsFew n old before → IsFew n new after
 few_stays n old new before after (inl x) (inl z) = inr (omega (arith, x.1, z), omega (arith, x.0, x.2))
 few_stays n old new before after (inl x) (inr y) = absurd (omega (arith, x.0, y.1))
 few_stays n old new before after (inr x) (inl z) = inl (omega (arith, x.0, z))
@@ -153,7 +179,7 @@ module _ {Y V : Type 0} (t : Table Y V) (site : Site) where
   same_counts : (n : ℕ) (m k : Snapshot (Rows Y V)) → times n k.names ≡ times n m.names → k.rows ≡ m.rows → Counts n m k
   same_counts n m k e r = inr (omega (arith, e), no_more k.rows.replies m.rows.replies (ap replies_of r))
 
-  counts : (n : ℕ) (m k : Snapshot (Rows Y V)) (e : Happening Event) → HappensTo true machine m e k → Counts n m k
+  pub counts : (n : ℕ) (m k : Snapshot (Rows Y V)) (e : Happening Event) → HappensTo true machine m e k → Counts n m k
   counts n m k (Row e words) x =
       subst (λ names. AreCounted n m.names names m.rows.replies k.rows.replies) (sym x.names)
       (named_counted n m.names (makes t m.rows e) words m.rows.replies k.rows.replies (moves_made m.rows k.rows m.touched e x.move))

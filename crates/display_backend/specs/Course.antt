@@ -1,7 +1,7 @@
 -- What a display's service is at, and what that says of the request in hand.
 use Rattle.std.specs.Prelude.{◌≡◌, ℕ, ◌<◌, ◌==◌, Bool, true, false, List, [], length, Option, Some, None, Ok}
 use Rattle.pv_words.specs.declared.grant.Hold.{Hold}
-use Rattle.pv_words.specs.Plan.{Plan, Finished, mapped}
+use Rattle.pv_words.specs.Plan.{Plan, Finished, MayGo, Want, mapped}
 use Rattle.displ_wire.specs.declared.Asked.{Asked}
 use Rattle.displ_wire.specs.declared.Asked.TheVariants as asked
 use Rattle.displ_wire.specs.declared.Request.{Request}
@@ -57,6 +57,11 @@ scan_left bs r = scan.left_of (pages_at bs r.place) r.scan
 
 abbrev pub reading_left : List Held → Reading → Plan Ending
 reading_left bs r = mapped (Pictured r.part) (scan_left bs r)
+
+-- a picture is read, and its next load may be made
+abbrev pub ReadsPicture : (may : Want → Type 0) → List Held → Course → Type 0
+ReadsPicture may bs (Reads r) = MayGo may (scan_left bs r)
+ReadsPicture may bs course = ⊥
 
 -- what is left of a walk, of a Release, and of a reading
 abbrev pub left_at : Site → Course → Stock → Plan Ending

@@ -38,11 +38,7 @@ ReadsFor d part (Some r) =
     (event_for (known_of d) (waiting.Show part) ≡ Runs (reading_left (stock_of d.store).buffers r)) × IsReading r (stock_of d.store).buffers
 
 module _ (site : Site) (old : Service) where
-  -- the next step of the reading of a picture; the first of a Show
-  abbrev pub ReadsOn : Reading → Deed → Service → Type 0
-  ReadsOn r deed new =
-      Continues display (known_of old) (reading_left (stock_of old.store).buffers r) deed.access deed.now deed.said (known_of new) (left_of site new)
-
+  -- the first step of a Show
   abbrev pub ShowsFor : (part : ℕ) → Deed → Service → Type 0
   ShowsFor part deed new =
       Serves display (known_of old) (event_for (known_of old) (waiting.Show part)) deed.access deed.now deed.said (known_of new) (left_of site new)

@@ -1,13 +1,12 @@
 -- How the reading of a picture goes on.
-use Rattle.std.specs.Prelude.{ℕ, List, Option}
-use Rattle.pv_words.specs.declared.access.Access.{Access}
+use Rattle.std.specs.Prelude.{List}
+use Rattle.pv_words.specs.declared.access.Turn.{Turn}
 use Rattle.pv_words.specs.Plan.{Turns}
-use Rattle.display_buffers.specs.Left.{pages_at}
 use Rattle.display_buffers.specs.Stock.{Held}
-use Rattle.picture_scan.specs.declared.scan.Scan.{Scan}
 use Rattle.picture_scan.specs.declared.scan.Shown.{Shown}
-use Rattle.picture_scan.specs.Scan.{left_of}
+use Rattle.display_backend.specs.declared.picture.Reading.{Reading}
+use Rattle.display_backend.specs.Course.{scan_left}
 
--- its next load, in the pages of the buffer at this place, leads on so
-abbrev pub ScansOn : List Held → (place : ℕ) → (old : Scan) → Option Access → Option Shown → (new : Scan) → Type 0
-ScansOn bs place old access over new = Turns (left_of (pages_at bs place) old) access over (left_of (pages_at bs place) new)
+-- its next load leads on so
+abbrev pub ScansOn : List Held → (old : Reading) → Turn Shown → (new : Reading) → Type 0
+ScansOn bs old turn new = Turns (scan_left bs old) turn.access turn.done (scan_left bs new)

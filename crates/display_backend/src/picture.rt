@@ -1,12 +1,10 @@
 //! A picture that a connector shows, and its reading.
 
-ghost use Rattle.std.specs.Prelude.{◌≡◌, ◌<◌, false, length, IfSome};
+ghost use Rattle.std.specs.Prelude.{◌≡◌, IfSome};
 ghost use Rattle.pv_words.specs.Plan.{MayGo, Makes};
-ghost use Rattle.picture_scan.specs.Scan.{LiesIn, is_over, left_of, shape_of};
-ghost use Rattle.picture_scan.specs.Steps.{GoesOn, IsInPages};
+ghost use Rattle.picture_scan.specs.Steps.{IsInPages};
 ghost use Rattle.display_buffers.specs.Left.{pages_at};
 ghost use Rattle.display_buffers.specs.Store.{stock_of};
-ghost use Rattle.display_backend.specs.Scans.{ScansOn};
 
 use display_buffers::Store;
 use picture_scan::{Scan, Shape, Shown};
@@ -32,21 +30,22 @@ pub struct Reading {
     pub scan: Scan,
 }
 
-// The next load of a picture, in the pages that are held of the buffer at this place.
-pub(crate) fn scan_at<W: Words>(
-    store: &Store,
-    k: u32,
-    scan: &mut Scan,
-    words: &mut W,
-) -> Turn<Shown>
-    requires going { is_over scan.old ≡ false }
-    requires lies { LiesIn (pages_at (stock_of store.now).buffers k) (shape_of scan.old) }
-    requires may { MayGo (W.may words.old) (left_of (pages_at (stock_of store.now).buffers k) scan.old) }
-    ensures turns { ScansOn (stock_of store.now).buffers k scan.old result.access result.done scan.new }
-    ensures made { Makes W.makes words.old result.access words.new }
-    ensures goes_on { GoesOn scan.old result.done scan.new }
-    ensures stays { IfSome result.access (IsInPages (pages_at (stock_of store.now).buffers k)) }
-{
-    let pages = store.pages_at(k);
-    scan.step(&pages, words)
+impl Reading {
+    ghost use Rattle.std.specs.Prelude.{None};
+    ghost use Rattle.display_backend.specs.Course.{IsReading, scan_left};
+    ghost use Rattle.display_backend.specs.Scans.{ScansOn};
+
+    // The next load, in the pages that are held of its buffer.
+    pub(crate) fn step<W: Words>(&mut self, store: &Store, words: &mut W) -> Turn<Shown>
+        requires reads { IsReading self.old (stock_of store.now).buffers }
+        requires may { MayGo (W.may words.old) (scan_left (stock_of store.now).buffers self.old) }
+        ensures turns { ScansOn (stock_of store.now).buffers self.old result self.new }
+        ensures made { Makes W.makes words.old result.access words.new }
+        ensures stays { IfSome result.access (IsInPages (pages_at (stock_of store.now).buffers self.old.place)) }
+        ensures part { self.new.part ≡ self.old.part }
+        ensures still { result.done ≡ None → IsReading self.new (stock_of store.now).buffers }
+    {
+        let pages = store.pages_at(self.place);
+        self.scan.step(&pages, words)
+    }
 }

@@ -10,7 +10,7 @@ ghost use Rattle.display_buffers.specs.Stock.{pages_of};
 ghost use Rattle.display_buffers.specs.Store.{stock_of, count_of};
 
 use crate::course::Course;
-use crate::picture::{Reading, scan_at};
+use crate::picture::Reading;
 use crate::scene::Scene;
 use crate::verdict::{answered, status_at, verdict_on};
 use crate::waiting::{Waiting, said_of, waiting_of};
@@ -50,8 +50,8 @@ impl Service {
     ghost use Rattle.device_core.specs.Site.{Site};
     ghost use Rattle.device_service.specs.Operating.{MayDeed, is_going};
     ghost use Rattle.display_backend.specs.declared.waiting.Waiting.TheVariants as waiting;
-    ghost use Rattle.display_backend.specs.Course.{IsReading, scan_left};
-    ghost use Rattle.display_backend.specs.Over.{ReadsFor, ReadsOn, ShowsFor};
+    ghost use Rattle.display_backend.specs.Course.{ReadsPicture};
+    ghost use Rattle.display_backend.specs.Over.{ReadsFor, ShowsFor};
     ghost use Rattle.display_backend.specs.Service.{event_for};
     ghost use Rattle.page_directory.specs.declared.progress.Progress.TheVariants as progress;
     ghost use Rattle.display_backend.specs.declared.course.Course.TheVariants as course;
@@ -187,31 +187,32 @@ impl Service {
         })
     }
 
-    // The next access of this reading.
-    fn read<W: Words>(&mut self, words: &mut W, reading: Reading) -> Deed
-        requires idle { self.old.course ≡ course.Rests }
-        requires reads { IsReading reading (stock_of self.old.store).buffers }
-        requires may { MayGo (W.may words.old) (scan_left (stock_of self.old.store).buffers reading) }
-        ensures goes { (site : Site) → ReadsOn site self.old reading result self.new }
+    // The next access of the reading that is under way.
+    fn read<W: Words>(&mut self, words: &mut W) -> Deed
+        requires { ReadsPicture (W.may words.old) (stock_of self.old.store).buffers self.old.course }
+        ensures goes { (site : Site) → ContinuesBy display known_of left_of site self.old result self.new }
         ensures made { Makes W.makes words.old result.access words.new }
         ensures stays { AccessIn (pages_of (stock_of self.old.store)) result.access }
         ensures going { going_of self.new ≡ is_going result.now }
         ensures domain { (dom : ℕ) → is_of dom self.new ≡ true }
     {
-        let mut reading = reading;
-        let turn = scan_at(&self.store, reading.place, &mut reading.scan, words);
+        let Course::Reads(reading) = &mut self.course else {
+            unreachable!();
+        };
+        let part = reading.part;
+        let turn = reading.step(&self.store, words);
         let access = turn.access;
         let Some(shown) = turn.done else {
-            self.course = Course::Reads(reading);
             return Deed {
                 access,
                 said: None,
                 now: Now::GoesOn,
             };
         };
+        self.course = Course::Rests;
         Deed {
             access,
-            said: Some(Said::Shown(reading.part, shown.pixels, shown.mark)),
+            said: Some(Said::Shown(part, shown.pixels, shown.mark)),
             now: Now::Over,
         }
     }
@@ -227,7 +228,10 @@ impl Service {
         ensures domain { (dom : ℕ) → is_of dom self.new ≡ true }
     {
         match self.reading(part) {
-            Some(reading) => self.read(words, reading),
+            Some(reading) => {
+                self.course = Course::Reads(reading);
+                self.read(words)
+            }
             None => told(Waiting::Show(part)),
         }
     }
@@ -434,11 +438,13 @@ impl Serve for Service {
         if let Course::Frees(cookie) = self.course {
             return self.free(words, cookie);
         }
-        match mem::replace(&mut self.course, Course::Rests) {
-            Course::Walks(walk) => self.walk(words, walk),
-            Course::Reads(reading) => self.read(words, reading),
-            Course::Rests | Course::Frees(_) => unreachable!(),
+        if let Course::Reads(_) = self.course {
+            return self.read(words);
         }
+        let Course::Walks(walk) = mem::replace(&mut self.course, Course::Rests) else {
+            unreachable!();
+        };
+        self.walk(words, walk)
     }
 
     fn reply(&self) -> [u32; 16] {

@@ -5,7 +5,7 @@ use Rattle.std.specs.Int.{bit_at, trailing_zeros, w64}
 use Rattle.std.proofs.lemmas.Nat.{and_le_l}
 use Rattle.std.proofs.lemmas.Nat.Bits.{bit_at_and, bit_at-lt, bit_at-zero, bit_at-trailing_zeros}
 use Rattle.std.proofs.lemmas.Bool.Decides.{nat_tests}
-use Rattle.snd_wire.specs.declared.types.Ranges.{Ranges}
+use Rattle.pcm_params.specs.declared.ranges.Ranges.{Ranges}
 use Rattle.pcm_params.specs.Ranges.{Choice, Lies, IsCommon, MeetsAreCommon, common, is_empty}
 
 bit_of_left : (a b i : ℕ) → bit_at (bit_and a b) i ≡ 1 → bit_at a i ≡ 1

@@ -1,6 +1,6 @@
 -- The formats of samples. Their numbers are this project's own, after the order of the names in sndif.h.
 use Rattle.std.specs.Prelude.{ℕ, ◌*◌, nat_le, if◌then◌else◌}
-use Rattle.snd_wire.specs.declared.types.Params.{Params}
+use Rattle.pcm_params.specs.declared.params.Params.{Params}
 use Rattle.pcm_params.specs.declared.format.Format.{Format}
 use Rattle.pcm_params.specs.declared.format.Format.TheVariants.{S8, U8, S16Le, S16Be, U16Le, U16Be, S24Le, S24Be, U24Le, U24Be, S32Le, S32Be, U32Le, U32Be}
 

@@ -1,6 +1,6 @@
 -- The parameters with which a stream can be opened: the ranges and the limit are this project's own.
 use Rattle.std.specs.Prelude.{Bool, ◌&&◌, ◌==◌, ◌%◌, nat_lt, nat_le}
-use Rattle.snd_wire.specs.declared.types.Params.{Params}
+use Rattle.pcm_params.specs.declared.params.Params.{Params}
 use Rattle.pcm_params.specs.Format.{frame_of}
 
 -- a known format, a rate and a number of channels that are offered, and a buffer of at most 1 MiB that holds whole frames

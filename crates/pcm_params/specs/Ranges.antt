@@ -2,7 +2,7 @@
 -- offered and the error are this project's own).
 use Rattle.std.specs.Prelude.{◌≡◌, ℕ, ◌^◌, ◌<◌, ◌≤◌, pos, neg_ℤ, min, max, Bool, ◌||◌, ◌==◌, nat_lt, bit_and, if◌then◌else◌, Option, Some, None}
 use Rattle.std.specs.Int.{bit_at}
-use Rattle.snd_wire.specs.declared.types.Ranges.{Ranges}
+use Rattle.pcm_params.specs.declared.ranges.Ranges.{Ranges}
 use Rattle.pcm_params.specs.declared.ranges.Answer.{Answer}
 
 -- what two ranges have in common, if each of the five has something

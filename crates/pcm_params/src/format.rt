@@ -3,7 +3,7 @@
 ghost use Rattle.std.specs.Prelude.{◌≡◌, ◌↔◌, ◌<◌, IsNone, IfSome};
 ghost use Rattle.pcm_params.specs.Format.{frame_of, number_of, sample_of};
 
-use snd_wire::Params;
+use crate::params::Params;
 
 /// The formats of samples that a stream may have. A sample is signed (S) or unsigned (U), has so many bits, and its low
 /// octet comes first (Le) or last (Be). A sample of 24 bits takes four octets.

@@ -4,11 +4,13 @@
 
 mod format;
 mod open;
+mod params;
 mod ranges;
 
 pub use format::{Format, frame_octets};
 pub use open::{BUFFER_LIMIT, accepts};
-pub use ranges::{Answer, OFFERED, answer_query, meet, meets_are_common};
+pub use params::Params;
+pub use ranges::{Answer, NO_RANGES, OFFERED, Ranges, answer_query, meet, meets_are_common};
 
 #[cfg(test)]
 mod tests;

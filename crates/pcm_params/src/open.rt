@@ -4,8 +4,8 @@ ghost use Rattle.std.specs.Prelude.{◌≡◌};
 ghost use Rattle.pcm_params.specs.Params.{is_accepted};
 
 use crate::format::frame_octets;
+use crate::params::Params;
 use crate::ranges::OFFERED;
-use snd_wire::Params;
 
 /// The largest buffer of a stream, in octets.
 pub const BUFFER_LIMIT: u32 = 1_048_576;

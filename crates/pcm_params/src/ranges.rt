@@ -3,7 +3,41 @@
 ghost use Rattle.std.specs.Prelude.{◌≡◌};
 ghost use Rattle.pcm_params.specs.Ranges.{answer_of, is_empty as has_nothing, meet_of, MeetsAreCommon};
 
-use snd_wire::{NO_RANGES, Ranges};
+/// Ranges of parameters (`xensnd_query_hw_param`): each bound is in its range.
+#[derive(Clone, Copy, Debug, PartialEq, Eq)]
+pub struct Ranges {
+    /// A mask of formats: bit `f` stands for the format of number `f`.
+    pub formats: u64,
+    /// Frames in a second.
+    pub rate_min: u32,
+    /// Frames in a second.
+    pub rate_max: u32,
+    /// Samples in a frame.
+    pub channels_min: u32,
+    /// Samples in a frame.
+    pub channels_max: u32,
+    /// The size of the buffer in frames.
+    pub buffer_min: u32,
+    /// The size of the buffer in frames.
+    pub buffer_max: u32,
+    /// The size of a period in frames.
+    pub period_min: u32,
+    /// The size of a period in frames.
+    pub period_max: u32,
+}
+
+/// The body of a reply that tells no ranges: all its words are 0.
+pub const NO_RANGES: Ranges = Ranges {
+    formats: 0,
+    rate_min: 0,
+    rate_max: 0,
+    channels_min: 0,
+    channels_max: 0,
+    buffer_min: 0,
+    buffer_max: 0,
+    period_min: 0,
+    period_max: 0,
+};
 
 /// What is offered: 14 formats, rates from 8000 to 192000, 1 to 8 channels, and buffers and periods from 1 to 1048576
 /// frames.

@@ -1,5 +1,4 @@
 use super::*;
-use snd_wire::{NO_RANGES, Params, Ranges};
 use std::test::Fail;
 
 const PARAMS: Params = Params {

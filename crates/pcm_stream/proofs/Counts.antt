@@ -6,7 +6,7 @@ use Rattle.std.proofs.lemmas.List.{length-take-le}
 use Rattle.std.proofs.lemmas.Bool.Decides.{nat_tests}
 use Rattle.pv_words.specs.declared.device.StreamKind.{StreamKind}
 use Rattle.pv_words.specs.declared.device.StreamKind.TheVariants.{Playback, Capture}
-use Rattle.snd_wire.specs.declared.types.Params.{Params}
+use Rattle.pcm_params.specs.declared.params.Params.{Params}
 use Rattle.pcm_params.specs.Format.{frame_of}
 use Rattle.pcm_stream.specs.declared.state.StreamState.{StreamState}
 use Rattle.pcm_stream.specs.declared.state.Trigger.{Trigger}

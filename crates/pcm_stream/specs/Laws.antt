@@ -2,7 +2,7 @@
 use Rattle.std.specs.Prelude.{◌≡◌, ℕ, ◌%◌, ◌^◌, ◌<◌, List, [], ◌∷◌, ◌++◌, length, take, if◌then◌else◌, Option, Some}
 use Rattle.pv_words.specs.declared.device.StreamKind.{StreamKind}
 use Rattle.pv_words.specs.declared.device.StreamKind.TheVariants.{Capture}
-use Rattle.snd_wire.specs.declared.types.Params.{Params}
+use Rattle.pcm_params.specs.declared.params.Params.{Params}
 use Rattle.pcm_stream.specs.declared.state.Trigger.{Trigger}
 use Rattle.pcm_stream.specs.declared.state.Trigger.TheVariants.{Stop}
 use Rattle.pcm_stream.specs.Line.{line_from}

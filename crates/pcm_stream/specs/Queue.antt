@@ -1,7 +1,7 @@
 -- How the queue of a stream is kept: a ring with room for twice the buffer, where the stream is open.
 use Rattle.std.specs.Prelude.{◌≡◌, ℕ, ◌*◌, true, false, List, [], Option, Some, None}
 use Rattle.circular_buffer.specs.Buffer.{Buffer, buffer}
-use Rattle.snd_wire.specs.declared.types.Params.{Params}
+use Rattle.pcm_params.specs.declared.params.Params.{Params}
 use Rattle.pcm_stream.specs.declared.state.StreamState.{StreamState}
 use Rattle.pcm_params.specs.Params.{is_accepted}
 use Rattle.pcm_stream.specs.State.{is_closed}

@@ -3,7 +3,7 @@
 use Rattle.std.specs.Prelude.{ℕ, ◌+◌, ◌*◌, ◌-◌, Bool, true, false, not, ◌||◌, nat_lt, if◌then◌else◌, List, [], ◌++◌, ◌∷◌, length, drop, Option, Some, None, Result, Ok, Err}
 use Rattle.pv_words.specs.declared.device.StreamKind.{StreamKind}
 use Rattle.pv_words.specs.declared.device.StreamKind.TheVariants.{Playback, Capture}
-use Rattle.snd_wire.specs.declared.types.Params.{Params}
+use Rattle.pcm_params.specs.declared.params.Params.{Params}
 use Rattle.pcm_params.specs.Params.{is_accepted}
 use Rattle.pcm_stream.specs.declared.state.StreamRefusal.{StreamRefusal}
 use Rattle.pcm_stream.specs.declared.state.StreamRefusal.TheVariants.{WrongState, Invalid, NoRoom, TooLittle}

@@ -12,9 +12,8 @@ ghost use Rattle.pcm_stream.specs.Tick.{after_tick, carried, counted, limit_of, 
 use crate::line;
 use crate::state::{StreamRefusal, StreamState, Ticked, Trigger};
 use circular_buffer::HeapCircularBuffer;
-use pcm_params::{accepts, frame_octets};
+use pcm_params::{Params, accepts, frame_octets};
 use pv_words::StreamKind;
-use snd_wire::Params;
 use std::alloc::{AllocError, Global};
 use std::marker::Model;
 

@@ -1,6 +1,6 @@
 use super::*;
+use pcm_params::Params;
 use pv_words::StreamKind;
-use snd_wire::Params;
 use std::alloc::Global;
 use std::process::Abort;
 use std::test::Fail;

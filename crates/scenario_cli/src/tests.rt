@@ -4,6 +4,7 @@ mod flips;
 mod hosts;
 mod pictures;
 mod running;
+mod sounds;
 
 use super::*;
 use pv_words::{Access, DomId, Entry, Frame, JOURNAL_LIMIT, Place};
@@ -82,74 +83,23 @@ fn a_sink_that_fails_keeps_what_it_got(rt: HostRuntime) -> Result<(), Fail> {
 }
 
 // Each access that `one_request_script` leads to, what is said on it, and each node.
-const WORD_BY_WORD: &str = "front 1 store cell 1 0 1 1
-front 1 store cell 1 0 3 1
-front 1 load grant 1 0 flags 0
-front 1 store grant 1 0 frame 0
-front 1 swap grant 1 0 flags 0 1 0
-front 1 load grant 1 1 flags 0
-front 1 store grant 1 1 frame 1
-front 1 swap grant 1 1 flags 0 1 0
-node 1 0 0 0
-node 1 0 1 1
-node 1 0 2 1
-node 1 0 3 2
-bus 1 front 3
-back 1 load grant 1 0 flags 1
-back 1 swap grant 1 0 flags 1 25 1
-back 1 load grant 1 0 frame 0
-back 1 load cell 1 0 2 0
-back 1 load grant 1 1 flags 1
-back 1 swap grant 1 1 flags 1 25 1
-back 1 load grant 1 1 frame 1
-back 1 load cell 1 1 1 0
-bus 1 back 4
-back 1 load cell 1 0 0 0
-back 1 store cell 1 0 1 1
-back 1 load cell 1 0 0 0
-front 1 store cell 1 0 16 262145
-front 1 store cell 1 0 0 1
-back 1 load cell 1 0 0 1
-back 1 load cell 1 0 16 262145
-back 1 load cell 1 0 17 0
-back 1 load cell 1 0 18 0
-back 1 load cell 1 0 19 0
-back 1 load cell 1 0 20 0
-back 1 load cell 1 0 21 0
-back 1 load cell 1 0 22 0
-back 1 load cell 1 0 23 0
-back 1 load cell 1 0 24 0
-back 1 load cell 1 0 25 0
-back 1 load cell 1 0 26 0
-back 1 load cell 1 0 27 0
-back 1 load cell 1 0 28 0
-back 1 load cell 1 0 29 0
-back 1 load cell 1 0 30 0
-back 1 load cell 1 0 31 0
-request 1 0 1 4
-back 1 store cell 1 0 16 262145
-back 1 store cell 1 0 17 0
-back 1 store cell 1 0 18 0
-back 1 store cell 1 0 19 0
-back 1 store cell 1 0 20 0
-back 1 store cell 1 0 21 0
-back 1 store cell 1 0 22 0
-back 1 store cell 1 0 23 0
-back 1 store cell 1 0 24 0
-back 1 store cell 1 0 25 0
-back 1 store cell 1 0 26 0
-back 1 store cell 1 0 27 0
-back 1 store cell 1 0 28 0
-back 1 store cell 1 0 29 0
-back 1 store cell 1 0 30 0
-back 1 store cell 1 0 31 0
-back 1 store cell 1 0 2 1
-back 1 load cell 1 0 3 1
-reply 1 0 1 0 notify
-back 1 load cell 1 0 0 1
-back 1 store cell 1 0 1 2
-back 1 load cell 1 0 0 1
-";
+const WORD_BY_WORD: &str =
+    "front 1 store cell 1 0 1 1\nfront 1 store cell 1 0 3 1\nfront 1 load grant 1 0 flags 0\nfront 1 store grant 1 0 frame 0\n\
+     front 1 swap grant 1 0 flags 0 1 0\nfront 1 load grant 1 1 flags 0\nfront 1 store grant 1 1 frame 1\n\
+     front 1 swap grant 1 1 flags 0 1 0\nnode 1 0 0 0\nnode 1 0 1 1\nnode 1 0 2 1\nnode 1 0 3 2\nbus 1 front 3\n\
+     back 1 load grant 1 0 flags 1\nback 1 swap grant 1 0 flags 1 25 1\nback 1 load grant 1 0 frame 0\nback 1 load cell 1 0 2 0\n\
+     back 1 load grant 1 1 flags 1\nback 1 swap grant 1 1 flags 1 25 1\nback 1 load grant 1 1 frame 1\nback 1 load cell 1 1 1 0\n\
+     bus 1 back 4\nback 1 load cell 1 0 0 0\nback 1 store cell 1 0 1 1\nback 1 load cell 1 0 0 0\nfront 1 store cell 1 0 16 262145\n\
+     front 1 store cell 1 0 0 1\nback 1 load cell 1 0 0 1\nback 1 load cell 1 0 16 262145\nback 1 load cell 1 0 17 0\n\
+     back 1 load cell 1 0 18 0\nback 1 load cell 1 0 19 0\nback 1 load cell 1 0 20 0\nback 1 load cell 1 0 21 0\n\
+     back 1 load cell 1 0 22 0\nback 1 load cell 1 0 23 0\nback 1 load cell 1 0 24 0\nback 1 load cell 1 0 25 0\n\
+     back 1 load cell 1 0 26 0\nback 1 load cell 1 0 27 0\nback 1 load cell 1 0 28 0\nback 1 load cell 1 0 29 0\n\
+     back 1 load cell 1 0 30 0\nback 1 load cell 1 0 31 0\nrequest 1 0 1 4\nback 1 store cell 1 0 16 262145\nback 1 store cell 1 0 17 0\n\
+     back 1 store cell 1 0 18 0\nback 1 store cell 1 0 19 0\nback 1 store cell 1 0 20 0\nback 1 store cell 1 0 21 0\n\
+     back 1 store cell 1 0 22 0\nback 1 store cell 1 0 23 0\nback 1 store cell 1 0 24 0\nback 1 store cell 1 0 25 0\n\
+     back 1 store cell 1 0 26 0\nback 1 store cell 1 0 27 0\nback 1 store cell 1 0 28 0\nback 1 store cell 1 0 29 0\n\
+     back 1 store cell 1 0 30 0\nback 1 store cell 1 0 31 0\nback 1 store cell 1 0 2 1\nback 1 load cell 1 0 3 1\nreply 1 0 1 0 notify\n\
+     back 1 load cell 1 0 0 1\nback 1 store cell 1 0 1 2\nback 1 load cell 1 0 0 1\n";
 
 #[test]
 fn every_access_has_its_line(rt: HostRuntime) -> Result<(), Fail> {

@@ -97,7 +97,7 @@ pub fn run<S: Source, K: Sink>(
     ensures usage { (result ≡ status.Usage) ↔ (command_of words.now.items ≡ None) }
 
     // Whatever the status: the journal is lawful and explained; what a device says on an access directly follows it; what each
-    // device says and hears is a run of the display machine, in which a connection closes only for a cause; and each access of
+    // device says and hears is a run of its kind's machine, in which a connection closes only for a cause; and each access of
     // a device to a cell lies in a page that it mapped and hasn't unmapped, each other goes to its domain's grant entries.
     ensures every_path { HasPlayed (S.rest source.old) (S.rest source.new) journal.new.entries }
 {

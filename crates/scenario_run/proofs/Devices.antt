@@ -2,8 +2,9 @@
 use Rattle.std.proofs.Common.{◌≡◌, ℕ, ◌≤◌, ◌==◌, Bool, true, false, if◌then◌else◌, List, [], ◌∷◌, refl, subst, arith}
 use Rattle.std.specs.List.{AllByRecursion}
 use Rattle.pv_words.specs.declared.device.HostEvent.{HostEvent}
+use Rattle.pv_words.specs.declared.device.HostEvent.TheVariants as host
 use Rattle.pv_words.specs.declared.setup.DeviceKind.{DeviceKind}
-use Rattle.pv_words.specs.declared.setup.DeviceKind.TheVariants.{Display}
+use Rattle.pv_words.specs.declared.setup.DeviceKind.TheVariants.{Display, Sound}
 use Rattle.pv_words.specs.declared.setup.DeviceSetup.{DeviceSetup}
 use Rattle.scenario_text.specs.Lookups as text
 use Rattle.scenario_text.specs.Playable as playable
@@ -15,6 +16,7 @@ use Rattle.pv_world.specs.World.{HasParts}
 -- a device has as many parts in a world as in the text that declared it
 same_parts : (k : DeviceKind) → text.parts_of k ≡ parts_of k
 same_parts (Display connectors) = refl
+same_parts (Sound streams) = refl
 
 pub same_parts_by : (ds : List DeviceSetup) (d : ℕ) → playable.parts_by ds d ≡ parts_by ds d
 same_parts_by [] d = refl
@@ -23,6 +25,13 @@ same_parts_by (s ∷ ss) d = rw (same_parts s.kind, same_parts_by ss d) refl
 -- and its host may tell it the same events
 same_events : (k : DeviceKind) (e : HostEvent) → playable.fits k e ≡ takes_event k e
 same_events (Display connectors) other = refl
+same_events (Sound streams) (host.Tick part frames) = refl
+same_events (Sound streams) (host.Blank part) = refl
+same_events (Sound streams) (host.Show part) = refl
+same_events (Sound streams) (host.Touch touched) = refl
+same_events (Sound streams) (host.Key code pressed) = refl
+same_events (Sound streams) (host.Motion x y z) = refl
+same_events (Sound streams) (host.Position x y z) = refl
 
 pub same_takes_by : (ds : List DeviceSetup) (d : ℕ) (e : HostEvent) → playable.takes_by ds d e ≡ takes_by ds d e
 same_takes_by [] d e = refl

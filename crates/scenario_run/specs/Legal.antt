@@ -8,8 +8,8 @@ use Rattle.backend_core.specs.Marked.{Item, entries}
 use Rattle.backend_core.specs.History.{AfterGoneIn, AnswersIn, InOrderIn, IsHistory, IsMachineRunIn, IsPromptIn, KeepsIn, ShowsNamedIn}
 use Rattle.scenario_run.specs.Follows.{AreSettled, Follows, FollowsTo}
 
--- Whatever was played: the journal is lawful and explained; what each device says and hears is a run of the display
--- machine, whose accepted requests are answered, and its accesses stay in the pages that it mapped and hasn't unmapped.
+-- Whatever was played: the journal is lawful and explained; what each device says and hears is a run of the machine of
+-- its kind, whose accepted requests are answered, and its accesses stay in the pages that it mapped and hasn't unmapped.
 pub record IsTrueJournal (s : Scenario) (m : List Item) (es : List Entry) : Type 0 where
   pub entered : entries m ≡ es
   pub history : IsHistory (frames_by s.sizes) (grants_by s.sizes) s.devices m

@@ -6,8 +6,8 @@ use Rattle.wire_fields.specs.Fields.{head_of, id_of, octet_of, operation_of, two
 use Rattle.snd_wire.specs.declared.types.Asked.{Asked}
 use Rattle.snd_wire.specs.declared.types.Asked.TheVariants.{Open, Close, Read, Write, Trigger, Query, Other}
 use Rattle.snd_wire.specs.declared.types.Event.{Event}
-use Rattle.snd_wire.specs.declared.types.Params.{Params}
-use Rattle.snd_wire.specs.declared.types.Ranges.{Ranges}
+use Rattle.pcm_params.specs.declared.params.Params.{Params}
+use Rattle.pcm_params.specs.declared.ranges.Ranges.{Ranges}
 use Rattle.snd_wire.specs.declared.types.Reply.{Reply}
 use Rattle.snd_wire.specs.declared.types.Request.{Request}
 

@@ -3,8 +3,9 @@
 ghost use Rattle.std.specs.Prelude.{◌≡◌};
 ghost use Rattle.snd_wire.specs.Wire.{asked_of, event_of, params_of, ranges_of, reply_of, request_of};
 
-use crate::types::{Asked, Event, Params, Ranges, Reply, Request};
+use crate::types::{Asked, Event, Reply, Request};
 use crate::{CLOSE, HW_PARAM_QUERY, OPEN, READ, TRIGGER, WRITE};
+use pcm_params::{Params, Ranges};
 use wire_fields::{head_fields, i32_of, octets_of, u64_of};
 
 /// The request in these words. The words and octets that no field of its operation stands in are ignored.

@@ -4,7 +4,8 @@ ghost use Rattle.std.specs.Prelude.{◌≡◌, ◌∷◌};
 ghost use Rattle.snd_wire.specs.Wire.{event_words, params_words, ranges_words, reply_words, request_words};
 
 use crate::CUR_POS;
-use crate::types::{Asked, Params, Ranges, Request};
+use crate::types::{Asked, Request};
+use pcm_params::{Params, Ranges};
 use wire_fields::{head_word, word_of_i32, word_of_octets, words_of_u64};
 
 /// The words of a request. Those that no field of its operation stands in are 0.

@@ -11,7 +11,8 @@ mod types;
 pub use decoding::{decode, decode_event, decode_reply};
 pub use encoding::{encode_event, encode_reply, encode_request};
 pub use laws::{events_read_back, replies_read_back, requests_read_back};
-pub use types::{Asked, Event, NO_RANGES, Params, Ranges, Reply, Request};
+pub use pcm_params::{NO_RANGES, Params, Ranges};
+pub use types::{Asked, Event, Reply, Request};
 
 /// The operation that opens a stream (`XENSND_OP_OPEN`).
 pub const OPEN: u8 = 0;

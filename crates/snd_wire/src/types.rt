@@ -1,57 +1,6 @@
 //! What the messages of the sound say.
 
-/// The parameters of a stream that is to be opened (`xensnd_open_req`).
-#[derive(Clone, Copy, Debug, PartialEq, Eq)]
-pub struct Params {
-    /// Frames in a second.
-    pub pcm_rate: u32,
-    /// The number of the samples' format.
-    pub pcm_format: u8,
-    /// Samples in a frame.
-    pub pcm_channels: u8,
-    /// The size of the buffer in octets.
-    pub buffer_sz: u32,
-    /// The grant of the first page of the directory, which lists the grants of the buffer's pages.
-    pub gref_directory: u32,
-    /// Octets between two position events, or 0 for none.
-    pub period_sz: u32,
-}
-
-/// Ranges of parameters (`xensnd_query_hw_param`): each bound is in its range.
-#[derive(Clone, Copy, Debug, PartialEq, Eq)]
-pub struct Ranges {
-    /// A mask of formats: bit `f` stands for the format of number `f`.
-    pub formats: u64,
-    /// Frames in a second.
-    pub rate_min: u32,
-    /// Frames in a second.
-    pub rate_max: u32,
-    /// Samples in a frame.
-    pub channels_min: u32,
-    /// Samples in a frame.
-    pub channels_max: u32,
-    /// The size of the buffer in frames.
-    pub buffer_min: u32,
-    /// The size of the buffer in frames.
-    pub buffer_max: u32,
-    /// The size of a period in frames.
-    pub period_min: u32,
-    /// The size of a period in frames.
-    pub period_max: u32,
-}
-
-/// The body of a reply that tells no ranges: all its words are 0.
-pub const NO_RANGES: Ranges = Ranges {
-    formats: 0,
-    rate_min: 0,
-    rate_max: 0,
-    channels_min: 0,
-    channels_max: 0,
-    buffer_min: 0,
-    buffer_max: 0,
-    period_min: 0,
-    period_max: 0,
-};
+use pcm_params::{Params, Ranges};
 
 /// What a request asks for.
 #[derive(Clone, Copy, Debug, PartialEq, Eq)]

@@ -11,7 +11,7 @@ use Rattle.pv_words.specs.Found.{Found}
 use Rattle.pv_words.specs.Plan.{Plan, Finished, Want, Note, Plain, Begins, Frames, Undoes, Ends, Takes, Puts, IsUntouched, mapped, FitsFrom}
 use Rattle.snd_wire.specs.declared.types.Asked.{Asked}
 use Rattle.snd_wire.specs.declared.types.Asked.TheVariants as asked
-use Rattle.snd_wire.specs.declared.types.Params.{Params}
+use Rattle.pcm_params.specs.declared.params.Params.{Params}
 use Rattle.pcm_params.specs.Format.{frame_of}
 use Rattle.pcm_params.specs.Params.{is_accepted as are_accepted}
 use Rattle.pcm_stream.specs.Stream.{Pcm}

@@ -4,5 +4,6 @@ pub mod Keeps
 mod Declared
 mod Lists
 mod Names
+pub mod Ports
 mod Serviced
 pub mod Streams

@@ -6,7 +6,7 @@ use Rattle.pv_words.specs.declared.device.StreamKind.{StreamKind}
 use Rattle.pv_words.specs.declared.device.StreamKind.TheVariants.{Playback, Capture}
 use Rattle.pv_words.specs.declared.grant.Hold.{Hold}
 use Rattle.snd_wire.specs.declared.types.Asked.TheVariants as asked
-use Rattle.snd_wire.specs.declared.types.Params.{Params}
+use Rattle.pcm_params.specs.declared.params.Params.{Params}
 use Rattle.pcm_params.specs.Params.{is_accepted as are_accepted}
 use Rattle.pcm_stream.specs.declared.state.StreamRefusal.TheVariants.{WrongState, Invalid}
 use Rattle.pcm_stream.specs.State.{is_closed, is_running}

@@ -6,7 +6,7 @@ use Rattle.pv_words.specs.declared.grant.Hold.{Hold}
 use Rattle.pv_words.specs.Found.{Found}
 use Rattle.pv_words.specs.Plan.{IsUntouched}
 use Rattle.snd_wire.specs.declared.types.Asked.TheVariants as asked
-use Rattle.snd_wire.specs.declared.types.Params.{Params}
+use Rattle.pcm_params.specs.declared.params.Params.{Params}
 use Rattle.pcm_stream.specs.State.{is_closed}
 use Rattle.pcm_stream.specs.Stream.{Pcm}
 use Rattle.page_directory.specs.declared.walk.Walked.{Walked}

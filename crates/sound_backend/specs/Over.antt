@@ -4,7 +4,7 @@ use Rattle.circular_buffer.specs.Buffer.{Buffer}
 use Rattle.pv_words.specs.declared.words.Words.{Ghosts as Words}
 use Rattle.pv_words.specs.Plan.{Plan}
 use Rattle.snd_wire.specs.declared.types.Asked.TheVariants as asked
-use Rattle.snd_wire.specs.declared.types.Params.{Params}
+use Rattle.pcm_params.specs.declared.params.Params.{Params}
 use Rattle.pcm_stream.specs.Queue.{queue_for}
 use Rattle.pcm_stream.specs.Stream.{Pcm}
 use Rattle.page_directory.specs.declared.walk.Walked.{Walked}

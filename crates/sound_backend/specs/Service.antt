@@ -8,7 +8,7 @@ use Rattle.pv_words.specs.declared.place.Place.{Place}
 use Rattle.pv_words.specs.Plan.{Finished, Plan, mapped}
 use Rattle.snd_wire.specs.declared.types.Asked.{Asked}
 use Rattle.snd_wire.specs.declared.types.Asked.TheVariants as asked
-use Rattle.snd_wire.specs.declared.types.Params.{Params}
+use Rattle.pcm_params.specs.declared.params.Params.{Params}
 use Rattle.snd_wire.specs.Wire.{reply_words, request_of}
 use Rattle.page_directory.specs.declared.walk.Walked.{Walked}
 use Rattle.page_directory.specs.declared.walk.Walked.TheVariants as walked

@@ -13,3 +13,6 @@ mod waiting;
 pub use laws::{gives_up_in_order, kinds_stay, sounds_run, tells_what_is_held};
 pub use service::Service;
 pub use sound::{Sound, new_sound};
+
+#[cfg(test)]
+mod tests;

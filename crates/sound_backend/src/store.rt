@@ -8,10 +8,10 @@ ghost use Rattle.sound_backend.specs.Verdict.{answer_by, answer_to, mode_for};
 use crate::held::{LeftPages, PageLists};
 use crate::verdict::{EOPNOTSUPP, checked, refused};
 use page_directory::{Pages, Walk};
-use pcm_params::{Answer, answer_query};
+use pcm_params::{Answer, Params, answer_query};
 use pcm_stream::{Queue, Stream, Ticked, queue};
 use pv_words::{Access, DomId, GrantRef, Hold, Mode, StreamKind, Words};
-use snd_wire::{Asked, Params};
+use snd_wire::Asked;
 use std::alloc::{AllocError, Global};
 
 /// The streams of a sound device by part, and the pages that are held for them.

@@ -3,9 +3,8 @@
 ghost use Rattle.std.specs.Prelude.{◌≡◌};
 ghost use Rattle.sound_backend.specs.Verdict.{checked, refused};
 
-use pcm_params::Answer;
+use pcm_params::{Answer, NO_RANGES};
 use pcm_stream::StreamRefusal;
-use snd_wire::NO_RANGES;
 
 // The status of an operation that isn't known.
 pub(crate) const EOPNOTSUPP: i32 = -95;

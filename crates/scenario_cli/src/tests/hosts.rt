@@ -1,4 +1,4 @@
-// Events that hosts tell displays.
+// Events that hosts tell devices.
 use super::running::*;
 use crate::Status;
 use pv_words::{DevId, Entry, HostEvent, JOURNAL_LIMIT};
@@ -39,12 +39,14 @@ fn an_event_has_its_line(rt: HostRuntime) -> Result<(), Fail> {
         words: "run --words",
         ..PLAIN
     };
-    let script = b"domain 1 wild 2 2\ndisplay 1 1 1\nblank 1 0\nshow 1 0\n";
+    let script =
+        b"domain 1 wild 2 2\ndisplay 1 1 1\nsound 16 1 c p\nblank 1 0\nshow 1 0\ntick 16 1 5\n";
     let outcome = run_trial(rt.alloc(), trial, script)?;
     expect_played(
         &rt,
         &outcome,
-        b"host 1 blank 0\nrefused 1 notconnected\nhost 1 show 0\nrefused 1 notconnected\n",
+        b"host 1 blank 0\nrefused 1 notconnected\nhost 1 show 0\nrefused 1 notconnected\n\
+          host 16 tick 1 5\nrefused 16 notconnected\n",
     );
     Ok(())
 }

@@ -13,8 +13,8 @@ use Rattle.display_backend.proofs.service.ServiceServe.go_on.Goals as goal
 pub returns-in-Frees-clause-stays : goal.returns-in-Frees-clause-stays
 returns-in-Frees-clause-stays g c = c.free.ensures.stays (held_of c.args.self.now)
 
-pub returns-in-Walks : goal.returns-in-Walks
-returns-in-Walks g c =
+pub returns : goal.returns
+returns g c =
     let d = c.args.self.now in
     let w = c.in-Walks.walk in
     let is : d.course ≡ Walks w = sym c.replace.ensures.value ∙ c.in-Walks.is in

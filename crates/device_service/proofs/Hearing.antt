@@ -27,7 +27,7 @@ use Rattle.device_service.specs.Raising.{raises_on}
 use Rattle.device_service.specs.Stand.{stand_at, stand_in, stand_of, work_of}
 use Rattle.device_service.specs.Work.{Work, End, choice, device, part_in, refused_at, told}
 
-heard_at : {X A V : Type 0} (s : Service X A V) (site : Site) (w : Work X V) (news : News) (p : Plan (End A V)) → stand_at (told s w news) p ≡ next (device s site) (stand_at w p) (Heard news)
+pub heard_at : {X A V : Type 0} (s : Service X A V) (site : Site) (w : Work X V) (news : News) (p : Plan (End A V)) → stand_at (told s w news) p ≡ next (device s site) (stand_at w p) (Heard news)
 heard_at s site w (Sets front nodes) (Finished end) = refl
 heard_at s site w (Hosts e) (Finished end) = refl
 heard_at s site w news (Make want note more) = refl
@@ -121,7 +121,7 @@ same_backend {S} {E} {g} b d k = λ i.
     }
 
 -- whether a backend rests
-at_busy : {X A V : Type 0} (s : Service X A V) (site : Site) (w : Work X V) (p : Plan (End A V)) → true ≡ not (at_rest (device s site) (stand_at w p))
+pub at_busy : {X A V : Type 0} (s : Service X A V) (site : Site) (w : Work X V) (p : Plan (End A V)) → true ≡ not (at_rest (device s site) (stand_at w p))
 unfolding choice
 at_busy s site w (Finished x) = refl
 at_busy s site w (Make want note more) = refl
@@ -138,7 +138,7 @@ module _ {S E : Type 0} {g : Ghosts S E} where
   stand_busy site d w (activity.Raising part) n = refl
   stand_busy site d w activity.Sleeping n = refl
 
-refuses_at : {X A V : Type 0} (s : Service X A V) (w : Work X V) (p : Plan (End A V)) (e : HostEvent) → refused_at s (work_at (stand_at w p)) e ≡ refused_at s w e
+pub refuses_at : {X A V : Type 0} (s : Service X A V) (w : Work X V) (p : Plan (End A V)) (e : HostEvent) → refused_at s (work_at (stand_at w p)) e ≡ refused_at s w e
 refuses_at s w (Make want note more) e = refl
 refuses_at s w (Finished end) e = refl
 

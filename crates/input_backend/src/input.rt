@@ -4,11 +4,11 @@ ghost use Rattle.std.specs.Prelude.{◌≡◌, [], IfOk};
 ghost use Rattle.device_core.specs.Order.{Between};
 ghost use Rattle.device_core.specs.Site.{Site};
 ghost use Rattle.device_service.specs.Work.{first_work};
-ghost use Rattle.group_publisher.specs.Stand.{dev_of, dom_of, held_of, stand_of};
+ghost use Rattle.input_backend.specs.Stand.{dev_of, dom_of, held_of, stand_of};
 ghost use Rattle.multitouch.specs.Known.{at_rest};
 
 use crate::service::Service;
-use group_publisher::Publisher;
+use crate::publisher::Publisher;
 use pv_words::{DevId, DomId};
 use std::alloc::{AllocError, Global};
 

@@ -5,8 +5,8 @@ ghost use Rattle.device_service.specs.Truth.{TellsTruly};
 ghost use Rattle.input_backend.specs.Laws.{TellsWhatIsHeld};
 ghost use Rattle.input_backend.specs.Service.{input, shows, table};
 
+use crate::publish::Publish;
 use crate::service::Service;
-use group_publisher::{publishers_run, publishers_tell_truly};
 
 /// All that an input device does and hears by the order of work is a run of its machine of contacts and keys; each of its accesses is in
 /// range and lies in the page that it holds then, or in a grant entry of its domain; and what happens to the machine as said and heard
@@ -16,14 +16,14 @@ pub fn inputs_run()
     ensures keeps { Keeps input table shows }
     ensures tells { Tells input table shows }
 {
-    publishers_run::<Service>();
+    Service::keeps_laws();
 }
 
 /// Each thing that an input device says is one that its machine says of some rows, by the words that its accesses found last.
 pub fn inputs_tell_truly()
     ensures { TellsTruly input table shows }
 {
-    publishers_tell_truly::<Service>();
+    Service::keeps_laws();
 }
 
 /// Whatever an input device has done and heard, the pages that it tells by `held` and `hold_at` are just those that its accesses hold:
@@ -31,5 +31,5 @@ pub fn inputs_tell_truly()
 pub fn tells_what_is_held()
     ensures { TellsWhatIsHeld }
 {
-    group_publisher::tells_what_is_held::<Service>();
+    Service::keeps_laws();
 }

@@ -7,7 +7,7 @@ ghost use Rattle.host_events.specs.Queue.{refusal_in};
 ghost use Rattle.multitouch.specs.Known.{at_rest, heard};
 ghost use Rattle.input_backend.specs.Service.{refusal_of, words_in};
 
-use group_publisher::Publish;
+use crate::publish::Publish;
 use kbd_wire::{Event, encode};
 use multitouch::{Contacts, Group};
 use pv_words::{HostEvent, HostRefusal, State};

@@ -12,7 +12,7 @@ use Rattle.multitouch.proofs.Events.{accepts_both, after-append}
 use Rattle.multitouch.proofs.Mending.{repair_mends}
 use Rattle.multitouch.proofs.Soundness.{chosen_accepted, sound_at_rest, sound_begun, sound_idle, sound_joined, sound_let_go, sound_settled}
 
-kept_start : IsKept start
+pub kept_start : IsKept start
 kept_start = record { sound = sound_at_rest; gap = λ h. absurd (cc); aimed = tt; differs = λ h. absurd (cc); in_turn = tt; told = refl }
 
 -- a gap that stands after the test for its end stood before it
@@ -155,7 +155,7 @@ module _ (h : History) (kept : IsKept h) where
         told = kept.told;
       }
 
-keeps : (h : History) (m : Move) → IsKept h → IsKept (followed h m)
+pub keeps : (h : History) (m : Move) → IsKept h → IsKept (followed h m)
 keeps h (move.Hears e) kept = hears h kept e
 keeps h move.Begins kept = begins h kept
 keeps h move.Publishes kept = publishes h kept

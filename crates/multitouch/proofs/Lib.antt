@@ -1,5 +1,6 @@
 mod Codes
 mod ContactChanges
+pub mod Endings
 mod Events
 mod Histories
 mod KeyChanges
@@ -8,4 +9,4 @@ mod Mending
 mod Slots
 mod Soundness
 mod Told
-mod Turns
+pub mod Turns

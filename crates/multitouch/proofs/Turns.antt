@@ -3,14 +3,16 @@ use Rattle.std.proofs.Common.{◌≡◌, ℕ, Bool, true, false, cond, ◌==◌,
 use Rattle.std.proofs.lemmas.Bool.Decides.{Decides-eqb}
 use Rattle.std.specs.Bool.{MatchBool}
 use Rattle.std.specs.Cmp.{nat_eq_equiv}
+use Rattle.std.specs.Ordering.{nat_cmp}
 use Rattle.std.specs.FinMap as finite
 use Rattle.kbd_wire.specs.declared.Event.{Event}
 use Rattle.kbd_wire.specs.declared.Event.TheVariants.{Motion, Key, Position, Down, Up, Move, Syn}
 use Rattle.pv_words.specs.declared.device.HostRefusal.TheVariants.{AlreadyDown, NotDown, TooMany}
 use Rattle.multitouch.specs.declared.contact.Contact.{Contact}
-use Rattle.multitouch.specs.History.{TakeTurns}
+use Rattle.multitouch.specs.History.{ContactsTakeTurns, TakeTurns, history_from, start}
 use Rattle.multitouch.specs.Panel.{with_contact}
-use Rattle.multitouch.specs.Pressed.{ContactMap, Pressed, after_event, down_refusal, is_down, lift_refusal, Accepts}
+use Rattle.multitouch.specs.Pressed.{ContactMap, Pressed, nothing, after_event, down_refusal, is_down, lift_refusal, Accepts}
+use Rattle.multitouch.proofs.Histories.{all_kept}
 use Rattle.multitouch.proofs.Slots.{get-with_contact}
 
 comes : (p : Pressed) (id : ℕ) → down_refusal p id ≡ None → is_down p id ≡ false
@@ -63,3 +65,9 @@ take_turns id p (Key false code ∷ es) fits = take_turns id (after_event p (Key
 take_turns id p (Motion x y z ∷ es) fits = take_turns id p es fits.1
 take_turns id p (Position x y z ∷ es) fits = take_turns id p es fits.1
 take_turns id p (Syn ∷ es) fits = take_turns id p es fits.1
+
+-- nothing was down before what was published
+pub all_turn : ContactsTakeTurns
+all_turn ms id =
+    subst (λ down. TakeTurns id down (history_from start ms).said) (ap is_some (finite.get-empty nat_cmp id))
+    (take_turns id nothing (history_from start ms).said (all_kept ms).in_turn)

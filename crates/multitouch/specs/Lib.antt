@@ -1,3 +1,4 @@
+pub mod Endings
 pub mod History
 pub mod Known
 pub mod Panel

@@ -12,7 +12,7 @@ mod repair;
 pub use contact::Contact;
 pub use contacts::Contacts;
 pub use group::Group;
-pub use laws::{contacts_take_turns, groups_keep_up};
+pub use laws::{contacts_take_turns, groups_end_once, groups_keep_up};
 
 #[cfg(test)]
 mod tests;

@@ -35,6 +35,8 @@ pub enum DeviceKind {
     Display(u8),
     /// A sound device with these streams.
     Sound(Streams),
+    /// An input device.
+    Input,
 }
 
 /// A device, and whose frontend it serves.

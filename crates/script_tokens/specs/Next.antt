@@ -1,12 +1,12 @@
 -- The next token of a line: a number or a word.
-use Rattle.std.specs.Prelude.{ℕ, nat_lt, nat_le, ◌&&◌, List, [], ◌∷◌, Option, Some, None, Result, Ok, Err, if◌then◌else◌}
+use Rattle.std.specs.Prelude.{ℕ, ℤ, nat_lt, nat_le, ◌&&◌, List, [], ◌∷◌, Option, Some, None, Result, Ok, Err, if◌then◌else◌}
 use Rattle.std.specs.Str.{bytes_eq}
 use Rattle.script_tokens.specs.declared.fault.Flaw.{Flaw}
 use Rattle.script_tokens.specs.declared.fault.FaultKind.TheVariants.{BadNumber, OutOfRange, BadWord}
 use Rattle.script_tokens.specs.declared.number.Number.{Number}
 use Rattle.script_tokens.specs.Flaws.{flaw, ◌>>=◌, or_flaw}
 use Rattle.script_tokens.specs.Cursors.{Cursor, next_of}
-use Rattle.script_tokens.specs.Numbers.{number_of, in_64_bits}
+use Rattle.script_tokens.specs.Numbers.{number_of, in_64_bits, signed_of, sized}
 
 -- a number below 2 ^ 64, and the column of its token
 unfoldable pub number_at : Cursor → Result (Number × Cursor) Flaw
@@ -26,6 +26,14 @@ unfoldable pub below_at : ℕ → Cursor → Result (Number × Cursor) Flaw
 below_at limit c = do
   n ← number_at c
   if nat_lt n.0.value limit then Ok n else Err (flaw n.0.column OutOfRange)
+
+-- a signed number of 32 bits
+unfoldable pub signed_at : Cursor → Result (ℤ × Cursor) Flaw
+signed_at c = do
+  t ← next_of c
+  n ← or_flaw (signed_of t.0.octets) t.0.column BadNumber
+  value ← or_flaw (sized n.0 n.1) t.0.column OutOfRange
+  Ok (value, t.1)
 
 -- this word
 unfoldable pub keyword_at : List ℕ → Cursor → Result Cursor Flaw

@@ -1,6 +1,6 @@
 -- Numbers: decimal digits, or 0x and hexadecimal digits.
-use Rattle.std.specs.Prelude.{ℕ, ◌+◌, ◌-◌, ◌*◌, ◌^◌, nat_lt, nat_le, ◌&&◌, List, [], ◌∷◌, Option, Some, None}
-use Rattle.std.specs.Prelude.{option_and_then, if◌then◌else◌, take, drop, codes}
+use Rattle.std.specs.Prelude.{ℕ, suc, zero, ℤ, pos, negsuc, ◌+◌, ◌-◌, ◌*◌, ◌^◌, nat_lt, nat_le, ◌&&◌, Bool, true, false, List, [], ◌∷◌, Option, Some, None}
+use Rattle.std.specs.Prelude.{option_and_then, option_map, if◌then◌else◌, take, drop, codes}
 use Rattle.std.specs.Str.{bytes_eq}
 
 -- A to F or a to f for 10 to 15
@@ -32,3 +32,18 @@ number_of octets = if bytes_eq (take 2 octets) (codes "0x") then digits_of 16 (d
 -- a number below 2 ^ 64
 abbrev pub in_64_bits : Option ℕ → Option ℕ
 in_64_bits o = option_and_then (λ n. if nat_lt n (2 ^ 64) then Some n else None) o
+
+-- the number that a token spells, below 2 ^ 64 behind its -, if it has one; and whether it has
+unfoldable pub signed_of : List ℕ → Option (Bool × ℕ)
+signed_of octets =
+    if bytes_eq (take 1 octets) (codes "-") then option_map (λ n. (true, n)) (in_64_bits (number_of (drop 1 octets)))
+    else option_map (λ n. (false, n)) (in_64_bits (number_of octets))
+
+abbrev pub negated : ℕ → ℤ
+negated zero = pos 0
+negated (suc n) = negsuc n
+
+-- the number of 32 bits of this size, behind a - or not: it is from - 2 ^ 31 to 2 ^ 31 - 1
+unfoldable pub sized : (negative : Bool) → ℕ → Option ℤ
+sized true size = if nat_le size (2 ^ 31) then Some (negated size) else None
+sized false size = if nat_lt size (2 ^ 31) then Some (pos size) else None

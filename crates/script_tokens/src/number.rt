@@ -3,7 +3,7 @@
 ghost use Rattle.std.specs.Prelude.{◌≡◌, ◌<◌, ◌≤◌, ◌+◌, ◌^◌, length, option_map, IfSome};
 ghost use Rattle.std.specs.List.{position_or_len, before_first};
 ghost use Rattle.script_tokens.specs.Tokens.{is_blank};
-ghost use Rattle.script_tokens.specs.Numbers.{digit_of, value_of, digits_of, number_of, in_64_bits};
+ghost use Rattle.script_tokens.specs.Numbers.{digit_of, value_of, digits_of, number_of, in_64_bits, sized};
 
 use crate::octet::is_blank;
 
@@ -66,5 +66,26 @@ pub fn front_number(octets: &[u8]) -> Option<(u64, usize)>
             Some((value, len + 2))
         }
         None => front_digits(10, octets),
+    }
+}
+
+// The sizes of numbers of 32 bits are at most this.
+const SIGNED_LIMIT: u64 = 1 << 31;
+
+/// The number of 32 bits of this size, behind a `-` or not, if there is one.
+#[tactic(auto, unfolding(crate::specs::Numbers::sized))]
+pub fn sized(is_negative: bool, size: u64) -> Option<i32>
+    ensures { result ≡ sized is_negative size }
+{
+    if is_negative {
+        if size > SIGNED_LIMIT {
+            return None;
+        }
+        Some(-(size as i64) as i32)
+    } else {
+        if size >= SIGNED_LIMIT {
+            return None;
+        }
+        Some(size as i32)
     }
 }

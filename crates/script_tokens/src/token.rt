@@ -5,7 +5,7 @@ ghost use Rattle.std.specs.List.{position_or_len};
 ghost use Rattle.script_tokens.specs.Tokens.{is_blank, tokens};
 
 use crate::fault::{FaultKind, Flaw};
-use crate::number::{Number, front_digits, front_number};
+use crate::number::{Number, front_digits, front_number, sized};
 use crate::octet::is_blank;
 
 /// A token: octets of a line up to the next blank, and the column of the first one.
@@ -56,7 +56,7 @@ fn token_len(octets: &[u8]) -> usize
 }
 
 impl<'a> Token<'a> {
-    ghost use Rattle.script_tokens.specs.Numbers.{digits_of, in_64_bits};
+    ghost use Rattle.script_tokens.specs.Numbers.{digits_of, in_64_bits, number_of, signed_of};
 
     /// The number below 2^64 whose decimal digits the token is, if it is such digits.
     pub fn decimal(self) -> Option<u64>
@@ -65,12 +65,41 @@ impl<'a> Token<'a> {
         let (value, _) = front_digits(10, self.octets)?;
         Some(value)
     }
+
+    /// The number below 2^64 that the token spells, if it spells one.
+    fn number(self) -> Option<u64>
+        ensures { result ≡ in_64_bits (number_of self.entry.octets.now) }
+    {
+        let (value, _) = front_number(self.octets)?;
+        Some(value)
+    }
+
+    /// The same behind a `-`, if it has one; and whether it has.
+    #[tactic(auto, unfolding(crate::specs::Numbers::signed_of))]
+    fn signed(self) -> Option<(bool, u64)>
+        ensures { result ≡ signed_of self.entry.octets.now }
+    {
+        match self.octets.strip_prefix(b"-".as_slice()) {
+            Some(octets) => {
+                let behind = Token {
+                    column: self.column,
+                    octets,
+                };
+                let size = behind.number()?;
+                Some((true, size))
+            }
+            None => {
+                let size = self.number()?;
+                Some((false, size))
+            }
+        }
+    }
 }
 
 impl<'a> Tokens<'a> {
     ghost use Rattle.script_tokens.specs.Flaws.{Gives};
     ghost use Rattle.script_tokens.specs.Cursors.{Cursor, cursor_at, cursor, seen, seen_token, first_of, next_of, StandsAt};
-    ghost use Rattle.script_tokens.specs.Next.{number_at, between_at, below_at, keyword_at};
+    ghost use Rattle.script_tokens.specs.Next.{number_at, between_at, below_at, signed_at, keyword_at};
 
     /// The tokens of a line's code.
     pub fn new(code: &'a [u8]) -> Tokens<'a>
@@ -195,6 +224,28 @@ impl<'a> Tokens<'a> {
                 column: number.column,
                 kind: FaultKind::OutOfRange,
             })
+        }
+    }
+
+    /// The next token as a signed number of 32 bits: a number, with or without a `-` before it.
+    #[tactic(auto, unfolding(crate::specs::Next::signed_at))]
+    pub fn signed(self) -> Result<(i32, Tokens<'a>), Flaw>
+        ensures { Gives seen result (signed_at (cursor self.entry)) }
+    {
+        let (token, tokens) = self.next()?;
+        let column = token.column;
+        let Some((is_negative, size)) = token.signed() else {
+            return Err(Flaw {
+                column,
+                kind: FaultKind::BadNumber,
+            });
+        };
+        match sized(is_negative, size) {
+            Some(value) => Ok((value, tokens)),
+            None => Err(Flaw {
+                column,
+                kind: FaultKind::OutOfRange,
+            }),
         }
     }
 

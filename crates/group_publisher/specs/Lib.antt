@@ -1,4 +1,0 @@
-pub mod Held
-pub mod Stage
-pub mod Stand
-pub mod Steps

@@ -3,12 +3,12 @@ use Rattle.pv_words.specs.Memory.{zeros}
 use Rattle.pv_words.specs.Port.{PortMay}
 use Rattle.xenbus_states.specs.Nodes.{no_nodes}
 use Rattle.pv_words.proofs.Listing.{port_may}
-use Rattle.backend_core.specs.History.{AfterGoneIn, AnswersIn, InOrderIn, IsExplainedIn, IsMachineRunIn, KeepsIn, TellsIn, TellsTrulyIn, held_after, site_of, ShowsNamedIn}
-use Rattle.backend_core.specs.Laws.{FlipsAreInOrder, FrontsAreHistories, HistoriesAreRuns, ListingSuffices, NothingComesAfterGone, ReadingsTellAll, RefusalsAreShown, PicturesAreNamed}
+use Rattle.backend_core.specs.History.{AfterGoneIn, AnswersIn, InOrderIn, IsExplainedIn, IsMachineRunIn, KeepsIn, TellsIn, TellsTrulyIn, ToldInTurnIn, held_after, site_of, ShowsNamedIn}
+use Rattle.backend_core.specs.Laws.{ContactsAreToldInTurn, FlipsAreInOrder, FrontsAreHistories, HistoriesAreRuns, ListingSuffices, NothingComesAfterGone, ReadingsTellAll, RefusalsAreShown, PicturesAreNamed}
 use Rattle.backend_core.specs.Marked.{own}
 use Rattle.backend_core.proofs.Histories.{all_weaker, history_front, prompt_front}
 use Rattle.backend_core.proofs.EachKind.{answers, keeps, next_may, nothing_after_gone, runs, tells, truly}
-use Rattle.backend_core.proofs.Outcomes.{flips_in_order, names_shown}
+use Rattle.backend_core.proofs.Outcomes.{flips_in_order, names_shown, told_in_turn}
 use Rattle.backend_core.proofs.Truth.{own_true}
 
 pub histories_are_runs : HistoriesAreRuns
@@ -21,6 +21,10 @@ histories_are_runs frames grants devices m h = (
 pub flips_are_in_order : FlipsAreInOrder
 flips_are_in_order frames grants devices m h =
     all_weaker (IsExplainedIn frames grants m) (InOrderIn frames grants m) (λ s x. flips_in_order frames grants s.dom.0 s.kind (own s.dev.0 m) x (own_true frames grants s.dev.0 no_nodes m zeros h.lawful)) devices h.explained
+
+pub contacts_are_told_in_turn : ContactsAreToldInTurn
+contacts_are_told_in_turn frames grants devices m h =
+    all_weaker (IsExplainedIn frames grants m) (ToldInTurnIn frames grants m) (λ s x. told_in_turn frames grants s.dom.0 s.kind (own s.dev.0 m) x (own_true frames grants s.dev.0 no_nodes m zeros h.lawful)) devices h.explained
 
 pub nothing_comes_after_gone : NothingComesAfterGone
 nothing_comes_after_gone frames grants devices m h =

@@ -37,8 +37,10 @@ use Rattle.device_service.proofs.Truth.{closes_shown, services_tell_truly}
 use Rattle.display_backend.specs.Service.{display}
 use Rattle.display_backend.specs.Waiting.{is_for}
 use Rattle.sound_backend.specs.Service.{sound}
+use Rattle.input_backend.specs.Service.{input}
+use Rattle.input_backend.specs.Stand as publisher
 use Rattle.backend_core.specs.declared.device.Device.{Device}
-use Rattle.backend_core.specs.declared.device.Device.TheVariants.{Display, Sound}
+use Rattle.backend_core.specs.declared.device.Device.TheVariants.{Display, Sound, Input}
 use Rattle.backend_core.specs.Device as backend
 use Rattle.backend_core.specs.Device.{GoesOn, MayMakeNext, StandsAt, StandsFor}
 use Rattle.backend_core.specs.History.{held_after, site_of}
@@ -190,8 +192,8 @@ module _ (frames grants : ℕ → ℕ) (dom : ℕ) where
       at_its_stand : (k : DeviceKind) (d : Device) (p : Stand (WorkOf (nature_of k)) (EndOf (nature_of k))) → StandsAt k (site_as k) d p → MayStep may (work k (site_as k)) p → MayMakeNext may (site_as k) d
       at_its_stand (kind.Display n) (Display d) p s m = subst (λ y. MayStep may (work (kind.Display n) (site_as (kind.Display n))) y) (sym s) m
       at_its_stand (kind.Sound streams) (Sound d) p s m = subst (λ y. MayStep may (work (kind.Sound streams) (site_as (kind.Sound streams))) y) (sym s) m
-      at_its_stand (kind.Display n) (Sound d) p s m = absurd s
-      at_its_stand (kind.Sound streams) (Display d) p s m = absurd s
+      at_its_stand kind.Input (Input d) p s m = subst (λ y. MayStep may (work kind.Input (site_as kind.Input)) y) (sym s) m
+      at_its_stand k d p s m = absurd s
 
   pub runs : (k : DeviceKind) (es : List Own) → IsExplained k (site_as k) es → AreTrueTo (Words zeros) es → IsMachineRun k (site_as k) es
   runs k es x true_to =
@@ -247,6 +249,7 @@ steps_any r (order.Telling t w o) = tt
 pub may_any : (site : Site) (d : Device) → MayMakeNext (λ want. Unit {0}) site d
 may_any site (Display d) = steps_any (device display site) (stand.stand_of site d)
 may_any site (Sound d) = steps_any (device sound site) (stand.stand_of site d)
+may_any site (Input d) = steps_any (device input site) (publisher.stand_of site d)
 
 -- what a device is tells its domain and its parts
 pub dom_of_one : (k : DeviceKind) (site : Site) (d : Device) (es : List Own) → StandsFor k site d es → backend.dom_of d ≡ site.dom
@@ -259,8 +262,8 @@ parts_of_one k site d es h = h.parts_are
 pub fits_one : (k : DeviceKind) (site : Site) (d : Device) (es : List Own) (e : HostEvent) → site.parts ≡ parts_of k → StandsFor k site d es → backend.fits_to d e ≡ takes_event k e
 fits_one (kind.Display n) site (Display d) es e parts h = ap (λ x. is_for x e) (h.parts_are ∙ h.declared)
 fits_one (kind.Sound streams) site (Sound d) es e parts h = ap (λ x. sound_takes x e) (h.parts_are ∙ h.declared)
-fits_one (kind.Display n) site (Sound d) es e parts h = absurd h.stands
-fits_one (kind.Sound streams) site (Display d) es e parts h = absurd h.stands
+fits_one kind.Input site (Input d) es e parts h = refl
+fits_one k site d es e parts h = absurd h.stands
 
 -- where no access was made, it holds what it held
 pub quiet_holds : (frames grants : ℕ → ℕ) (dom : ℕ) (k : DeviceKind) (es : List Own) (t : Option Said) → holds_as frames grants dom k (es ++ steps_of None t) ≡ holds_as frames grants dom k es

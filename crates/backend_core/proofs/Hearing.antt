@@ -17,8 +17,11 @@ use Rattle.device_service.specs.Work.{device, refused_at}
 use Rattle.device_service.proofs.Hearing.{refuses_same}
 use Rattle.display_backend.specs.Service.{display}
 use Rattle.sound_backend.specs.Service.{sound}
+use Rattle.input_backend.specs.Service.{input}
+use Rattle.input_backend.specs.Stand as publisher
+use Rattle.input_backend.proofs.Stands as publishers
 use Rattle.backend_core.specs.declared.device.Device.{Device}
-use Rattle.backend_core.specs.declared.device.Device.TheVariants.{Display, Sound}
+use Rattle.backend_core.specs.declared.device.Device.TheVariants.{Display, Sound, Input}
 use Rattle.backend_core.specs.Device.{Adds, GoesOn, StandsAt, StandsFor, dom_of, hosted, parts_of}
 use Rattle.backend_core.specs.Kinds.{IsSettled}
 use Rattle.backend_core.specs.Nature.{EndOf, WorkOf, nature_of, rules, station}
@@ -39,26 +42,28 @@ module _ {S E : Type 0} {g : Ghosts S E} where
 abbrev pub Hears : Device → News → Device → Type 0
 Hears (Display old) news (Display new) = HearsAt old news new
 Hears (Sound old) news (Sound new) = HearsAt old news new
-Hears (Display old) news (Sound new) = ⊥
-Hears (Sound old) news (Display new) = ⊥
+Hears (Input old) news (Input new) = (site : Site) → publisher.stand_of site new ≡ next (device input site) (publisher.stand_of site old) (Heard news)
+Hears old news new = ⊥
 
 abbrev pub Refuses : Device → HostEvent → Option HostRefusal → Type 0
 Refuses (Display d) e why = why ≡ refused_at display (backend.work_of d) e
 Refuses (Sound d) e why = why ≡ refused_at sound (backend.work_of d) e
+Refuses (Input d) e why = why ≡ refused_at input (publisher.work_of d) e
 
 hears_at : (k : DeviceKind) (site : Site) (old new : Device) (news : News) (p : StoodAt k) → Hears old news new → StandsAt k site old p → StandsAt k site new (next (rules (nature_of k) site) p (Heard news))
 hears_at (kind.Display n) site (Display old) (Display new) news p h s = h site ∙ ap (λ x. next (device display site) x (Heard news)) s
 hears_at (kind.Sound streams) site (Sound old) (Sound new) news p h s = h site ∙ ap (λ x. next (device sound site) x (Heard news)) s
-hears_at (kind.Display n) site (Sound old) new news p h s = absurd s
-hears_at (kind.Sound streams) site (Display old) new news p h s = absurd s
-hears_at (kind.Display n) site (Display old) (Sound new) news p h s = absurd h
-hears_at (kind.Sound streams) site (Sound old) (Display new) news p h s = absurd h
+hears_at kind.Input site (Input old) (Input new) news p h s = h site ∙ ap (λ x. next (device input site) x (Heard news)) s
+hears_at (kind.Display n) site (Display old) new news p h s = absurd h
+hears_at (kind.Sound streams) site (Sound old) new news p h s = absurd h
+hears_at kind.Input site (Input old) new news p h s = absurd h
+hears_at k site old new news p h s = absurd s
 
 refuses_at : (k : DeviceKind) (site : Site) (d : Device) (e : HostEvent) (why : Option HostRefusal) (p : StoodAt k) → Refuses d e why → StandsAt k site d p → refused_by (rules (nature_of k) site) (work_at p) (Hosts e) ≡ why
 refuses_at (kind.Display n) site (Display d) e why p r s = sym (r ∙ (sym (refuses_same site d e) ∙ ap (λ x. refused_at display (work_at x) e) s))
 refuses_at (kind.Sound streams) site (Sound d) e why p r s = sym (r ∙ (sym (refuses_same site d e) ∙ ap (λ x. refused_at sound (work_at x) e) s))
-refuses_at (kind.Display n) site (Sound d) e why p r s = absurd s
-refuses_at (kind.Sound streams) site (Display d) e why p r s = absurd s
+refuses_at kind.Input site (Input d) e why p r s = sym (r ∙ (sym (publishers.refuses_same site d e) ∙ ap (λ x. refused_at input (work_at x) e) s))
+refuses_at k site d e why p r s = absurd s
 
 module _ (k : DeviceKind) (site : Site) (es : List Own) (old new : Device) (news : News) (s : StandsFor k site old es) (h : IsSettled k site es) (hears : Hears old news new) (dom : dom_of new ≡ dom_of old) (parts : parts_of new ≡ parts_of old) where
   abbrev r : Rules (WorkOf (nature_of k)) (EndOf (nature_of k))

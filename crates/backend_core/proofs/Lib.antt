@@ -8,6 +8,7 @@ mod Going
 mod Hearing
 pub mod Histories
 mod Holding
+mod Inputs
 pub mod Items
 pub mod OneNext
 mod Natures
@@ -17,3 +18,4 @@ mod Pictures
 mod Sounds
 mod Stepping
 mod Truth
+mod Turns

@@ -19,10 +19,13 @@ use Rattle.sound_backend.specs.Kept as sound
 use Rattle.sound_backend.specs.Service.{first_known}
 use Rattle.sound_backend.proofs.Keeps as sounds
 use Rattle.sound_backend.proofs.Streams.{kinds_closed}
+use Rattle.input_backend.specs.Service as input
+use Rattle.input_backend.proofs.Keeps as inputs
 use Rattle.backend_core.specs.Kinds.{ShowsDenial}
 use Rattle.backend_core.specs.Nature.{first_snapshot, nature_of, reading_of, rules, view}
 use Rattle.backend_core.proofs.Answers.{Settles, none_some}
 use Rattle.backend_core.proofs.Displays as displays
+use Rattle.backend_core.proofs.Inputs as panels
 use Rattle.backend_core.proofs.Sounds as tones
 
 pub record Keeping (k : DeviceKind) : Type 1 where
@@ -60,4 +63,15 @@ keeping_of (kind.Sound streams) =
       fine = λ site d e i. none_some d e;
       accepts = λ site maps y x. (x, refl);
       denial = tones.denial;
+    }
+keeping_of kind.Input =
+    record {
+      facts = input.facts;
+      laws = inputs.keeps_laws;
+      fresh = refl;
+      begins = λ site. refl;
+      settles = panels.settles;
+      fine = λ site. tt;
+      accepts = λ site maps y x. x;
+      denial = panels.denial;
     }

@@ -15,8 +15,10 @@ use Rattle.device_service.specs.Stand as backend
 use Rattle.device_service.specs.Work.{device}
 use Rattle.display_backend.specs.Service.{display}
 use Rattle.sound_backend.specs.Service.{sound}
+use Rattle.input_backend.specs.Service.{input}
+use Rattle.input_backend.specs.Stand as publisher
 use Rattle.backend_core.specs.declared.device.Device.{Device}
-use Rattle.backend_core.specs.declared.device.Device.TheVariants.{Display, Sound}
+use Rattle.backend_core.specs.declared.device.Device.TheVariants.{Display, Sound, Input}
 use Rattle.backend_core.specs.Device.{AddsAt, GoesOn, IsDue, IsFresh, RidesAt, StandsAt, StandsFor, dom_of, parts_of}
 use Rattle.backend_core.specs.Kinds as kinds
 use Rattle.backend_core.specs.Kinds.{Continues, IsSettled, due_after}
@@ -38,12 +40,13 @@ module _ {S E : Type 0} {g : Ghosts S E} where
 abbrev pub StepsAt : Site → Device → Option Access → Option Said → Device → Type 0
 StepsAt site (Display old) access said (Display new) = backend.StepsAt site old access said new
 StepsAt site (Sound old) access said (Sound new) = backend.StepsAt site old access said new
-StepsAt site (Display old) access said (Sound new) = ⊥
-StepsAt site (Sound old) access said (Display new) = ⊥
+StepsAt site (Input old) access said (Input new) = publisher.StepsAt site old access said new
+StepsAt site old access said new = ⊥
 
 abbrev pub HasMore : Device → Bool → Type 0
 HasMore (Display d) more = IsDueAt d more
 HasMore (Sound d) more = IsDueAt d more
+HasMore (Input d) more = (site : Site) → more ≡ not (at_rest (device input site) (publisher.stand_of site d))
 
 -- the stand of its kind that it has
 pub record Stepped (k : DeviceKind) (site : Site) (p : StoodAt k) (access : Option Access) (said : Option Said) (new : Device) : Type 0 where
@@ -56,10 +59,12 @@ steps_at (kind.Display n) site (Display old) (Display new) access said p x s =
     record { stand = backend.stand_of site new; is = refl; steps = subst (λ y. Steps (device display site) y access said (backend.stand_of site new)) s x }
 steps_at (kind.Sound streams) site (Sound old) (Sound new) access said p x s =
     record { stand = backend.stand_of site new; is = refl; steps = subst (λ y. Steps (device sound site) y access said (backend.stand_of site new)) s x }
-steps_at (kind.Display n) site (Sound old) new access said p x s = absurd s
-steps_at (kind.Sound streams) site (Display old) new access said p x s = absurd s
-steps_at (kind.Display n) site (Display old) (Sound new) access said p x s = absurd x
-steps_at (kind.Sound streams) site (Sound old) (Display new) access said p x s = absurd x
+steps_at kind.Input site (Input old) (Input new) access said p x s =
+    record { stand = publisher.stand_of site new; is = refl; steps = subst (λ y. Steps (device input site) y access said (publisher.stand_of site new)) s x }
+steps_at (kind.Display n) site (Display old) new access said p x s = absurd x
+steps_at (kind.Sound streams) site (Sound old) new access said p x s = absurd x
+steps_at kind.Input site (Input old) new access said p x s = absurd x
+steps_at k site old new access said p x s = absurd s
 
 module _ (k : DeviceKind) (site : Site) (es : List Own) (old new : Device) (access : Option Access) (said : Option Said) (s : StandsFor k site old es) (h : IsSettled k site es) (x : StepsAt site old access said new) where
   abbrev r : Rules (WorkOf (nature_of k)) (EndOf (nature_of k))
@@ -117,8 +122,8 @@ device_rides at self old new is access said x =
 due_at_stand : (k : DeviceKind) (site : Site) (d : Device) (due : Bool) (p : StoodAt k) → HasMore d due → parts_of d ≡ site.parts → StandsAt k site d p → due ≡ not (at_rest (rules (nature_of k) site) p)
 due_at_stand (kind.Display n) site (Display d) due p x parts s = x site (sym parts) ∙ ap (λ y. not (at_rest (device display site) y)) s
 due_at_stand (kind.Sound streams) site (Sound d) due p x parts s = x site (sym parts) ∙ ap (λ y. not (at_rest (device sound site) y)) s
-due_at_stand (kind.Display n) site (Sound d) due p x parts s = absurd s
-due_at_stand (kind.Sound streams) site (Display d) due p x parts s = absurd s
+due_at_stand kind.Input site (Input d) due p x parts s = x site ∙ ap (λ y. not (at_rest (device input site) y)) s
+due_at_stand k site d due p x parts s = absurd s
 
 pub device_due : (self d : Device) → self ≡ d → (due : Bool) → HasMore d due → IsDue self due
 device_due self d is due x =

@@ -13,28 +13,32 @@ use Rattle.pv_words.specs.Plan.{Want}
 use Rattle.device_core.specs.Order.{Own, Did, Heard, Hosts, Refused, Stand}
 use Rattle.device_core.specs.Site.{Site}
 use Rattle.device_service.specs.Stand as backend
+use Rattle.input_backend.specs.Stand as publisher
 use Rattle.display_backend.specs.Waiting.{is_for}
 use Rattle.backend_core.specs.declared.device.Device.{Device}
-use Rattle.backend_core.specs.declared.device.Device.TheVariants.{Display, Sound}
+use Rattle.backend_core.specs.declared.device.Device.TheVariants.{Display, Sound, Input}
 use Rattle.backend_core.specs.History.{site_of as site_of_setup}
 use Rattle.backend_core.specs.Kinds as kinds
-use Rattle.backend_core.specs.Kinds.{Continues, IsSettled, due_after, rests_after, sound_takes}
+use Rattle.backend_core.specs.Kinds.{Continues, IsSettled, due_after, input_takes, rests_after, sound_takes}
 use Rattle.backend_core.specs.Nature.{EndOf, WorkOf, nature_of, station}
 
 -- its number
 abbrev pub dev_of : Device → ℕ
 dev_of (Display d) = backend.dev_of d
 dev_of (Sound d) = backend.dev_of d
+dev_of (Input d) = publisher.dev_of d
 
 -- the domain that it serves
 abbrev pub dom_of : Device → ℕ
 dom_of (Display d) = backend.dom_of d
 dom_of (Sound d) = backend.dom_of d
+dom_of (Input d) = publisher.dom_of d
 
 -- how many parts it has
 abbrev pub parts_of : Device → ℕ
 parts_of (Display d) = backend.parts_of d
 parts_of (Sound d) = backend.parts_of d
+parts_of (Input d) = 1
 
 -- the device over these numbers of frames and grant entries
 abbrev pub site_of : (frames grants : ℕ → ℕ) → Device → Site
@@ -49,18 +53,20 @@ site_over m words d = site_of (m.frames_of words) (m.grants_of words) d
 abbrev pub held_of : Device → List Hold
 held_of (Display d) = backend.held_of d
 held_of (Sound d) = backend.held_of d
+held_of (Input d) = publisher.held_of d
 
 -- the event is one of the device's kind, and the device has its part
 abbrev pub fits_to : Device → HostEvent → Bool
 fits_to (Display d) e = is_for (backend.parts_of d) e
 fits_to (Sound d) e = sound_takes (backend.parts_of d) e
+fits_to (Input d) e = input_takes e
 
 -- a device of this kind is at this place of its order of work
 abbrev pub StandsAt : (k : DeviceKind) → Site → Device → Stand (WorkOf (nature_of k)) (EndOf (nature_of k)) → Type 0
 StandsAt (kind.Display connectors) site (Display d) s = backend.stand_of site d ≡ s
 StandsAt (kind.Sound streams) site (Sound d) s = backend.stand_of site d ≡ s
-StandsAt (kind.Display connectors) site (Sound d) s = ⊥
-StandsAt (kind.Sound streams) site (Display d) s = ⊥
+StandsAt kind.Input site (Input d) s = publisher.stand_of site d ≡ s
+StandsAt other site d s = ⊥
 
 -- The device is one of this kind and site, and stands where what it has done and heard leads, the accesses of others among it.
 pub record StandsFor (k : DeviceKind) (site : Site) (d : Device) (es : List Own) : Type 0 where
@@ -73,6 +79,7 @@ pub record StandsFor (k : DeviceKind) (site : Site) (d : Device) (es : List Own)
 abbrev pub MayMakeNext : (Want → Type 0) → Site → Device → Type 0
 MayMakeNext may site (Display d) = backend.MayStepAt may site d
 MayMakeNext may site (Sound d) = backend.MayStepAt may site d
+MayMakeNext may site (Input d) = publisher.MayStepAt may site d
 
 -- a device as it is declared: it stands for nothing yet, however many frames and grant entries its domain has
 abbrev pub IsFresh : DeviceSetup → Device → Type 0

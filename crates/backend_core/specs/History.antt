@@ -140,6 +140,10 @@ AnswersIn frames grants m s = kinds.AnswersAll s.kind (site_of frames grants s) 
 abbrev pub InOrderIn : (frames grants : ℕ → ℕ) → List Item → DeviceSetup → Type 0
 InOrderIn frames grants m s = kinds.FlipsAreInOrder s.kind (site_of frames grants s) (own s.dev.0 m)
 
+-- what it publishes is told in turn
+abbrev pub ToldInTurnIn : (frames grants : ℕ → ℕ) → List Item → DeviceSetup → Type 0
+ToldInTurnIn frames grants m s = kinds.ContactsAreToldInTurn s.kind (site_of frames grants s) (own s.dev.0 m)
+
 -- nothing happens to a name that is gone
 abbrev pub AfterGoneIn : (frames grants : ℕ → ℕ) → List Item → DeviceSetup → Type 0
 AfterGoneIn frames grants m s = kinds.NothingAfterGone s.kind (site_of frames grants s) (own s.dev.0 m)

@@ -1,6 +1,6 @@
 -- What a device is, by its kind: which work is explained, where it leaves the device, and which machine runs by it. Here alone
 -- the kinds are told apart.
-use Rattle.std.specs.Prelude.{◌≡◌, ℕ, ◌&&◌, nat_le, Bool, true, List, [], ◌++◌, length, Option, Some, None}
+use Rattle.std.specs.Prelude.{◌≡◌, ℕ, ◌&&◌, nat_le, Bool, true, List, [], ◌++◌, length, Option, Some, None, is_some}
 use Rattle.pv_words.specs.declared.device.HostEvent.{HostEvent}
 use Rattle.pv_words.specs.declared.device.HostEvent.TheVariants as host
 use Rattle.pv_words.specs.declared.device.HostRefusal.{HostRefusal}
@@ -10,7 +10,7 @@ use Rattle.pv_words.specs.declared.grant.GrantRefusal.{GrantRefusal}
 use Rattle.pv_words.specs.declared.grant.Mode.{Mode}
 use Rattle.pv_words.specs.declared.grant.Mode.TheVariants.{Read}
 use Rattle.pv_words.specs.declared.setup.DeviceKind.{DeviceKind}
-use Rattle.pv_words.specs.declared.setup.DeviceKind.TheVariants.{Display, Sound}
+use Rattle.pv_words.specs.declared.setup.DeviceKind.TheVariants.{Display, Sound, Input}
 use Rattle.pv_words.specs.Along.{Along}
 use Rattle.pv_words.specs.Held.{Made}
 use Rattle.pv_words.specs.Found.{Found, nothing_found}
@@ -29,17 +29,20 @@ use Rattle.device_service.specs.Rows.{Event}
 use Rattle.device_service.specs.Truth.{ShowsReason}
 use Rattle.display_backend.specs.Waiting as screen
 use Rattle.sound_backend.specs.Waiting as sounds
+use Rattle.input_backend.specs.Service as inputs
 use Rattle.backend_core.specs.AfterGone as names
 use Rattle.backend_core.specs.Answered.{Accepted, IsAnsweredIn}
 use Rattle.backend_core.specs.Drawn.{TakesLast}
 use Rattle.backend_core.specs.Flips.{FlipsKeepOrder}
-use Rattle.backend_core.specs.Nature.{RowsOf, display_nature, events, first, first_snapshot, machine, nature_of, rules, station}
+use Rattle.backend_core.specs.Nature.{RowsOf, display_nature, events, first, first_snapshot, input_nature, machine, nature_of, rules, station}
 use Rattle.backend_core.specs.Pictures as pictures
+use Rattle.backend_core.specs.Turns.{AreTold}
 
--- how many parts a device has: a display's connectors, a sound device's streams
+-- how many parts a device has: a display's connectors, a sound device's streams; an input device has one
 abbrev pub parts_of : DeviceKind → ℕ
 parts_of (Display connectors) = connectors
 parts_of (Sound streams) = length (kinds_in streams)
+parts_of Input = 1
 
 -- a tick is of 1 frame or more, and of this many at most
 abbrev pub tick_limit : ℕ
@@ -53,10 +56,15 @@ is_ticked other = true
 abbrev pub sound_takes : ℕ → HostEvent → Bool
 sound_takes streams e = sounds.is_for streams e && is_ticked e
 
+-- a host may tell an input device what is done to its contacts and keys, and where its pointer is or moves
+abbrev pub input_takes : HostEvent → Bool
+input_takes e = is_some (inputs.told_of e)
+
 -- a host may tell a device of this kind this event: it is one of the kind, and the device has its part
 abbrev pub takes_event : DeviceKind → HostEvent → Bool
 takes_event (Display connectors) e = screen.is_for connectors e
 takes_event (Sound streams) e = sound_takes (length (kinds_in streams)) e
+takes_event Input e = input_takes e
 
 -- behind what a device has done and heard, these are what its order of work gives next, one after another, with what may be
 -- heard at any moment
@@ -119,7 +127,12 @@ AnswersAll k site es =
 -- flips.
 abbrev pub FlipsAreInOrder : DeviceKind → Site → List Own → Type 0
 FlipsAreInOrder (Display connectors) site es = FlipsKeepOrder (events display_nature site es)
-FlipsAreInOrder (Sound streams) site es = Unit {0}
+FlipsAreInOrder other site es = Unit {0}
+
+-- What an input device publishes is told in turn; no other device publishes.
+abbrev pub ContactsAreToldInTurn : DeviceKind → Site → List Own → Type 0
+ContactsAreToldInTurn Input site es = AreTold site (events input_nature site es)
+ContactsAreToldInTurn other site es = Unit {0}
 
 -- Nothing happens to a name of its machine that is gone.
 abbrev pub NothingAfterGone : DeviceKind → Site → List Own → Type 0
@@ -130,13 +143,14 @@ NothingAfterGone k site es = names.NothingAfterGone (events (nature_of k) site e
 abbrev pub ShowsNamed : DeviceKind → Site → List Own → Type 0
 ShowsNamed (Display connectors) site es =
     pictures.ShowsNamed (events display_nature site es) × TakesLast (events display_nature site es)
-ShowsNamed (Sound streams) site es = Unit {0}
+ShowsNamed other site es = Unit {0}
 
 -- These words show why a map was refused: of a CREATE, from which first page of the directory on; of an OPEN, as well for reading or
--- for writing.
+-- for writing. An input device denies no page.
 abbrev pub ShowsDenial : DeviceKind → Site → Found → GrantRefusal → Type 0
 ShowsDenial (Display connectors) site f why = (first : ℕ) × walk.IsReason site.frames site.grants first Read f why
 ShowsDenial (Sound streams) site f why = (first : ℕ) × (mode : Mode) × walk.IsReason site.frames site.grants first mode f why
+ShowsDenial Input site f why = ⊥
 
 -- What it says is as these words show, where it says which index is too far, or why a map was refused: of a Connect, by which
 -- reference; of a request, as its kind has it.

@@ -8,7 +8,7 @@ use Rattle.page_directory.specs.Same.{AreSame, times}
 use Rattle.device_core.specs.Order.{Own}
 use Rattle.backend_core.specs.declared.device.Device.{Device}
 use Rattle.backend_core.specs.Device.{StandsFor, MayMakeNext, held_of}
-use Rattle.backend_core.specs.History.{AfterGoneIn, AnswersIn, InOrderIn, IsHistory, IsMachineRunIn, IsPromptIn, KeepsIn, TellsIn, TellsTrulyIn, ShowsNamedIn}
+use Rattle.backend_core.specs.History.{AfterGoneIn, AnswersIn, InOrderIn, IsHistory, IsMachineRunIn, IsPromptIn, KeepsIn, TellsIn, TellsTrulyIn, ShowsNamedIn, ToldInTurnIn}
 use Rattle.backend_core.specs.History.{held_after, site_of}
 use Rattle.backend_core.specs.Kinds.{IsExplained}
 use Rattle.backend_core.specs.Marked.{Item}
@@ -26,6 +26,12 @@ abbrev pub FlipsAreInOrder : Type 0
 FlipsAreInOrder =
     (frames grants : ℕ → ℕ) (devices : List DeviceSetup) (m : List Item) → IsHistory frames grants devices m
     → AllByRecursion (InOrderIn frames grants m) devices
+
+-- What an input device publishes is told in turn, by connection.
+abbrev pub ContactsAreToldInTurn : Type 0
+ContactsAreToldInTurn =
+    (frames grants : ℕ → ℕ) (devices : List DeviceSetup) (m : List Item) → IsHistory frames grants devices m
+    → AllByRecursion (ToldInTurnIn frames grants m) devices
 
 -- No word of a name that is gone is taken, and no write to one is told.
 abbrev pub NothingComesAfterGone : Type 0

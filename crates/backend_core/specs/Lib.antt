@@ -9,3 +9,4 @@ pub mod Laws
 pub mod Marked
 pub mod Nature
 pub mod Pictures
+pub mod Turns

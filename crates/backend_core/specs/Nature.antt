@@ -2,7 +2,7 @@
 -- Its order of work, its machine and all that is so of them are those of every service.
 use Rattle.std.specs.Prelude.{◌≡◌, ℕ, pos, Bool, false, List, [], map, Some, None}
 use Rattle.pv_words.specs.declared.setup.DeviceKind.{DeviceKind}
-use Rattle.pv_words.specs.declared.setup.DeviceKind.TheVariants.{Display, Sound}
+use Rattle.pv_words.specs.declared.setup.DeviceKind.TheVariants.{Display, Sound, Input}
 use Rattle.pv_words.specs.declared.streams.Streams.{Streams}
 use Rattle.pv_words.specs.Along.{after}
 use Rattle.pv_words.specs.Found.{Found}
@@ -27,6 +27,8 @@ use Rattle.sound_backend.specs.declared.waiting.Waiting.{Waiting as SoundWaiting
 use Rattle.sound_backend.specs.Names.{Numbered}
 use Rattle.sound_backend.specs.Service as sounds
 use Rattle.sound_backend.specs.Verdict as verdicts
+use Rattle.multitouch.specs.Known as contacts
+use Rattle.input_backend.specs.Service as inputs
 
 pub record Nature : Type 1 where
   -- what the service knows, how its activities end, and an event of the host that waits; its rows, and the numbers of its names
@@ -94,9 +96,28 @@ sound_nature streams =
       denied = λ y. y.denied;
     }
 
+-- an input device has no request, and nothing is down at first
+abbrev pub input_nature : Nature
+input_nature =
+    record {
+      Known = contacts.Known;
+      Ending = Unit {0};
+      Waiting = ⊥;
+      Lines = contacts.Known;
+      Numbers = Unit {0};
+      service = inputs.input;
+      table = inputs.table;
+      shows = inputs.shows;
+      first = contacts.at_rest;
+      first_lines = contacts.at_rest;
+      HasAccepted = λ maps y. ⊥;
+      denied = λ y. false;
+    }
+
 abbrev pub nature_of : DeviceKind → Nature
 nature_of (Display connectors) = display_nature
 nature_of (Sound streams) = sound_nature streams
+nature_of Input = input_nature
 
 module _ (n : Nature) where
   abbrev pub WorkOf : Type 0

@@ -4,6 +4,7 @@ ghost use Rattle.std.specs.Prelude.{◌≡◌, ◌<◌, ◌≤◌, [], ◌∷◌
 
 use device_core::Step;
 use display_backend::{Display, new_display};
+use input_backend::{Input, new_input};
 use pv_words::{
     DevId, DeviceKind, DeviceSetup, DomId, Hold, HostEvent, HostRefusal, State, Streams, Words,
 };
@@ -18,6 +19,8 @@ pub enum Device {
     Display(Display),
     /// A sound device.
     Sound(Sound),
+    /// An input device.
+    Input(Input),
 }
 
 // A tick is of this many frames at most.
@@ -64,6 +67,10 @@ impl Device {
                 let sound = sound_with(alloc, setup.dev, setup.dom, *streams)?;
                 Ok(Device::Sound(sound))
             }
+            DeviceKind::Input => {
+                let input = new_input(alloc, setup.dev, setup.dom)?;
+                Ok(Device::Input(input))
+            }
         }
     }
 
@@ -85,11 +92,13 @@ impl Device {
         match self {
             Device::Display(display) => display.bus(front, nodes),
             Device::Sound(sound) => sound.bus(front, nodes),
+            Device::Input(input) => input.bus(front, nodes),
         }
     }
 
-    /// Hears an event of the host, which waits until it is done; the device has its room from the beginning. The refusals are
-    /// NotConnected exactly where the backend isn't Connected, and else Full exactly where 64 wait; a refusal changes nothing.
+    /// Hears an event of the host, which waits until it is done; the device has its room from the beginning. An input device takes it
+    /// at once. The refusals are NotConnected exactly where the backend isn't Connected; and else Full exactly where 64 wait, or by an
+    /// input device those of its contacts and keys, by the first that applies. A refusal changes nothing.
     pub fn host(&mut self, e: HostEvent) -> Result<(), HostRefusal>
         requires { fits_to self.old e ≡ true }
         ensures hears { Adds self.old (hosted e result) self.new }
@@ -101,6 +110,7 @@ impl Device {
         match self {
             Device::Display(display) => display.host(e),
             Device::Sound(sound) => sound.host(e),
+            Device::Input(input) => input.host(&e),
         }
     }
 
@@ -119,6 +129,7 @@ impl Device {
         match self {
             Device::Display(display) => display.step(words),
             Device::Sound(sound) => sound.step(words),
+            Device::Input(input) => input.step(words),
         }
     }
 
@@ -129,6 +140,7 @@ impl Device {
         match self {
             Device::Display(display) => display.due(),
             Device::Sound(sound) => sound.due(),
+            Device::Input(input) => input.due(),
         }
     }
 
@@ -140,6 +152,7 @@ impl Device {
         match self {
             Device::Display(display) => display.held(),
             Device::Sound(sound) => sound.held(),
+            Device::Input(input) => input.held(),
         }
     }
 
@@ -152,6 +165,7 @@ impl Device {
         match self {
             Device::Display(display) => display.hold_at(i),
             Device::Sound(sound) => sound.hold_at(i),
+            Device::Input(input) => input.hold_at(i),
         }
     }
 
@@ -170,6 +184,13 @@ impl Device {
                 }
                 _ => false,
             },
+            Device::Input(_) => matches!(
+                e,
+                HostEvent::Touch(_)
+                    | HostEvent::Key(_, _)
+                    | HostEvent::Motion(_, _, _)
+                    | HostEvent::Position(_, _, _)
+            ),
         }
     }
 }

@@ -1,6 +1,6 @@
 //! What is so of every journal of devices.
 
-ghost use Rattle.backend_core.specs.Laws.{FlipsAreInOrder, FrontsAreHistories, HistoriesAreRuns, ListingSuffices};
+ghost use Rattle.backend_core.specs.Laws.{ContactsAreToldInTurn, FlipsAreInOrder, FrontsAreHistories, HistoriesAreRuns, ListingSuffices};
 ghost use Rattle.backend_core.specs.Laws.{NothingComesAfterGone, PicturesAreNamed, ReadingsTellAll, RefusalsAreShown, TellsWhatIsHeld};
 
 /// Whatever was played, what a device said and heard is a run of its machine, its accepted requests are answered, and each of
@@ -13,6 +13,13 @@ pub fn histories_are_runs()
 /// out: at each moment all accepted ones are done, or all but the last, which is pending.
 pub fn flips_are_in_order()
     ensures { FlipsAreInOrder }
+{}
+
+/// At each moment the events of each contact that an input device published in its connection are DOWN and UP in turn, beginning with
+/// DOWN, with MOTION only in between; and each time that it says that it published events, they are the group that was chosen when that
+/// Publish began, all of it: if that tells of a contact, or mends a gap, it has one SYN, its last event, and else it has none.
+pub fn contacts_are_told_in_turn()
+    ensures { ContactsAreToldInTurn }
 {}
 
 /// Once a name of a buffer is gone, no word of it is taken, and no write to one is told.
@@ -57,4 +64,5 @@ pub fn tells_what_is_held()
 {
     display_backend::tells_what_is_held();
     sound_backend::tells_what_is_held();
+    input_backend::tells_what_is_held();
 }

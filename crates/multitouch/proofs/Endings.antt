@@ -52,10 +52,11 @@ contacts_say told real (suc n) =
 
 repair_ends : (told real : Pressed) → IsEnded true (repair_of told real)
 repair_ends told real =
-    let up = map (Key false) (codes_without told.keys real.keys) in
-    let down = map (Key true) (codes_without real.keys told.keys) in
-    let touches = items_below told.contacts real.contacts 16 in
-    (changes told real, refl, both_say up (down ++ touches) (keys_say false _) (both_say down touches (keys_say true _) (contacts_say told.contacts real.contacts 16)))
+    let up : List ℕ = codes_without told.keys real.keys in
+    let down : List ℕ = codes_without real.keys told.keys in
+    let touches : List Event = items_below told.contacts real.contacts 16 in
+    let pressed = both_say (map (Key true) down) touches (keys_say true down) (contacts_say told.contacts real.contacts 16) in
+    (changes told real, refl, both_say (map (Key false) up) (map (Key true) down ++ touches) (keys_say false up) pressed)
 
 -- what waits ends so, and what is under way
 pub record AreEnded (k : Known) : Type 0 where

@@ -2,6 +2,7 @@
 mod displays;
 mod flips;
 mod hosts;
+mod inputs;
 mod pictures;
 mod running;
 mod sounds;

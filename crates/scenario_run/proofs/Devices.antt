@@ -4,7 +4,7 @@ use Rattle.std.specs.List.{AllByRecursion}
 use Rattle.pv_words.specs.declared.device.HostEvent.{HostEvent}
 use Rattle.pv_words.specs.declared.device.HostEvent.TheVariants as host
 use Rattle.pv_words.specs.declared.setup.DeviceKind.{DeviceKind}
-use Rattle.pv_words.specs.declared.setup.DeviceKind.TheVariants.{Display, Sound}
+use Rattle.pv_words.specs.declared.setup.DeviceKind.TheVariants.{Display, Sound, Input}
 use Rattle.pv_words.specs.declared.setup.DeviceSetup.{DeviceSetup}
 use Rattle.scenario_text.specs.Lookups as text
 use Rattle.scenario_text.specs.Playable as playable
@@ -17,6 +17,7 @@ use Rattle.pv_world.specs.World.{HasParts}
 same_parts : (k : DeviceKind) → text.parts_of k ≡ parts_of k
 same_parts (Display connectors) = refl
 same_parts (Sound streams) = refl
+same_parts Input = refl
 
 pub same_parts_by : (ds : List DeviceSetup) (d : ℕ) → playable.parts_by ds d ≡ parts_by ds d
 same_parts_by [] d = refl
@@ -32,6 +33,13 @@ same_events (Sound streams) (host.Touch touched) = refl
 same_events (Sound streams) (host.Key code pressed) = refl
 same_events (Sound streams) (host.Motion x y z) = refl
 same_events (Sound streams) (host.Position x y z) = refl
+same_events Input (host.Tick part frames) = refl
+same_events Input (host.Blank part) = refl
+same_events Input (host.Show part) = refl
+same_events Input (host.Touch touched) = refl
+same_events Input (host.Key code pressed) = refl
+same_events Input (host.Motion x y z) = refl
+same_events Input (host.Position x y z) = refl
 
 pub same_takes_by : (ds : List DeviceSetup) (d : ℕ) (e : HostEvent) → playable.takes_by ds d e ≡ takes_by ds d e
 same_takes_by [] d e = refl

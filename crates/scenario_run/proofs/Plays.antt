@@ -28,7 +28,7 @@ use Rattle.backend_core.specs.Marked.{Item, Entered, entries, AreSteps, accesses
 use Rattle.backend_core.specs.History.{IsExplainedIn, IsPromptIn, IsSettledIn, due_by, is_declared, parts_by, site_of, takes_by}
 use Rattle.pv_world.specs.World.{AtMost, Enters, Exchanged, Hosted, IsCut, Lacks, Sight, StopsIn, SteppedBy, setups, front_store}
 use Rattle.pv_world.specs.Record.{Shows}
-use Rattle.backend_core.proofs.Consequences.{flips_are_in_order, histories_are_runs, nothing_comes_after_gone, pictures_are_named}
+use Rattle.backend_core.proofs.Consequences.{contacts_are_told_in_turn, flips_are_in_order, histories_are_runs, nothing_comes_after_gone, pictures_are_named}
 use Rattle.backend_core.proofs.EachKind.{first_explained, first_settled}
 use Rattle.backend_core.proofs.Histories.{all_of, in_range_from}
 use Rattle.backend_core.proofs.Items.{entries_append}
@@ -188,6 +188,7 @@ true_journal s m es e h =
       machine_run = all.0;
       answered = all.1;
       in_order = flips_are_in_order (frames_by s.sizes) (grants_by s.sizes) s.devices m h.0;
+      in_turn = contacts_are_told_in_turn (frames_by s.sizes) (grants_by s.sizes) s.devices m h.0;
       after_gone = nothing_comes_after_gone (frames_by s.sizes) (grants_by s.sizes) s.devices m h.0;
       named = pictures_are_named (frames_by s.sizes) (grants_by s.sizes) s.devices m h.0;
       kept = all.2;

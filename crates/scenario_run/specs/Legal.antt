@@ -5,7 +5,7 @@ use Rattle.pv_words.specs.declared.entry.Entry.{Entry}
 use Rattle.pv_words.specs.Sizes.{frames_by, grants_by}
 use Rattle.scenario_text.specs.Scenario.{Scenario}
 use Rattle.backend_core.specs.Marked.{Item, entries}
-use Rattle.backend_core.specs.History.{AfterGoneIn, AnswersIn, InOrderIn, IsHistory, IsMachineRunIn, IsPromptIn, KeepsIn, ShowsNamedIn}
+use Rattle.backend_core.specs.History.{AfterGoneIn, AnswersIn, InOrderIn, IsHistory, IsMachineRunIn, IsPromptIn, KeepsIn, ShowsNamedIn, ToldInTurnIn}
 use Rattle.scenario_run.specs.Follows.{AreSettled, Follows, FollowsTo}
 
 -- Whatever was played: the journal is lawful and explained; what each device says and hears is a run of the machine of
@@ -19,6 +19,8 @@ pub record IsTrueJournal (s : Scenario) (m : List Item) (es : List Entry) : Type
   pub answered : AllByRecursion (AnswersIn (frames_by s.sizes) (grants_by s.sizes) m) s.devices
   -- in each connection the flips of a connector are done in the order in which they were accepted
   pub in_order : AllByRecursion (InOrderIn (frames_by s.sizes) (grants_by s.sizes) m) s.devices
+  -- in each connection of an input device the events of a contact are told in turn, and each group ends as it must
+  pub in_turn : AllByRecursion (ToldInTurnIn (frames_by s.sizes) (grants_by s.sizes) m) s.devices
   -- no word of a buffer is taken, and no write to one is told, once the buffer is gone
   pub after_gone : AllByRecursion (AfterGoneIn (frames_by s.sizes) (grants_by s.sizes) m) s.devices
   -- each picture that is told is of the framebuffer that was named last, by words that were last written there

@@ -1,5 +1,5 @@
 -- What is true of each value that a reader of a line gives.
-use Rattle.std.proofs.Common.{◌≡◌, ℕ, ◌<◌, ◌≤◌, ◌^◌, true, false, List, [], ◌∷◌, Option, Some, None, Ok, refl, sym, subst, ◌∙◌, arith, inl, inr}
+use Rattle.std.proofs.Common.{◌≡◌, ℕ, ◌<◌, ◌≤◌, ◌^◌, true, false, List, [], ◌∷◌, Option, Some, None, Ok, refl, sym, subst, ◌∙◌, ap, arith, inl, inr}
 use Rattle.std.specs.Prelude.{◌==◌, nat_lt, nat_le, length, find, is_some}
 use Rattle.std.specs.List.{AllByRecursion}
 use Rattle.std.proofs.lemmas.Bool.{cases_Bool, ltb-true, eqb-true, lt-ltb, le-leb}
@@ -10,7 +10,7 @@ use Rattle.pv_words.specs.declared.device.NodeValue.{NodeValue}
 use Rattle.pv_words.specs.declared.place.DomId.{DomId}
 use Rattle.pv_words.specs.declared.place.DevId.{DevId}
 use Rattle.pv_words.specs.declared.setup.DeviceKind.{DeviceKind}
-use Rattle.pv_words.specs.declared.setup.DeviceKind.TheVariants.{Display, Sound}
+use Rattle.pv_words.specs.declared.setup.DeviceKind.TheVariants.{Display, Sound, Input}
 use Rattle.pv_words.specs.declared.setup.DomainSize.{DomainSize}
 use Rattle.pv_words.specs.declared.setup.DeviceSetup.{DeviceSetup}
 use Rattle.pv_words.specs.declared.streams.Streams.{Streams}
@@ -18,17 +18,17 @@ use Rattle.pv_words.specs.declared.streams.Streams.TheVariants.{One, Two, Three,
 use Rattle.pv_words.specs.Sizes.{frames_by, grants_by}
 use Rattle.pv_words.specs.Streams.{kinds_in}
 use Rattle.scenario_text.specs.declared.lookup.Family.{Family}
-use Rattle.scenario_text.specs.declared.lookup.Family.TheVariants.{Displays, Sounds}
+use Rattle.scenario_text.specs.declared.lookup.Family.TheVariants.{Displays, Sounds, Inputs}
 use Rattle.scenario_text.specs.Limits.{tick_limit}
 use Rattle.script_tokens.specs.declared.fault.FaultKind.TheVariants.{Undeclared, BadWord, WrongDevice}
 use Rattle.script_tokens.specs.Flaws.{or_flaw}
 use Rattle.script_tokens.specs.Cursors.{Cursor, next_of}
 use Rattle.script_tokens.specs.Numbers.{digits_of}
-use Rattle.scenario_text.specs.Nodes.{display_keys, sound_keys, keys_of, of_number, node_value}
+use Rattle.scenario_text.specs.Nodes.{display_keys, sound_keys, input_keys, keys_of, of_number, node_value}
 use Rattle.script_tokens.specs.Next.{between_at, below_at, named}
 use Rattle.scenario_text.specs.Arguments.{key_at, node_value_at}
 use Rattle.scenario_text.specs.Lookups.{size_of, device_of, has_device, parts_of, parts_in}
-use Rattle.scenario_text.specs.Lookups.{new_domain_at, size_at, new_device_at, device_at, part_at}
+use Rattle.scenario_text.specs.Lookups.{new_domain_at, size_at, new_device_at, device_at, family_at, part_at}
 use Rattle.scenario_text.specs.Playable.{parts_by, fits, takes_by, IsNodeValue}
 use Rattle.script_tokens.proofs.OkLemmas.{bind_ok, test_failed, or_flaw_ok, ok_one}
 use Rattle.script_tokens.proofs.NextLemmas.{between_gives, below_gives, named_is}
@@ -127,34 +127,47 @@ device_gives devices c x same =
     let one : (device.0, dev.0.1) ≡ x = cc in
     subst (λ (y : DeviceSetup × Cursor). IsAmong devices y.0 y.0.dev.0) one (subst (λ (n : ℕ). IsAmong devices device.0 n) (sym found.number) found)
 
--- a device of this family among devices has this part, and takes what its kind takes
-pub record IsPartOf (family : Family) (devices : List DeviceSetup) (dev part : ℕ) : Type 0 where
+-- a device of this family among devices has so many parts, and takes what its kind takes
+pub record IsOfFamily (family : Family) (devices : List DeviceSetup) (dev many : ℕ) : Type 0 where
   pub kind : DeviceKind
-  pub many : ℕ
   pub parts : parts_in family kind ≡ Some many
-  pub below : part < many
   pub there : has_device dev devices ≡ true
   pub takes : (e : HostEvent) → takes_by devices dev e ≡ fits kind e
 
--- so it is with a part that is found
-pub part_gives : (family : Family) (devices : List DeviceSetup) (c : Cursor) (x : (DevId × ℕ) × Cursor) → part_at family devices c ≡ Ok x → IsPartOf family devices x.0.0.0 x.0.1
-unfolding part_at device_of
-part_gives family devices c x same =
+-- so it is with one that is found
+pub family_gives : (family : Family) (devices : List DeviceSetup) (c : Cursor) (x : (DevId × ℕ) × Cursor) → family_at family devices c ≡ Ok x → IsOfFamily family devices x.0.0.0 x.0.1
+unfolding family_at device_of
+family_gives family devices c x same =
     let dev = bind_ok (between_at 1 16 c) _ x same in
     let column : ℕ = dev.0.0.column in
     let device = bind_ok (or_flaw (device_of dev.0.0.value devices) column Undeclared) _ x dev.2 in
     let parts = bind_ok (or_flaw (parts_in family device.0.kind) column WrongDevice) _ x device.2 in
-    let part = bind_ok (below_at parts.0 dev.0.1) _ x parts.2 in
-    let n : ℕ = part.0.0.value in
     let found = found_device dev.0.0.value devices device.0 (or_flaw_ok (device_of dev.0.0.value devices) _ _ device.0 device.1) in
-    let one : ((device.0.dev, n), part.0.1) ≡ x = ok_one (Ok ((device.0.dev, n), part.0.1)) ((device.0.dev, n), part.0.1) x refl part.2 in
+    let one : ((device.0.dev, parts.0), dev.0.1) ≡ x = ok_one (Ok ((device.0.dev, parts.0), dev.0.1)) ((device.0.dev, parts.0), dev.0.1) x refl parts.2 in
     rw (← one, found.number) (record {
       kind = device.0.kind;
-      many = parts.0;
       parts = or_flaw_ok (parts_in family device.0.kind) _ _ parts.0 parts.1;
-      below = below_gives parts.0 dev.0.1 part.0 part.1;
       there = found.there;
       takes = found.takes;
+    })
+
+-- it has this part
+pub record IsPartOf (family : Family) (devices : List DeviceSetup) (dev part : ℕ) : Type 0 where
+  pub many : ℕ
+  pub of : IsOfFamily family devices dev many
+  pub below : part < many
+
+pub part_gives : (family : Family) (devices : List DeviceSetup) (c : Cursor) (x : (DevId × ℕ) × Cursor) → part_at family devices c ≡ Ok x → IsPartOf family devices x.0.0.0 x.0.1
+unfolding part_at
+part_gives family devices c x same =
+    let dev = bind_ok (family_at family devices c) _ x same in
+    let part = bind_ok (below_at dev.0.0.1 dev.0.1) _ x dev.2 in
+    let n : ℕ = part.0.0.value in
+    let one : ((dev.0.0.0, n), part.0.1) ≡ x = ok_one (Ok ((dev.0.0.0, n), part.0.1)) ((dev.0.0.0, n), part.0.1) x refl part.2 in
+    rw (← one) (record {
+      many = dev.0.0.1;
+      of = family_gives family devices c dev.0 dev.1;
+      below = below_gives dev.0.0.1 dev.0.1 part.0 part.1;
     })
 
 -- a display takes the events of each of its connectors
@@ -164,15 +177,17 @@ connector_fits (Display connectors) many n same below =
     let inside : nat_lt n connectors ≡ true = grind (arith, nat_tests) in
     (inside, inside)
 connector_fits (Sound streams) many n same below = cc
+connector_fits Input many n same below = cc
 
 pub connector_takes : (devices : List DeviceSetup) (dev n : ℕ) → IsPartOf Displays devices dev n → (takes_by devices dev (Blank n) ≡ true) × (takes_by devices dev (Show n) ≡ true)
 connector_takes devices dev n part =
-    let fit = connector_fits part.kind part.many n part.parts part.below in
-    (part.takes (Blank n) ∙ fit.0, part.takes (Show n) ∙ fit.1)
+    let fit = connector_fits part.of.kind part.many n part.of.parts part.below in
+    (part.of.takes (Blank n) ∙ fit.0, part.of.takes (Show n) ∙ fit.1)
 
 -- a sound device takes the ticks of each of its streams
 stream_fits : (k : DeviceKind) (many n frames : ℕ) → parts_in Sounds k ≡ Some many → n < many → 1 ≤ frames → frames ≤ tick_limit → fits k (Tick n frames) ≡ true
 stream_fits (Display connectors) many n frames same below some few = cc
+stream_fits Input many n frames same below some few = cc
 stream_fits (Sound streams) many n frames same below some few =
     let one : length (kinds_in streams) ≡ many = cc in
     let inside : nat_lt n (length (kinds_in streams)) ≡ true = rw one (lt-ltb n many below) in
@@ -182,7 +197,17 @@ stream_fits (Sound streams) many n frames same below some few =
 
 pub stream_takes : (devices : List DeviceSetup) (dev n frames : ℕ) → IsPartOf Sounds devices dev n → 1 ≤ frames → frames ≤ tick_limit → takes_by devices dev (Tick n frames) ≡ true
 stream_takes devices dev n frames part some few =
-    part.takes (Tick n frames) ∙ stream_fits part.kind part.many n frames part.parts part.below some few
+    part.of.takes (Tick n frames) ∙ stream_fits part.of.kind part.many n frames part.of.parts part.below some few
+
+-- an input device takes what an input device takes
+is_input : (k : DeviceKind) (many : ℕ) → parts_in Inputs k ≡ Some many → k ≡ Input
+is_input (Display connectors) many same = cc
+is_input (Sound streams) many same = cc
+is_input Input many same = refl
+
+pub input_takes : (devices : List DeviceSetup) (dev many : ℕ) (e : HostEvent) → IsOfFamily Inputs devices dev many → fits Input e ≡ true → takes_by devices dev e ≡ true
+input_takes devices dev many e part fit =
+    part.takes e ∙ ap (λ k. fits k e) (is_input part.kind many part.parts) ∙ fit
 
 -- a sound device has one to four streams
 pub few_streams : (streams : Streams) → (1 ≤ length (kinds_in streams)) × (length (kinds_in streams) ≤ 4)
@@ -197,6 +222,7 @@ key_below (Display connectors) octets key same =
     named_is (λ (k : ℕ). k < 4) octets display_keys key (omega arith, (omega arith, (omega arith, (omega arith, tt)))) same
 key_below (Sound streams) octets key same =
     named_is (λ (k : ℕ). k < 4) octets sound_keys key (omega arith, (omega arith, (omega arith, (omega arith, tt)))) same
+key_below Input octets key same = named_is (λ (k : ℕ). k < 4) octets input_keys key (omega arith, (omega arith, tt)) same
 
 pub key_gives : (kind : DeviceKind) (c : Cursor) (x : ℕ × Cursor) → key_at kind c ≡ Ok x → x.0 < 4
 unfolding key_at

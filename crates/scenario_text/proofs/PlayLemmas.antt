@@ -11,7 +11,10 @@ use Rattle.pv_words.specs.declared.setup.DomainSize.{DomainSize}
 use Rattle.pv_words.specs.declared.setup.DeviceSetup.{DeviceSetup}
 use Rattle.pv_words.specs.declared.setup.Kind.TheVariants.{Wild}
 use Rattle.pv_words.specs.declared.setup.DeviceKind.TheVariants as kinds
-use Rattle.pv_words.specs.declared.device.HostEvent.TheVariants.{Blank, Show, Tick}
+use Rattle.pv_words.specs.declared.setup.DeviceKind.TheVariants.{Input}
+use Rattle.pv_words.specs.declared.place.DevId.{DevId}
+use Rattle.pv_words.specs.declared.device.HostEvent.{HostEvent}
+use Rattle.pv_words.specs.declared.device.HostEvent.TheVariants.{Blank, Show, Tick, Touch as Touched, Key, Motion, Position}
 use Rattle.pv_words.specs.declared.place.Place.TheVariants.{Cell, Grant}
 use Rattle.pv_words.specs.declared.place.Half.TheVariants.{Flags}
 use Rattle.pv_words.specs.Sizes.{frames_by, grants_by}
@@ -21,8 +24,8 @@ use Rattle.scenario_text.specs.declared.draft.Item.{Item}
 use Rattle.scenario_text.specs.declared.draft.Item.TheVariants as items
 use Rattle.scenario_text.specs.declared.item.Command.{Command}
 use Rattle.scenario_text.specs.declared.item.Command.TheVariants as commands
-use Rattle.scenario_text.specs.declared.lookup.Family.TheVariants.{Displays, Sounds}
-use Rattle.scenario_text.specs.Limits.{tick_limit}
+use Rattle.scenario_text.specs.declared.lookup.Family.TheVariants.{Displays, Sounds, Inputs}
+use Rattle.scenario_text.specs.Limits.{contact_numbers, tick_limit}
 use Rattle.script_tokens.specs.declared.fault.Flaw.{Flaw}
 use Rattle.script_tokens.specs.declared.fault.FaultKind.TheVariants.{UnknownStatement}
 use Rattle.script_tokens.specs.Flaws.{or_flaw}
@@ -31,19 +34,20 @@ use Rattle.script_tokens.specs.Cursors.{Cursor, first_of}
 use Rattle.script_tokens.specs.Next.{between_at, below_at, keyword_at}
 use Rattle.scenario_text.specs.Arguments.{half_at, mode_at, key_at, node_value_at, state_at, streams_at}
 use Rattle.scenario_text.specs.Lookups.{has_device, parts_of, frames_left, grants_left}
-use Rattle.scenario_text.specs.Lookups.{new_domain_at, size_at, new_device_at, device_at, part_at}
-use Rattle.scenario_text.specs.Declarations.{domain_at, display_at, sound_at}
+use Rattle.scenario_text.specs.Lookups.{new_domain_at, size_at, new_device_at, device_at, family_at, part_at}
+use Rattle.scenario_text.specs.Declarations.{domain_at, display_at, sound_at, input_at}
+use Rattle.scenario_text.specs.Gestures.{gesture_at, touched_at, axes_at, touch_at, press_at, motion_at, position_at}
 use Rattle.scenario_text.specs.Statements.{put_at, fill_at, put_grant_at, swap_at, open_at, end_at, node_at}
 use Rattle.scenario_text.specs.Statements.{bus_at, wake_at, blank_at, show_at, tick_at, back_at, serve_at}
 use Rattle.scenario_text.specs.Scenario.{Scenario, nothing, with_item}
 use Rattle.scenario_text.specs.Items.{is_empty_list, is_declaration, command_of, command_at, arguments_at, unless_more, item_from, item_of}
 use Rattle.script_tokens.specs.Lines.{code_of, lines}
 use Rattle.scenario_text.specs.Reading.{line_item, at_line, scenario_from, scenario_of}
-use Rattle.scenario_text.specs.Playable.{parts_by, IsPlayed, IsDevice, AreDifferent, IsPlayable}
+use Rattle.scenario_text.specs.Playable.{parts_by, fits, IsPlayed, IsDevice, AreDifferent, IsPlayable}
 use Rattle.script_tokens.proofs.OkLemmas.{bind_ok, test_failed, ok_one}
 use Rattle.script_tokens.proofs.NextLemmas.{between_gives, below_gives}
 use Rattle.scenario_text.proofs.GivenLemmas.{new_domain_gives, size_gives, size_keeps}
-use Rattle.scenario_text.proofs.GivenLemmas.{new_device_gives, device_gives, part_gives, connector_takes, stream_takes, few_streams, key_gives, node_value_gives}
+use Rattle.scenario_text.proofs.GivenLemmas.{new_device_gives, device_gives, family_gives, part_gives, connector_takes, stream_takes, input_takes, few_streams, key_gives, node_value_gives}
 
 -- with one more element, and with a weaker fact of each
 each_push : {X : Type 0} (P : X → Type 0) (xs : List X) (x : X) → AllByRecursion P xs → P x → AllByRecursion P (xs ++ x ∷ [])
@@ -204,6 +208,17 @@ sound_fits s c x kept none same =
     let one : (item, streams.0.1) ≡ x = cc in
     subst (λ (y : Item × Cursor). Fits s y.0) {x = (item, streams.0.1)} one (none, (number.0, number.1, n.0, n.1), number.2, room)
 
+input_fits : (s : Scenario) (c : Cursor) (x : Item × Cursor) → IsKept s → is_empty_list s.statements ≡ true → input_at s c ≡ Ok x → Fits s x.0
+unfolding input_at
+input_fits s c x kept none same =
+    let dev = bind_ok (new_device_at s.devices c) _ x same in
+    let size = bind_ok (size_at s.sizes dev.0.1) _ x dev.2 in
+    let number = new_device_gives s.devices c dev.0 dev.1 in
+    let room = found_room s dev.0.1 size.0 kept size.1 in
+    let item : Item = items.Device (record { dev = dev.0.0; dom = size.0.0.dom; kind = Input }) in
+    let one : (item, size.0.1) ≡ x = cc in
+    subst (λ (y : Item × Cursor). Fits s y.0) {x = (item, size.0.1)} one (none, (number.0, number.1, omega arith, omega arith), number.2, room)
+
 put_fits : (s : Scenario) (c : Cursor) (x : Item × Cursor) → put_at s c ≡ Ok x → Fits s x.0
 unfolding put_at
 put_fits s c x same =
@@ -350,7 +365,7 @@ blank_fits s c x same =
     let takes = connector_takes s.devices at.0.0.0.0 at.0.0.1 part in
     let item : Item = items.Step (Host at.0.0.0 (Blank at.0.0.1)) in
     let one : (item, at.0.1) ≡ x = cc in
-    subst (λ (y : Item × Cursor). Fits s y.0) {x = (item, at.0.1)} one (part.there, takes.0)
+    subst (λ (y : Item × Cursor). Fits s y.0) {x = (item, at.0.1)} one (part.of.there, takes.0)
 
 show_fits : (s : Scenario) (c : Cursor) (x : Item × Cursor) → show_at s c ≡ Ok x → Fits s x.0
 unfolding show_at
@@ -360,7 +375,7 @@ show_fits s c x same =
     let takes = connector_takes s.devices at.0.0.0.0 at.0.0.1 part in
     let item : Item = items.Step (Host at.0.0.0 (Show at.0.0.1)) in
     let one : (item, at.0.1) ≡ x = cc in
-    subst (λ (y : Item × Cursor). Fits s y.0) {x = (item, at.0.1)} one (part.there, takes.1)
+    subst (λ (y : Item × Cursor). Fits s y.0) {x = (item, at.0.1)} one (part.of.there, takes.1)
 
 tick_fits : (s : Scenario) (c : Cursor) (x : Item × Cursor) → tick_at s c ≡ Ok x → Fits s x.0
 unfolding tick_at
@@ -372,7 +387,55 @@ tick_fits s c x same =
     let takes = stream_takes s.devices at.0.0.0.0 at.0.0.1 frames.0.0.value part n.0 n.1 in
     let item : Item = items.Step (Host at.0.0.0 (Tick at.0.0.1 frames.0.0.value)) in
     let one : (item, frames.0.1) ≡ x = ok_one (Ok (item, frames.0.1)) (item, frames.0.1) x refl frames.2 in
-    subst (λ (y : Item × Cursor). Fits s y.0) {x = (item, frames.0.1)} one (part.there, takes)
+    subst (λ (y : Item × Cursor). Fits s y.0) {x = (item, frames.0.1)} one (part.of.there, takes)
+
+-- an input device that was found is told this
+told_input : (s : Scenario) (c : Cursor) (x : (DevId × ℕ) × Cursor) (e : HostEvent) → family_at Inputs s.devices c ≡ Ok x → fits Input e ≡ true → Fits s (items.Step (Host x.0.0 e))
+told_input s c x e same fit =
+    let of = family_gives Inputs s.devices c x same in
+    (of.there, input_takes s.devices x.0.0.0 x.0.1 e of fit)
+
+touch_fits : (s : Scenario) (c : Cursor) (x : Item × Cursor) → touch_at s c ≡ Ok x → Fits s x.0
+unfolding touch_at
+touch_fits s c x same =
+    let dev = bind_ok (family_at Inputs s.devices c) _ x same in
+    let gesture = bind_ok (gesture_at dev.0.1) _ x dev.2 in
+    let contact = bind_ok (below_at contact_numbers gesture.0.1) _ x gesture.2 in
+    let done = bind_ok (touched_at gesture.0.0 contact.0.0.value contact.0.1) _ x contact.2 in
+    let item : Item = items.Step (Host dev.0.0.0 (Touched done.0.0)) in
+    let one : (item, done.0.1) ≡ x = ok_one (Ok (item, done.0.1)) (item, done.0.1) x refl done.2 in
+    subst (λ (y : Item × Cursor). Fits s y.0) {x = (item, done.0.1)} one (told_input s c dev.0 (Touched done.0.0) dev.1 refl)
+
+press_fits : (s : Scenario) (c : Cursor) (x : Item × Cursor) → press_at s c ≡ Ok x → Fits s x.0
+unfolding press_at
+press_fits s c x same =
+    let dev = bind_ok (family_at Inputs s.devices c) _ x same in
+    let code = bind_ok (below_at (2 ^ 32) dev.0.1) _ x dev.2 in
+    let pressed = bind_ok (below_at 2 code.0.1) _ x code.2 in
+    let event : HostEvent = Key code.0.0.value (pressed.0.0.value == 1) in
+    let item : Item = items.Step (Host dev.0.0.0 event) in
+    let one : (item, pressed.0.1) ≡ x = ok_one (Ok (item, pressed.0.1)) (item, pressed.0.1) x refl pressed.2 in
+    subst (λ (y : Item × Cursor). Fits s y.0) {x = (item, pressed.0.1)} one (told_input s c dev.0 event dev.1 refl)
+
+motion_fits : (s : Scenario) (c : Cursor) (x : Item × Cursor) → motion_at s c ≡ Ok x → Fits s x.0
+unfolding motion_at
+motion_fits s c x same =
+    let dev = bind_ok (family_at Inputs s.devices c) _ x same in
+    let axes = bind_ok (axes_at dev.0.1) _ x dev.2 in
+    let event : HostEvent = Motion axes.0.0.0 axes.0.0.1 axes.0.0.2 in
+    let item : Item = items.Step (Host dev.0.0.0 event) in
+    let one : (item, axes.0.1) ≡ x = ok_one (Ok (item, axes.0.1)) (item, axes.0.1) x refl axes.2 in
+    subst (λ (y : Item × Cursor). Fits s y.0) {x = (item, axes.0.1)} one (told_input s c dev.0 event dev.1 refl)
+
+position_fits : (s : Scenario) (c : Cursor) (x : Item × Cursor) → position_at s c ≡ Ok x → Fits s x.0
+unfolding position_at
+position_fits s c x same =
+    let dev = bind_ok (family_at Inputs s.devices c) _ x same in
+    let axes = bind_ok (axes_at dev.0.1) _ x dev.2 in
+    let event : HostEvent = Position axes.0.0.0 axes.0.0.1 axes.0.0.2 in
+    let item : Item = items.Step (Host dev.0.0.0 event) in
+    let one : (item, axes.0.1) ≡ x = ok_one (Ok (item, axes.0.1)) (item, axes.0.1) x refl axes.2 in
+    subst (λ (y : Item × Cursor). Fits s y.0) {x = (item, axes.0.1)} one (told_input s c dev.0 event dev.1 refl)
 
 back_fits : (s : Scenario) (c : Cursor) (x : Item × Cursor) → back_at s c ≡ Ok x → Fits s x.0
 unfolding back_at
@@ -411,6 +474,7 @@ unfolding arguments_at
 arguments_fit commands.Domain s c x kept early same = domain_fits s c x (none_stated (is_empty_list s.statements) early) same
 arguments_fit commands.Display s c x kept early same = display_fits s c x kept (none_stated (is_empty_list s.statements) early) same
 arguments_fit commands.Sound s c x kept early same = sound_fits s c x kept (none_stated (is_empty_list s.statements) early) same
+arguments_fit commands.Input s c x kept early same = input_fits s c x kept (none_stated (is_empty_list s.statements) early) same
 arguments_fit commands.Put s c x kept early same = put_fits s c x same
 arguments_fit commands.Fill s c x kept early same = fill_fits s c x same
 arguments_fit commands.PutGrant s c x kept early same = put_grant_fits s c x same
@@ -423,6 +487,10 @@ arguments_fit commands.Wake s c x kept early same = wake_fits s c x same
 arguments_fit commands.Blank s c x kept early same = blank_fits s c x same
 arguments_fit commands.Show s c x kept early same = show_fits s c x same
 arguments_fit commands.Tick s c x kept early same = tick_fits s c x same
+arguments_fit commands.Touch s c x kept early same = touch_fits s c x same
+arguments_fit commands.Key s c x kept early same = press_fits s c x same
+arguments_fit commands.Motion s c x kept early same = motion_fits s c x same
+arguments_fit commands.Position s c x kept early same = position_fits s c x same
 arguments_fit commands.Back s c x kept early same = back_fits s c x same
 arguments_fit commands.Serve s c x kept early same = serve_fits s c x same
 

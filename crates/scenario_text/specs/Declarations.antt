@@ -43,3 +43,10 @@ sound_at so_far c = do
   size ← size_at so_far.sizes dev.1
   streams ← streams_at size.1
   Ok (items.Device (record { dev = dev.0; dom = size.0.dom; kind = kinds.Sound streams.0 }), streams.1)
+
+-- input N D: device N of domain D, with contacts and keys
+unfoldable pub input_at : Scenario → Cursor → Result (Item × Cursor) Flaw
+input_at so_far c = do
+  dev ← new_device_at so_far.devices c
+  size ← size_at so_far.sizes dev.1
+  Ok (items.Device (record { dev = dev.0; dom = size.0.dom; kind = kinds.Input }), size.1)

@@ -4,14 +4,15 @@ use Rattle.scenario_text.specs.declared.draft.Item.{Item}
 use Rattle.script_tokens.specs.declared.fault.Flaw.{Flaw}
 use Rattle.script_tokens.specs.declared.fault.FaultKind.TheVariants.{UnknownStatement, ExtraWord, Late}
 use Rattle.scenario_text.specs.declared.item.Command.{Command}
-use Rattle.scenario_text.specs.declared.item.Command.TheVariants.{Domain, Display, Sound}
+use Rattle.scenario_text.specs.declared.item.Command.TheVariants.{Domain, Display, Sound, Input}
 use Rattle.scenario_text.specs.declared.item.Command.TheVariants.{Put, Fill, PutGrant, Swap, Open, End, Node, Bus, Wake}
-use Rattle.scenario_text.specs.declared.item.Command.TheVariants.{Blank, Show, Tick, Back, Serve}
+use Rattle.scenario_text.specs.declared.item.Command.TheVariants.{Blank, Show, Tick, Touch, Key, Motion, Position, Back, Serve}
 use Rattle.script_tokens.specs.Flaws.{flaw, ◌>>=◌, or_flaw}
 use Rattle.script_tokens.specs.Tokens.{Piece, tokens}
 use Rattle.script_tokens.specs.Cursors.{Cursor, first_of}
 use Rattle.script_tokens.specs.Next.{named}
-use Rattle.scenario_text.specs.Declarations.{domain_at, display_at, sound_at}
+use Rattle.scenario_text.specs.Declarations.{domain_at, display_at, sound_at, input_at}
+use Rattle.scenario_text.specs.Gestures.{touch_at, press_at, motion_at, position_at}
 use Rattle.scenario_text.specs.Statements.{put_at, fill_at, put_grant_at, swap_at, open_at, end_at, node_at, bus_at, wake_at}
 use Rattle.scenario_text.specs.Statements.{blank_at, show_at, tick_at, back_at, serve_at}
 use Rattle.scenario_text.specs.Scenario.{Scenario}
@@ -21,8 +22,9 @@ abbrev pub names : List (List ℕ × Command)
 names =
     (codes "put", Put) ∷ (codes "fill", Fill) ∷ (codes "putg", PutGrant) ∷ (codes "swap", Swap) ∷ (codes "open", Open) ∷ (codes "end", End)
     ∷ (codes "node", Node) ∷ (codes "bus", Bus) ∷ (codes "wake", Wake) ∷ (codes "blank", Blank) ∷ (codes "show", Show)
-    ∷ (codes "tick", Tick) ∷ (codes "back", Back) ∷ (codes "serve", Serve) ∷ (codes "domain", Domain) ∷ (codes "display", Display)
-    ∷ (codes "sound", Sound) ∷ []
+    ∷ (codes "tick", Tick) ∷ (codes "touch", Touch) ∷ (codes "key", Key) ∷ (codes "motion", Motion) ∷ (codes "position", Position)
+    ∷ (codes "back", Back) ∷ (codes "serve", Serve) ∷ (codes "domain", Domain) ∷ (codes "display", Display) ∷ (codes "sound", Sound)
+    ∷ (codes "input", Input) ∷ []
 
 -- what a token names, as the first of a line
 unfoldable pub command_of : List ℕ → Option Command
@@ -33,6 +35,7 @@ abbrev pub is_declaration : Command → Bool
 is_declaration Domain = true
 is_declaration Display = true
 is_declaration Sound = true
+is_declaration Input = true
 is_declaration other = false
 
 -- whether there is nothing in a list
@@ -51,6 +54,7 @@ unfoldable pub arguments_at : Command → Scenario → Cursor → Result (Item �
 arguments_at Domain so_far c = domain_at so_far c
 arguments_at Display so_far c = display_at so_far c
 arguments_at Sound so_far c = sound_at so_far c
+arguments_at Input so_far c = input_at so_far c
 arguments_at Put so_far c = put_at so_far c
 arguments_at Fill so_far c = fill_at so_far c
 arguments_at PutGrant so_far c = put_grant_at so_far c
@@ -63,6 +67,10 @@ arguments_at Wake so_far c = wake_at so_far c
 arguments_at Blank so_far c = blank_at so_far c
 arguments_at Show so_far c = show_at so_far c
 arguments_at Tick so_far c = tick_at so_far c
+arguments_at Touch so_far c = touch_at so_far c
+arguments_at Key so_far c = press_at so_far c
+arguments_at Motion so_far c = motion_at so_far c
+arguments_at Position so_far c = position_at so_far c
 arguments_at Back so_far c = back_at so_far c
 arguments_at Serve so_far c = serve_at so_far c
 

@@ -12,6 +12,7 @@ pub mod Arguments
 pub mod Lookups
 pub mod Declarations
 pub mod Statements
+pub mod Gestures
 pub mod Items
 pub mod Reading
 pub mod Playable

@@ -20,3 +20,7 @@ tick_limit = 1048576
 -- a page has this many words
 abbrev pub page_words : ℕ
 page_words = 1024
+
+-- the numbers of contacts are below this
+abbrev pub contact_numbers : ℕ
+contact_numbers = 256

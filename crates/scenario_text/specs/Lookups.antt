@@ -11,7 +11,7 @@ use Rattle.pv_words.specs.declared.setup.DeviceKind.{DeviceKind}
 use Rattle.pv_words.specs.declared.setup.DeviceKind.TheVariants as kinds
 use Rattle.pv_words.specs.Streams.{kinds_in}
 use Rattle.scenario_text.specs.declared.lookup.Family.{Family}
-use Rattle.scenario_text.specs.declared.lookup.Family.TheVariants.{Displays, Sounds}
+use Rattle.scenario_text.specs.declared.lookup.Family.TheVariants.{Displays, Sounds, Inputs}
 use Rattle.script_tokens.specs.declared.fault.Flaw.{Flaw}
 use Rattle.script_tokens.specs.declared.fault.FaultKind.TheVariants.{Twice, Undeclared, WrongDevice}
 use Rattle.script_tokens.specs.Flaws.{flaw, ◌>>=◌, or_flaw}
@@ -28,17 +28,20 @@ size_of dom sizes = find (λ s. s.dom.0 == dom) sizes
 unfoldable pub device_of : ℕ → List DeviceSetup → Option DeviceSetup
 device_of dev devices = find (λ d. d.dev.0 == dev) devices
 
--- how many parts a device has: a display's connectors, a sound device's streams
+-- how many parts a device has: a display's connectors, a sound device's streams; an input device has one
 abbrev pub parts_of : DeviceKind → ℕ
 parts_of (kinds.Display connectors) = connectors
 parts_of (kinds.Sound streams) = length (kinds_in streams)
+parts_of kinds.Input = 1
 
 -- how many parts it has, where it is of this family
 abbrev pub parts_in : Family → DeviceKind → Option ℕ
 parts_in Displays (kinds.Display connectors) = Some connectors
-parts_in Displays (kinds.Sound streams) = None
-parts_in Sounds (kinds.Display connectors) = None
+parts_in Displays other = None
 parts_in Sounds (kinds.Sound streams) = Some (length (kinds_in streams))
+parts_in Sounds other = None
+parts_in Inputs kinds.Input = Some 1
+parts_in Inputs other = None
 
 -- whether there is a device of this number
 unfoldable pub has_device : ℕ → List DeviceSetup → Bool
@@ -77,14 +80,20 @@ device_at devices c = do
   device ← or_flaw (device_of dev.0.value devices) dev.0.column Undeclared
   Ok (device, dev.1)
 
--- N P: a device of this family that was declared, and one of its parts
-unfoldable pub part_at : Family → List DeviceSetup → Cursor → Result ((DevId × ℕ) × Cursor) Flaw
-part_at family devices c = do
+-- N: a device of this family that was declared, and how many parts it has
+unfoldable pub family_at : Family → List DeviceSetup → Cursor → Result ((DevId × ℕ) × Cursor) Flaw
+family_at family devices c = do
   dev ← between_at 1 device_limit c
   device ← or_flaw (device_of dev.0.value devices) dev.0.column Undeclared
   parts ← or_flaw (parts_in family device.kind) dev.0.column WrongDevice
-  part ← below_at parts dev.1
-  Ok ((device.dev, part.0.value), part.1)
+  Ok ((device.dev, parts), dev.1)
+
+-- N P: such a device, and one of its parts
+unfoldable pub part_at : Family → List DeviceSetup → Cursor → Result ((DevId × ℕ) × Cursor) Flaw
+part_at family devices c = do
+  dev ← family_at family devices c
+  part ← below_at dev.0.1 dev.1
+  Ok ((dev.0.0, part.0.value), part.1)
 
 -- a device that was found, and the tokens behind its number, as the values that they stand for
 abbrev pub seen_device : Bor DeviceSetup × Tokens → DeviceSetup × Cursor

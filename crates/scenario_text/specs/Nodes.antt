@@ -16,10 +16,15 @@ abbrev pub sound_keys : List (List ℕ × ℕ)
 sound_keys =
     (codes "ring-ref", 0) ∷ (codes "event-channel", 1) ∷ (codes "evt-ring-ref", 2) ∷ (codes "evt-event-channel", 3) ∷ []
 
+-- the names of an input device's nodes, and their keys
+abbrev pub input_keys : List (List ℕ × ℕ)
+input_keys = (codes "page-gref", 0) ∷ (codes "event-channel", 1) ∷ []
+
 -- the names of the nodes of a device of this kind, and their keys
 abbrev pub keys_of : DeviceKind → List (List ℕ × ℕ)
 keys_of (kinds.Display connectors) = display_keys
 keys_of (kinds.Sound streams) = sound_keys
+keys_of kinds.Input = input_keys
 
 -- a number, where it is below 2 ^ 32
 abbrev pub of_number : Option ℕ → NodeValue

@@ -5,11 +5,11 @@ use Rattle.pv_words.specs.Place.{InRange}
 use Rattle.pv_words.specs.Sizes.{AreSizes, frames_by, grants_by}
 use Rattle.pv_words.specs.Streams.{kinds_in}
 use Rattle.pv_words.specs.declared.device.HostEvent.{HostEvent}
-use Rattle.pv_words.specs.declared.device.HostEvent.TheVariants.{Blank, Show, Tick}
+use Rattle.pv_words.specs.declared.device.HostEvent.TheVariants.{Blank, Show, Tick, Touch, Key, Motion, Position}
 use Rattle.pv_words.specs.declared.device.NodeValue.{NodeValue}
 use Rattle.pv_words.specs.declared.device.NodeValue.TheVariants.{Absent, Bad, Number}
 use Rattle.pv_words.specs.declared.setup.DeviceKind.{DeviceKind}
-use Rattle.pv_words.specs.declared.setup.DeviceKind.TheVariants.{Display, Sound}
+use Rattle.pv_words.specs.declared.setup.DeviceKind.TheVariants.{Display, Sound, Input}
 use Rattle.pv_words.specs.declared.setup.DeviceSetup.{DeviceSetup}
 use Rattle.scenario_text.specs.declared.statement.Filling.{Filling}
 use Rattle.scenario_text.specs.declared.statement.Statement.{Statement}
@@ -24,13 +24,19 @@ parts_by [] dev = 0
 parts_by (d ∷ ds) dev = if d.dev.0 == dev then parts_of d.kind else parts_by ds dev
 
 -- A host may tell a device of this kind this event: a display those of its connectors, a sound device a tick of one of its
--- streams, of 1 frame or more, and no more than a tick has at most.
+-- streams, of 1 frame or more, and no more than a tick has at most; an input device what is done to its contacts and keys, and where its
+-- pointer is or moves.
 abbrev pub fits : DeviceKind → HostEvent → Bool
 fits (Display connectors) (Blank connector) = nat_lt connector connectors
 fits (Display connectors) (Show connector) = nat_lt connector connectors
 fits (Display connectors) other = false
 fits (Sound streams) (Tick stream frames) = nat_lt stream (length (kinds_in streams)) && (nat_le 1 frames && nat_le frames tick_limit)
 fits (Sound streams) other = false
+fits Input (Touch touch) = true
+fits Input (Key code pressed) = true
+fits Input (Motion x y z) = true
+fits Input (Position x y z) = true
+fits Input other = false
 
 -- whether a host may tell the device of this number this event
 abbrev pub takes_by : List DeviceSetup → ℕ → HostEvent → Bool

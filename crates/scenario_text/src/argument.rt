@@ -6,7 +6,7 @@ ghost use Rattle.script_tokens.specs.Cursors.{cursor, seen};
 ghost use Rattle.script_tokens.specs.Next.{named};
 ghost use Rattle.scenario_text.specs.Arguments.{halves, half_at, modes, mode_at, key_at, node_value_at, state_at};
 ghost use Rattle.scenario_text.specs.Arguments.{stream_kinds, stream_kind_at, further_kind_at, streams_of, streams_at};
-ghost use Rattle.scenario_text.specs.Nodes.{display_keys, sound_keys, keys_of, node_value};
+ghost use Rattle.scenario_text.specs.Nodes.{display_keys, sound_keys, input_keys, keys_of, node_value};
 ghost use Rattle.xenbus_states.specs.States.{state_of};
 
 use pv_words::{DeviceKind, Half, Mode, NodeValue, State, StreamKind, Streams};
@@ -103,6 +103,19 @@ fn sound_key_of(octets: &[u8]) -> Option<u8>
     }
 }
 
+/// The key of the node that has this name, in an input device.
+fn input_key_of(octets: &[u8]) -> Option<u8>
+    ensures { result ≡ named octets.now input_keys }
+{
+    if octets == b"page-gref".as_slice() {
+        Some(0)
+    } else if octets == b"event-channel".as_slice() {
+        Some(1)
+    } else {
+        None
+    }
+}
+
 /// The key of the node that has this name, in a device of this kind.
 fn key_of(kind: &DeviceKind, octets: &[u8]) -> Option<u8>
     ensures { result ≡ named octets.now (keys_of kind.now) }
@@ -110,6 +123,7 @@ fn key_of(kind: &DeviceKind, octets: &[u8]) -> Option<u8>
     match kind {
         DeviceKind::Display(_) => display_key_of(octets),
         DeviceKind::Sound(_) => sound_key_of(octets),
+        DeviceKind::Input => input_key_of(octets),
     }
 }
 

@@ -4,7 +4,7 @@ ghost use Rattle.std.specs.Prelude.{◌≡◌};
 ghost use Rattle.script_tokens.specs.Flaws.{Gives};
 ghost use Rattle.script_tokens.specs.Cursors.{cursor, seen};
 ghost use Rattle.scenario_text.specs.Scenario.{drafted};
-ghost use Rattle.scenario_text.specs.Declarations.{domain_at, display_at, sound_at};
+ghost use Rattle.scenario_text.specs.Declarations.{domain_at, display_at, sound_at, input_at};
 
 use crate::argument::streams;
 use crate::draft::{Draft, Item};
@@ -63,6 +63,22 @@ pub fn sound<'a>(so_far: &Draft, tokens: Tokens<'a>) -> Result<(Item, Tokens<'a>
         dev,
         dom: size.dom,
         kind: DeviceKind::Sound(streams),
+    };
+    Ok((Item::Device(device), tokens))
+}
+
+/// `input N D`: device N of domain D, with contacts and keys.
+#[inline(never)]
+#[tactic(auto, unfolding(crate::specs::Declarations::input_at))]
+pub fn input<'a>(so_far: &Draft, tokens: Tokens<'a>) -> Result<(Item, Tokens<'a>), Flaw>
+    ensures { Gives seen result (input_at (drafted so_far.now) (cursor tokens.entry)) }
+{
+    let (dev, tokens) = new_device(&so_far.devices, tokens)?;
+    let (size, tokens) = declared_domain(&so_far.sizes, tokens)?;
+    let device = DeviceSetup {
+        dev,
+        dom: size.dom,
+        kind: DeviceKind::Input,
     };
     Ok((Item::Device(device), tokens))
 }

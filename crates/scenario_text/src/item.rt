@@ -6,8 +6,9 @@ ghost use Rattle.script_tokens.specs.Cursors.{cursor, seen, token};
 ghost use Rattle.scenario_text.specs.Scenario.{drafted};
 ghost use Rattle.scenario_text.specs.Items.{command_of, is_declaration, command_at, arguments_at, item_of};
 
-use crate::declaration::{display, domain, sound};
+use crate::declaration::{display, domain, input, sound};
 use crate::draft::{Draft, Item};
+use crate::gesture::{motion, position, press, touch};
 use crate::statement::{
     back, blank, bus, end, fill, node, open, put, put_grant, serve, show, swap, tick, wake,
 };
@@ -19,6 +20,7 @@ pub enum Command {
     Domain,
     Display,
     Sound,
+    Input,
     Put,
     Fill,
     PutGrant,
@@ -31,6 +33,10 @@ pub enum Command {
     Blank,
     Show,
     Tick,
+    Touch,
+    Key,
+    Motion,
+    Position,
     Back,
     Serve,
 }
@@ -64,6 +70,14 @@ fn command_of(octets: &[u8]) -> Option<Command>
         Some(Command::Show)
     } else if octets == b"tick".as_slice() {
         Some(Command::Tick)
+    } else if octets == b"touch".as_slice() {
+        Some(Command::Touch)
+    } else if octets == b"key".as_slice() {
+        Some(Command::Key)
+    } else if octets == b"motion".as_slice() {
+        Some(Command::Motion)
+    } else if octets == b"position".as_slice() {
+        Some(Command::Position)
     } else if octets == b"back".as_slice() {
         Some(Command::Back)
     } else if octets == b"serve".as_slice() {
@@ -74,6 +88,8 @@ fn command_of(octets: &[u8]) -> Option<Command>
         Some(Command::Display)
     } else if octets == b"sound".as_slice() {
         Some(Command::Sound)
+    } else if octets == b"input".as_slice() {
+        Some(Command::Input)
     } else {
         None
     }
@@ -83,7 +99,10 @@ fn command_of(octets: &[u8]) -> Option<Command>
 fn is_declaration(command: Command) -> bool
     ensures { result ≡ is_declaration command }
 {
-    matches!(command, Command::Domain | Command::Display | Command::Sound)
+    matches!(
+        command,
+        Command::Domain | Command::Display | Command::Sound | Command::Input
+    )
 }
 
 /// What the first token of a line names. No declaration may follow a statement.
@@ -117,6 +136,7 @@ fn arguments<'a>(
         Command::Domain => domain(so_far, tokens),
         Command::Display => display(so_far, tokens),
         Command::Sound => sound(so_far, tokens),
+        Command::Input => input(so_far, tokens),
         Command::Put => put(so_far, tokens),
         Command::Fill => fill(so_far, tokens),
         Command::PutGrant => put_grant(so_far, tokens),
@@ -129,6 +149,10 @@ fn arguments<'a>(
         Command::Blank => blank(so_far, tokens),
         Command::Show => show(so_far, tokens),
         Command::Tick => tick(so_far, tokens),
+        Command::Touch => touch(so_far, tokens),
+        Command::Key => press(so_far, tokens),
+        Command::Motion => motion(so_far, tokens),
+        Command::Position => position(so_far, tokens),
         Command::Back => back(so_far, tokens),
         Command::Serve => serve(so_far, tokens),
     }

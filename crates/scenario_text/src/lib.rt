@@ -9,6 +9,7 @@ mod argument;
 mod declaration;
 mod draft;
 mod fault;
+mod gesture;
 mod item;
 mod limit;
 mod lookup;

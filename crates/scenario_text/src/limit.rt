@@ -17,3 +17,6 @@ pub const TICK_LIMIT: u32 = 1048576;
 
 /// The number of words of a page.
 pub const PAGE_WORDS: u64 = 1024;
+
+/// The numbers of contacts are below this.
+pub const CONTACT_NUMBERS: u64 = 256;

@@ -5,7 +5,7 @@ ghost use Rattle.script_tokens.specs.Flaws.{Gives};
 ghost use Rattle.script_tokens.specs.Cursors.{cursor, seen};
 ghost use Rattle.scenario_text.specs.Lookups.{size_of, device_of, has_device, parts_of, parts_in};
 ghost use Rattle.scenario_text.specs.Lookups.{frames_left, grants_left, new_domain_at, size_at};
-ghost use Rattle.scenario_text.specs.Lookups.{new_device_at, device_at, part_at, seen_device};
+ghost use Rattle.scenario_text.specs.Lookups.{new_device_at, device_at, family_at, part_at, seen_device};
 
 use crate::limit::{DEVICE_LIMIT, DOMAIN_LIMIT, SIZE_LIMIT};
 use pv_words::{DevId, DeviceKind, DeviceSetup, DomId, DomainSize};
@@ -32,15 +32,17 @@ fn device_of(dev: u64, devices: &[DeviceSetup]) -> Option<&DeviceSetup>
 pub enum Family {
     Displays,
     Sounds,
+    Inputs,
 }
 
-/// How many parts a device has: a display's connectors, a sound device's streams.
+/// How many parts a device has: a display's connectors, a sound device's streams; an input device has one.
 pub fn parts_of(kind: &DeviceKind) -> u8
     ensures { result ≡ parts_of kind.now }
 {
     match kind {
         DeviceKind::Display(connectors) => *connectors,
         DeviceKind::Sound(streams) => streams.count(),
+        DeviceKind::Input => 1,
     }
 }
 
@@ -51,6 +53,7 @@ fn parts_in(family: Family, kind: &DeviceKind) -> Option<u8>
     match (family, kind) {
         (Family::Displays, DeviceKind::Display(connectors)) => Some(*connectors),
         (Family::Sounds, DeviceKind::Sound(streams)) => Some(streams.count()),
+        (Family::Inputs, DeviceKind::Input) => Some(1),
         _ => None,
     }
 }
@@ -158,14 +161,14 @@ pub fn declared_device<'d, 'a>(
     }
 }
 
-/// The next two tokens as the number of a declared device of this family and that of one of its parts.
-#[tactic(auto, unfolding(crate::specs::Lookups::part_at))]
-pub fn part<'a>(
+/// The next token as the number of a declared device of this family, with the number of its parts.
+#[tactic(auto, unfolding(crate::specs::Lookups::family_at))]
+pub fn in_family<'a>(
     family: Family,
     devices: &[DeviceSetup],
     tokens: Tokens<'a>,
 ) -> Result<((DevId, u8), Tokens<'a>), Flaw>
-    ensures { Gives seen result (part_at family devices.now (cursor tokens.entry)) }
+    ensures { Gives seen result (family_at family devices.now (cursor tokens.entry)) }
 {
     let (dev, tokens) = tokens.between(1, DEVICE_LIMIT)?;
     let column = dev.column;
@@ -181,6 +184,19 @@ pub fn part<'a>(
             kind: FaultKind::WrongDevice,
         });
     };
+    Ok(((device.dev, parts), tokens))
+}
+
+/// The next two tokens as the number of a declared device of this family and that of one of its parts.
+#[tactic(auto, unfolding(crate::specs::Lookups::part_at))]
+pub fn part<'a>(
+    family: Family,
+    devices: &[DeviceSetup],
+    tokens: Tokens<'a>,
+) -> Result<((DevId, u8), Tokens<'a>), Flaw>
+    ensures { Gives seen result (part_at family devices.now (cursor tokens.entry)) }
+{
+    let ((dev, parts), tokens) = in_family(family, devices, tokens)?;
     let (part, tokens) = tokens.below(u64::from(parts))?;
-    Ok(((device.dev, part.value as u8), tokens))
+    Ok(((dev, part.value as u8), tokens))
 }

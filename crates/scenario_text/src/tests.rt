@@ -4,7 +4,7 @@ use crate::FaultKind::{
 };
 use pv_words::{
     DevId, DeviceKind, DeviceSetup, DomId, DomainSize, Frame, GrantRef, Half, HostEvent, Kind,
-    Mode, NodeValue, Place, State, StreamKind, Streams,
+    Mode, NodeValue, Place, State, StreamKind, Streams, Touch,
 };
 use std::alloc::Global;
 use std::process::Abort;
@@ -180,6 +180,34 @@ fn one_of_each_of_sound(rt: HostRuntime) -> Result<(), Fail> {
 }
 
 #[test]
+fn one_of_each_of_input(rt: HostRuntime) -> Result<(), Fail> {
+    let text = b"domain 1 wild 1 0\ninput 16 1\nnode 16 0 page-gref 0\nnode 16 0 event-channel 1\n\
+        touch 16 down 255 -2147483648 2147483647\ntouch 16 move 0 -0x10 -0\ntouch 16 up 16\n\
+        key 16 4294967295 1\nkey 16 0 0\nmotion 16 -007 0x7fffffff 0\nposition 16 1 -1 2\n";
+    let script = Script::parse(rt.alloc(), text)?;
+    let devices = [DeviceSetup {
+        dev: DevId(16),
+        dom: DomId(1),
+        kind: DeviceKind::Input,
+    }];
+    let host = |event| Statement::Host(DevId(16), event);
+    let statements = [
+        Statement::Node(DevId(16), 0, 0, NodeValue::Number(0)),
+        Statement::Node(DevId(16), 0, 1, NodeValue::Number(1)),
+        host(HostEvent::Touch(Touch::Down(255, i32::MIN, i32::MAX))),
+        host(HostEvent::Touch(Touch::Move(0, -16, 0))),
+        host(HostEvent::Touch(Touch::Up(16))),
+        host(HostEvent::Key(u32::MAX, true)),
+        host(HostEvent::Key(0, false)),
+        host(HostEvent::Motion(-7, i32::MAX, 0)),
+        host(HostEvent::Position(1, -1, 2)),
+    ];
+    assert_eq!(rt; script.devices(), devices.as_slice());
+    assert_eq!(rt; script.statements(), statements.as_slice());
+    Ok(())
+}
+
+#[test]
 fn names_and_values_of_nodes(rt: HostRuntime) -> Result<(), Fail> {
     let text = b"domain 1 wild 1 0\ndisplay 1 1 1\n\
         node 1 0 req-ring-ref 4294967295\nnode 1 0 req-event-channel 0000000000000000000000000007\n\
@@ -318,6 +346,44 @@ fn faults_of_sound(rt: HostRuntime) -> Result<(), Fail> {
         ("show 2 9", 4, 6, WrongDevice),
     ];
     let head = "domain 4 wild 1 0\ndisplay 1 4 4\nsound 2 4 p c\n";
+    expect_faults(&rt, rt.alloc(), head, &rows)
+}
+
+#[test]
+fn faults_of_input(rt: HostRuntime) -> Result<(), Fail> {
+    let rows = [
+        ("input 4", 5, 8, MissingWord),
+        ("input 2 1", 5, 7, Twice),
+        ("input 4 1", 5, 9, Undeclared),
+        ("input 4 4 1", 5, 11, ExtraWord),
+        ("wake 1\ninput 4 4", 6, 1, Late),
+        ("node 3 1 x 1", 5, 8, OutOfRange),
+        ("node 3 0 ring-ref 1", 5, 10, BadWord),
+        ("touch 4 x", 5, 7, Undeclared),
+        ("touch 2 x", 5, 7, WrongDevice),
+        ("touch 3 x 256", 5, 9, BadWord),
+        ("touch 3 up 256", 5, 12, OutOfRange),
+        ("touch 3 up 0 1", 5, 14, ExtraWord),
+        ("touch 3 down 0 1", 5, 17, MissingWord),
+        ("touch 3 move 0 2147483648 x", 5, 16, OutOfRange),
+        ("touch 3 move 0 -2147483649 x", 5, 16, OutOfRange),
+        ("touch 3 move 0 -18446744073709551616 x", 5, 16, BadNumber),
+        ("touch 3 move 0 1 --1", 5, 18, BadNumber),
+        ("touch 3 move 0 1 +1", 5, 18, BadNumber),
+        ("touch 3 down -1 1 1", 5, 14, BadNumber),
+        ("key 1 0 0", 5, 5, WrongDevice),
+        ("key 3 4294967296 2", 5, 7, OutOfRange),
+        ("key 3 0 2", 5, 9, OutOfRange),
+        ("key 3 0 -0", 5, 9, BadNumber),
+        ("motion 3 1 2", 5, 13, MissingWord),
+        ("motion 3 1 2 -", 5, 14, BadNumber),
+        ("motion 3 1 2 3 4", 5, 16, ExtraWord),
+        ("position 2 x", 5, 10, WrongDevice),
+        ("position 3 1 2 0x80000000", 5, 16, OutOfRange),
+        ("blank 3 0", 5, 7, WrongDevice),
+        ("tick 3 0 1", 5, 6, WrongDevice),
+    ];
+    let head = "domain 4 wild 1 0\ndisplay 1 4 4\nsound 2 4 p c\ninput 3 4\n";
     expect_faults(&rt, rt.alloc(), head, &rows)
 }
 

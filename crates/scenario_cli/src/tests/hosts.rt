@@ -39,14 +39,16 @@ fn an_event_has_its_line(rt: HostRuntime) -> Result<(), Fail> {
         words: "run --words",
         ..PLAIN
     };
-    let script =
-        b"domain 1 wild 2 2\ndisplay 1 1 1\nsound 16 1 c p\nblank 1 0\nshow 1 0\ntick 16 1 5\n";
+    let script = b"domain 1 wild 2 2\ndisplay 1 1 1\nsound 16 1 c p\ninput 9 1\nblank 1 0\nshow 1 0\ntick 16 1 5\n\
+        touch 9 down 16 -1 2\nkey 9 3 1\nmotion 9 -1 2 -3\nposition 9 1 -2 3\n";
     let outcome = run_trial(rt.alloc(), trial, script)?;
     expect_played(
         &rt,
         &outcome,
         b"host 1 blank 0\nrefused 1 notconnected\nhost 1 show 0\nrefused 1 notconnected\n\
-          host 16 tick 1 5\nrefused 16 notconnected\n",
+          host 16 tick 1 5\nrefused 16 notconnected\nhost 9 touch down 16 -1 2\nrefused 9 notconnected\n\
+          host 9 key 3 1\nrefused 9 notconnected\nhost 9 motion -1 2 -3\nrefused 9 notconnected\n\
+          host 9 position 1 -2 3\nrefused 9 notconnected\n",
     );
     Ok(())
 }

@@ -1,4 +1,5 @@
-use Rattle.backend_core.specs.declared.device.Device.TheVariants.{Display, Sound}
+use Rattle.std.proofs.Common.{refl}
+use Rattle.backend_core.specs.declared.device.Device.TheVariants.{Display, Sound, Input}
 use Rattle.backend_core.proofs.Hearing.{device_sets}
 use Rattle.backend_core.proofs.device.Device.bus.Goals as goal
 
@@ -7,3 +8,6 @@ returns-in-Display-clause-hears c = device_sets c.args.self.now (Display c.in-Di
 
 pub returns-in-Sound-clause-hears : goal.returns-in-Sound-clause-hears
 returns-in-Sound-clause-hears c = device_sets c.args.self.now (Sound c.in-Sound.sound) (Sound c.bus-in-Sound.new.self) c.in-Sound.is c.args.front c.args.nodes.now c.bus-in-Sound.ensures.hears c.bus-in-Sound.ensures.same.1 c.bus-in-Sound.ensures.same.2
+
+pub returns-in-Input-clause-hears : goal.returns-in-Input-clause-hears
+returns-in-Input-clause-hears c = device_sets c.args.self.now (Input c.in-Input.input) (Input c.bus-in-Input.new.self) c.in-Input.is c.args.front c.args.nodes.now c.bus-in-Input.ensures.hears c.bus-in-Input.ensures.same.1 refl

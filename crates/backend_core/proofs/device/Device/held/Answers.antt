@@ -1,4 +1,4 @@
-use Rattle.backend_core.specs.declared.device.Device.TheVariants.{Display, Sound}
+use Rattle.backend_core.specs.declared.device.Device.TheVariants.{Display, Sound, Input}
 use Rattle.backend_core.proofs.Holding.{holds_as_many}
 use Rattle.backend_core.proofs.device.Device.held.Goals as goal
 
@@ -7,3 +7,6 @@ returns-in-Display-clause-holds c = holds_as_many c.args.self.now (Display c.in-
 
 pub returns-in-Sound-clause-holds : goal.returns-in-Sound-clause-holds
 returns-in-Sound-clause-holds c = holds_as_many c.args.self.now (Sound c.in-Sound.sound) c.in-Sound.is c.held-in-Sound.result c.held-in-Sound.ensures.holds
+
+pub returns-in-Input-clause-holds : goal.returns-in-Input-clause-holds
+returns-in-Input-clause-holds c = holds_as_many c.args.self.now (Input c.in-Input.input) c.in-Input.is c.held-in-Input.result c.held-in-Input.ensures.holds

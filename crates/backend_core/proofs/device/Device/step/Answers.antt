@@ -1,4 +1,5 @@
-use Rattle.backend_core.specs.declared.device.Device.TheVariants.{Display, Sound}
+use Rattle.std.proofs.Common.{refl}
+use Rattle.backend_core.specs.declared.device.Device.TheVariants.{Display, Sound, Input}
 use Rattle.backend_core.specs.Device.{site_over}
 use Rattle.backend_core.proofs.Stepping.{device_rides, device_steps}
 use Rattle.backend_core.proofs.device.Device.step.Goals as goal
@@ -14,3 +15,9 @@ returns-in-Display-clause-rides g c = device_rides (λ d. site_over g.W.Words c.
 
 pub returns-in-Sound-clause-rides : goal.returns-in-Sound-clause-rides
 returns-in-Sound-clause-rides g c = device_rides (λ d. site_over g.W.Words c.args.words.now d) c.args.self.now (Sound c.in-Sound.sound) (Sound c.step-in-Sound.new.self) c.in-Sound.is c.step-in-Sound.result.access c.step-in-Sound.result.said c.step-in-Sound.ensures.steps
+
+pub returns-in-Input-clause-steps : goal.returns-in-Input-clause-steps
+returns-in-Input-clause-steps g c = device_steps (λ d. site_over g.W.Words c.args.words.now d) c.args.self.now (Input c.in-Input.input) (Input c.step-in-Input.new.self) c.in-Input.is c.step-in-Input.result.access c.step-in-Input.result.said c.step-in-Input.ensures.steps c.step-in-Input.ensures.same.1 refl
+
+pub returns-in-Input-clause-rides : goal.returns-in-Input-clause-rides
+returns-in-Input-clause-rides g c = device_rides (λ d. site_over g.W.Words c.args.words.now d) c.args.self.now (Input c.in-Input.input) (Input c.step-in-Input.new.self) c.in-Input.is c.step-in-Input.result.access c.step-in-Input.result.said c.step-in-Input.ensures.steps

@@ -19,6 +19,7 @@ use Rattle.display_backend.specs.Service.{display}
 use Rattle.sound_backend.specs.Service.{sound}
 use Rattle.input_backend.specs.Service.{input}
 use Rattle.input_backend.specs.Stand as publisher
+use Rattle.input_backend.specs.Steps as publishes
 use Rattle.input_backend.proofs.Stands as publishers
 use Rattle.backend_core.specs.declared.device.Device.{Device}
 use Rattle.backend_core.specs.declared.device.Device.TheVariants.{Display, Sound, Input}
@@ -42,7 +43,7 @@ module _ {S E : Type 0} {g : Ghosts S E} where
 abbrev pub Hears : Device → News → Device → Type 0
 Hears (Display old) news (Display new) = HearsAt old news new
 Hears (Sound old) news (Sound new) = HearsAt old news new
-Hears (Input old) news (Input new) = (site : Site) → publisher.stand_of site new ≡ next (device input site) (publisher.stand_of site old) (Heard news)
+Hears (Input old) news (Input new) = (site : Site) → publishes.HearsAt site old news new
 Hears old news new = ⊥
 
 abbrev pub Refuses : Device → HostEvent → Option HostRefusal → Type 0

@@ -1,14 +1,12 @@
 -- The steps of a publisher, as its clauses name them.
 use Rattle.std.specs.Prelude.{◌≡◌, Bool, true, Option, List, ℕ}
 use Rattle.pv_words.specs.declared.access.Access.{Access}
-use Rattle.pv_words.specs.declared.device.NodeValue.{NodeValue}
 use Rattle.pv_words.specs.declared.device.Reason.{Reason}
 use Rattle.pv_words.specs.declared.device.Said.{Said}
-use Rattle.pv_words.specs.declared.device.State.{State}
 use Rattle.pv_words.specs.Plan.{Plan, mapped}
 use Rattle.link_core.specs.declared.link.Put.{Put}
 use Rattle.xenbus_states.specs.declared.back.Action.TheVariants as action
-use Rattle.device_core.specs.Order.{Heard, Order, Sets, Went, next}
+use Rattle.device_core.specs.Order.{Heard, News, Order, Went, next}
 use Rattle.device_core.specs.Site.{Site}
 use Rattle.device_service.specs.Goes.{GoesOut}
 use Rattle.device_service.specs.Parts as of_parts
@@ -61,6 +59,6 @@ module _ {S : Type 0} {g : Ghosts S} where
   abbrev pub WentToClose : Site → Publisher S g → Reason → Option Said → Publisher S g → Type 0
   WentToClose site old why said new = Went (device g.service site) (work_of old) (close_left old why) said (stand_of site new)
 
-  -- the frontend set its state, while the nodes stood so
-  abbrev pub HearsAt : Site → Publisher S g → State → List NodeValue → Publisher S g → Type 0
-  HearsAt site old front nodes new = stand_of site new ≡ next (device g.service site) (stand_of site old) (Heard (Sets front nodes))
+  -- it goes on by this news from where it stands
+  abbrev pub HearsAt : Site → Publisher S g → News → Publisher S g → Type 0
+  HearsAt site old news new = stand_of site new ≡ next (device g.service site) (stand_of site old) (Heard news)

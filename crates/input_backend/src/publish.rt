@@ -1,7 +1,6 @@
 //! What a service without rings gives, and owes.
 
 ghost use Rattle.std.specs.Prelude.{◌≡◌, ◌≤◌, ℕ, [], is_some, length, List, None, OnErr, Some, true};
-ghost use Rattle.pv_words.specs.declared.device.HostEvent.{HostEvent};
 ghost use Rattle.device_service.specs.Claims.{KeepsLaws};
 ghost use Rattle.device_service.specs.Laws.{Facts};
 ghost use Rattle.device_service.specs.Nodes.{Ringless};
@@ -9,6 +8,7 @@ ghost use Rattle.device_service.specs.Reading.{Shows};
 ghost use Rattle.host_events.specs.Queue.{refusal_in};
 ghost use Rattle.device_service.specs.Rows.{Table, heard_unless};
 ghost use Rattle.device_service.specs.Service.{Service};
+ghost use Rattle.input_backend.specs.Stage.{GoesOnceChosen, GoesOnMeanwhile};
 
 use pv_words::{HostEvent, HostRefusal, State};
 use xenbus_states::Nodes;
@@ -53,10 +53,10 @@ pub trait Publish {
     ghost owes: { (x : Known) → service.owes x ≡ None };
 
     /// The group that is due is under way once a Publish begins,
-    ghost chooses: { (x : Known) (g : List (List ℕ)) → service.groups.due x ≡ Some g → service.groups.way (service.groups.chosen x) ≡ Some g };
+    ghost chooses: { GoesOnceChosen service };
 
     /// whatever is heard then.
-    ghost stays: { (x : Known) (e : HostEvent) → service.groups.way (service.hears x e) ≡ service.groups.way x };
+    ghost stays: { GoesOnMeanwhile service };
 
     /// It keeps its laws.
     fn keeps_laws()

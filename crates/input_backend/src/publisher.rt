@@ -6,6 +6,7 @@ ghost use Rattle.std.proofs.Props.{props};
 ghost use Rattle.device_service.specs.Facts.{stands_prop};
 ghost use Rattle.device_service.specs.Nodes.{Ringless};
 ghost use Rattle.device_service.specs.Parts as of_parts;
+ghost use Rattle.device_service.specs.Parts.{doing_of};
 ghost use Rattle.input_backend.specs.Stage.{activity_of, puts_on};
 
 mod connecting;
@@ -52,7 +53,7 @@ pub struct Publisher<S: Publish + Drop> {
     ghost dom_is: { of_parts.dom_of parts ≡ dom.0 },
     ghost kind_is: { of_parts.kind_of parts ≡ Ringless },
     ghost one: { of_parts.count_of parts ≡ 1 },
-    ghost stands: { StandsIn (activity_of stage) closing connection.back (of_parts.doing_of parts) 0 None } by { Prim.hlevel (props, stands_prop) },
+    ghost stands: { StandsIn (activity_of stage) closing connection.back (doing_of parts) 0 None } by { Prim.hlevel (props, stands_prop) },
     ghost puts: { puts_on stage (S.service.groups.way (S.knows service)) parts ≡ true },
 }
 
@@ -60,7 +61,7 @@ impl<S: Publish + Drop> Publisher<S> {
     ghost use Rattle.pv_words.specs.Plan.{Makes};
     ghost use Rattle.host_events.specs.Queue.{refusal_in};
     ghost use Rattle.link_core.specs.Stays.{AccessIn};
-    ghost use Rattle.device_core.specs.Order.{Between, Heard, Hosts, MayChoose, at_rest, next, rests_next};
+    ghost use Rattle.device_core.specs.Order.{Between, Hosts, MayChoose, Sets, at_rest, rests_next};
     ghost use Rattle.device_core.specs.Site.{Site};
     ghost use Rattle.device_service.specs.Work.{choice, device, first_work, refused_at};
     ghost use Rattle.input_backend.specs.declared.publisher.Stage.TheVariants as stage;
@@ -98,7 +99,7 @@ impl<S: Publish + Drop> Publisher<S> {
 
     /// Hears that the frontend set its state, while its nodes stand so.
     pub fn bus(&mut self, front: State, nodes: &Nodes)
-        ensures hears { (site : Site) → HearsAt site self.old front nodes.now self.new }
+        ensures hears { (site : Site) → HearsAt site self.old (Sets front nodes.now) self.new }
         ensures held { held_of self.new ≡ held_of self.old }
         ensures same { Same self.old self.new }
     {
@@ -108,7 +109,7 @@ impl<S: Publish + Drop> Publisher<S> {
 
     /// Hears an event of the host, unless its service refuses it; a refusal changes nothing.
     pub fn host(&mut self, e: &HostEvent) -> Result<(), HostRefusal>
-        ensures hears { (site : Site) → stand_of site self.new ≡ next (device S.service site) (stand_of site self.old) (Heard (Hosts e.now)) }
+        ensures hears { (site : Site) → HearsAt site self.old (Hosts e.now) self.new }
         ensures refusal { refusal_in result ≡ refused_at S.service (work_of self.old) e.now }
         ensures err { OnErr result (self.new ≡ self.old) }
         ensures held { held_of self.new ≡ held_of self.old }

@@ -31,6 +31,36 @@ fn numbers(rt: HostRuntime) {
     }
 }
 
+// And each of these with a number of this value, which may have a `-` before it, or with none.
+#[test]
+fn signed_numbers(rt: HostRuntime) {
+    let rows = [
+        ("-2147483648 1", Ok(i32::MIN)),
+        (" 0x7fffffff", Ok(i32::MAX)),
+        ("-0x10", Ok(-16)),
+        ("-0", Ok(0)),
+        ("-007", Ok(-7)),
+        ("2147483648", Err(FaultKind::OutOfRange)),
+        ("-2147483649", Err(FaultKind::OutOfRange)),
+        ("-18446744073709551615", Err(FaultKind::OutOfRange)),
+        ("-18446744073709551616", Err(FaultKind::BadNumber)),
+        ("-", Err(FaultKind::BadNumber)),
+        ("--1", Err(FaultKind::BadNumber)),
+        ("+1", Err(FaultKind::BadNumber)),
+        ("- 1", Err(FaultKind::BadNumber)),
+        (" ", Err(FaultKind::MissingWord)),
+    ];
+    for (code, value) in rows.as_slice() {
+        let code = code.as_bytes();
+        assert!(rt; code.len() < 100);
+        let found = match Tokens::new(code).signed() {
+            Ok((number, _)) => Ok(number),
+            Err(flaw) => Err(flaw.kind),
+        };
+        assert_eq!(rt; found, *value);
+    }
+}
+
 #[test]
 fn lines(rt: HostRuntime) {
     let text = b" put 1\t#\xff\nend";

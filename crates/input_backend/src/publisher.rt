@@ -175,7 +175,7 @@ impl<S: Publish + Drop> Publisher<S> {
             Action::Renew => self.enter(State::InitWait),
             Action::Stay => match self.connection.back() {
                 State::Connected => self.begin_publish(words),
-                _ => idle(),
+                _ => Step::idle(),
             },
         }
     }
@@ -208,16 +208,5 @@ impl<S: Publish + Drop> Publisher<S> {
             Stage::Between => self.chooses(),
             _ => true,
         }
-    }
-}
-
-// A step with nothing.
-fn idle() -> Step
-    ensures access { result.access ≡ None }
-    ensures said { result.said ≡ None }
-{
-    Step {
-        access: None,
-        said: None,
     }
 }

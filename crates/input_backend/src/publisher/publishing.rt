@@ -6,7 +6,7 @@ ghost use Rattle.device_service.specs.Raising.{has_left};
 ghost use Rattle.device_service.specs.Work.{group_said};
 ghost use Rattle.input_backend.specs.Stage.{activity_of};
 
-use super::{Publisher, Stage, idle};
+use super::{Publisher, Stage};
 use crate::publish::Publish;
 use device_core::Step;
 use link_core::{EVENT_LIMIT, Put};
@@ -33,10 +33,10 @@ impl<S: Publish + Drop> Publisher<S> {
     {
         if self.full {
             self.full = false;
-            return idle();
+            return Step::idle();
         }
         if !self.service.is_due() {
-            return idle();
+            return Step::idle();
         }
         let prod = self.parts.in_prod(0);
         if prod >= EVENT_LIMIT {

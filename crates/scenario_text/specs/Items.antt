@@ -17,14 +17,19 @@ use Rattle.scenario_text.specs.Statements.{put_at, fill_at, put_grant_at, swap_a
 use Rattle.scenario_text.specs.Statements.{blank_at, show_at, tick_at, back_at, serve_at}
 use Rattle.scenario_text.specs.Scenario.{Scenario}
 
--- the first tokens of lines, and what they name
+-- the first tokens of lines, and what they name: of declarations, of a host's events and those, of all statements and those
+abbrev pub declarations : List (List ℕ × Command)
+declarations = (codes "domain", Domain) ∷ (codes "display", Display) ∷ (codes "sound", Sound) ∷ (codes "input", Input) ∷ []
+
+abbrev pub events : List (List ℕ × Command)
+events =
+    (codes "blank", Blank) ∷ (codes "show", Show) ∷ (codes "tick", Tick) ∷ (codes "touch", Touch) ∷ (codes "key", Key)
+    ∷ (codes "motion", Motion) ∷ (codes "position", Position) ∷ declarations
+
 abbrev pub names : List (List ℕ × Command)
 names =
     (codes "put", Put) ∷ (codes "fill", Fill) ∷ (codes "putg", PutGrant) ∷ (codes "swap", Swap) ∷ (codes "open", Open) ∷ (codes "end", End)
-    ∷ (codes "node", Node) ∷ (codes "bus", Bus) ∷ (codes "wake", Wake) ∷ (codes "blank", Blank) ∷ (codes "show", Show)
-    ∷ (codes "tick", Tick) ∷ (codes "touch", Touch) ∷ (codes "key", Key) ∷ (codes "motion", Motion) ∷ (codes "position", Position)
-    ∷ (codes "back", Back) ∷ (codes "serve", Serve) ∷ (codes "domain", Domain) ∷ (codes "display", Display) ∷ (codes "sound", Sound)
-    ∷ (codes "input", Input) ∷ []
+    ∷ (codes "node", Node) ∷ (codes "bus", Bus) ∷ (codes "wake", Wake) ∷ (codes "back", Back) ∷ (codes "serve", Serve) ∷ events
 
 -- what a token names, as the first of a line
 unfoldable pub command_of : List ℕ → Option Command

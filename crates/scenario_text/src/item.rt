@@ -4,7 +4,8 @@ ghost use Rattle.std.specs.Prelude.{◌≡◌, ◌<◌, ◌-◌, ◌^◌, length
 ghost use Rattle.script_tokens.specs.Flaws.{Gives};
 ghost use Rattle.script_tokens.specs.Cursors.{cursor, seen, token};
 ghost use Rattle.scenario_text.specs.Scenario.{drafted};
-ghost use Rattle.scenario_text.specs.Items.{command_of, is_declaration, command_at, arguments_at, item_of};
+ghost use Rattle.script_tokens.specs.Next.{named};
+ghost use Rattle.scenario_text.specs.Items.{declarations, events, command_of, is_declaration, command_at, arguments_at, item_of};
 
 use crate::declaration::{display, domain, input, sound};
 use crate::draft::{Draft, Item};
@@ -41,6 +42,46 @@ pub enum Command {
     Serve,
 }
 
+/// The declaration that this token names.
+fn declaration_of(octets: &[u8]) -> Option<Command>
+    ensures { result ≡ named octets.now declarations }
+{
+    if octets == b"domain".as_slice() {
+        Some(Command::Domain)
+    } else if octets == b"display".as_slice() {
+        Some(Command::Display)
+    } else if octets == b"sound".as_slice() {
+        Some(Command::Sound)
+    } else if octets == b"input".as_slice() {
+        Some(Command::Input)
+    } else {
+        None
+    }
+}
+
+/// The event of a host that it names, or the declaration.
+fn event_of(octets: &[u8]) -> Option<Command>
+    ensures { result ≡ named octets.now events }
+{
+    if octets == b"blank".as_slice() {
+        Some(Command::Blank)
+    } else if octets == b"show".as_slice() {
+        Some(Command::Show)
+    } else if octets == b"tick".as_slice() {
+        Some(Command::Tick)
+    } else if octets == b"touch".as_slice() {
+        Some(Command::Touch)
+    } else if octets == b"key".as_slice() {
+        Some(Command::Key)
+    } else if octets == b"motion".as_slice() {
+        Some(Command::Motion)
+    } else if octets == b"position".as_slice() {
+        Some(Command::Position)
+    } else {
+        declaration_of(octets)
+    }
+}
+
 /// What this token names, as the first of a line.
 #[tactic(auto, unfolding(crate::specs::Items::command_of))]
 fn command_of(octets: &[u8]) -> Option<Command>
@@ -64,34 +105,12 @@ fn command_of(octets: &[u8]) -> Option<Command>
         Some(Command::Bus)
     } else if octets == b"wake".as_slice() {
         Some(Command::Wake)
-    } else if octets == b"blank".as_slice() {
-        Some(Command::Blank)
-    } else if octets == b"show".as_slice() {
-        Some(Command::Show)
-    } else if octets == b"tick".as_slice() {
-        Some(Command::Tick)
-    } else if octets == b"touch".as_slice() {
-        Some(Command::Touch)
-    } else if octets == b"key".as_slice() {
-        Some(Command::Key)
-    } else if octets == b"motion".as_slice() {
-        Some(Command::Motion)
-    } else if octets == b"position".as_slice() {
-        Some(Command::Position)
     } else if octets == b"back".as_slice() {
         Some(Command::Back)
     } else if octets == b"serve".as_slice() {
         Some(Command::Serve)
-    } else if octets == b"domain".as_slice() {
-        Some(Command::Domain)
-    } else if octets == b"display".as_slice() {
-        Some(Command::Display)
-    } else if octets == b"sound".as_slice() {
-        Some(Command::Sound)
-    } else if octets == b"input".as_slice() {
-        Some(Command::Input)
     } else {
-        None
+        event_of(octets)
     }
 }
 

@@ -11,7 +11,7 @@ use Rattle.device_service.specs.Truth.{IsSaid}
 use Rattle.input_backend.specs.Service.{Publishes, table}
 use Rattle.backend_core.proofs.Answers.{Settles}
 
-publishes_same : (old a b : Known) (what : Said) → Publishes old what a → Publishes old what b → a ≡ b
+pub publishes_same : (old a b : Known) (what : Said) → Publishes old what a → Publishes old what b → a ≡ b
 publishes_same old a b (said.Published events) x y = x.3 ∙ sym y.3
 publishes_same old a b (said.Full part) x y = x.3 ∙ sym y.3
 publishes_same old a b other x y = absurd x

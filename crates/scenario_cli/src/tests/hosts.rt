@@ -39,7 +39,8 @@ fn an_event_has_its_line(rt: HostRuntime) -> Result<(), Fail> {
         words: "run --words",
         ..PLAIN
     };
-    let script = b"domain 1 wild 2 2\ndisplay 1 1 1\nsound 16 1 c p\ninput 9 1\nblank 1 0\nshow 1 0\ntick 16 1 5\n\
+    let script =
+        b"domain 1 wild 2 2\ndisplay 1 1 1\nsound 16 1 c p\ninput 9 1\nblank 1 0\nshow 1 0\ntick 16 1 5\n\
         touch 9 down 16 -1 2\nkey 9 3 1\nmotion 9 -1 2 -3\nposition 9 1 -2 3\n";
     let outcome = run_trial(rt.alloc(), trial, script)?;
     expect_played(

@@ -40,7 +40,8 @@ fn cell(word: u16) -> Place {
 #[test]
 fn a_gap_is_repaired(rt: HostRuntime) -> Result<(), Fail> {
     let alloc = rt.alloc();
-    let drops = "touch 3 up 0\ntouch 3 down 1 5 5\ntouch 3 down 1 5 5\nserve 3\nserve 3\nput 1 0 0 51\nserve 3\n";
+    let drops =
+        "touch 3 up 0\ntouch 3 down 1 5 5\ntouch 3 down 1 5 5\nserve 3\nserve 3\nput 1 0 0 51\nserve 3\n";
     let outcome = run_input(alloc, "put 1 0 1 51\n", &[STROKE, drops])?;
     let groups = "published 3 2\n".repeat(alloc, 16)?;
     let wanted = joined(
@@ -80,7 +81,14 @@ fn a_group_stays_while_it_is_published(rt: HostRuntime) -> Result<(), Fail> {
         ],
     )?;
     expect_played(&rt, &outcome, wanted.as_bytes());
-    for (word, v) in [(1, 20), (416, 259), (417, 30), (426, 773), (436, 259), (437, 31)] {
+    for (word, v) in [
+        (1, 20),
+        (416, 259),
+        (417, 30),
+        (426, 773),
+        (436, 259),
+        (437, 31),
+    ] {
         assert_eq!(rt; stored(&outcome.journal, cell(word)), Some(v));
     }
     Ok(())

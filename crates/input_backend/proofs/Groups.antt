@@ -1,14 +1,12 @@
 -- The group that is due, the one that is being published, and what is heard.
-use Rattle.std.proofs.Common.{◌≡◌, ◌&&◌, ℕ, Bool, true, false, if◌then◌else◌, List, [], ◌∷◌, ◌++◌, suc, length, map, Option, Some, None, is_none, nat_lt, not, refl, sym, ap, ◌∙◌}
+use Rattle.std.proofs.Common.{◌≡◌, ◌&&◌, ℕ, Bool, true, false, List, [], ◌∷◌, suc, length, Option, Some, None, is_none, refl, sym, ap, ◌∙◌}
 use Rattle.std.proofs.lemmas.Bool.{false≢true}
-use Rattle.pv_words.specs.declared.device.HostEvent.{HostEvent}
 use Rattle.pv_words.specs.declared.device.HostRefusal.{HostRefusal}
 use Rattle.kbd_wire.specs.declared.Event.{Event}
-use Rattle.kbd_wire.specs.Wire.{event_words}
-use Rattle.multitouch.specs.Known.{Known, accepted, begun, group_of, heard, is_due, joined, next_group, settled, unless}
-use Rattle.multitouch.specs.Pressed.{after_event, refusal_of}
+use Rattle.multitouch.specs.Known.{Known, accepted, heard, is_due, unless}
+use Rattle.multitouch.specs.Pressed.{refusal_of}
 use Rattle.device_service.specs.Rows.{heard_unless}
-use Rattle.input_backend.specs.Service.{due_if, due_of, heard_if, told_of, words_in, words_of}
+use Rattle.input_backend.specs.Service.{due_if, due_of, words_in, words_of}
 
 -- where it is due, none is under way
 is_free : (b d : Bool) (k : Known) (g : List (List ℕ)) → due_if (b && d) k ≡ Some g → (b ≡ true) × (d ≡ true)

@@ -1,12 +1,11 @@
 -- The input device keeps the laws of a service.
-use Rattle.std.proofs.Common.{◌≡◌, ℕ, ◌≤◌, true, false, length, List, [], Option, Some, None, refl, arith}
+use Rattle.std.proofs.Common.{◌≡◌, ℕ, true, false, Option, Some, None, refl, arith}
 use Rattle.std.proofs.lemmas.Bool.{true≢false}
-use Rattle.pv_words.specs.declared.device.HostEvent.{HostEvent}
 use Rattle.pv_words.specs.Plan.{Want, Note, Plain, Begins, Frames, Undoes, Ends, Takes, Puts, IsUntouched}
 use Rattle.multitouch.specs.Known.{Known}
 use Rattle.device_service.specs.Claims.{KeepsLaws}
 use Rattle.device_service.specs.Laws.{IsRaise, IsTouching}
-use Rattle.input_backend.specs.Service.{facts, facts_of, input, shows, table}
+use Rattle.input_backend.specs.Service.{facts, input, shows, table}
 use Rattle.input_backend.specs.Kept.{way_chosen, way_heard}
 use Rattle.input_backend.proofs.Groups.{free, under}
 

@@ -5,20 +5,19 @@ use Rattle.std.proofs.lemmas.Bool.{false≢true}
 use Rattle.std.proofs.lemmas.Bool.Decides.{nat_tests}
 use Rattle.pv_words.specs.declared.device.HostRefusal.{HostRefusal}
 use Rattle.pv_words.specs.declared.device.Reason.TheVariants as reason
-use Rattle.pv_words.specs.declared.device.Said.{Said}
 use Rattle.pv_words.specs.Plan.{Plan, Finished, mapped}
 use Rattle.host_events.specs.Queue.{unless}
 use Rattle.link_core.specs.declared.link.Put.{Put}
 use Rattle.link_core.specs.declared.link.Put.TheVariants as put
 use Rattle.link_core.specs.Activities.{Joined, page_at}
 use Rattle.link_core.specs.Raise.{input_layout, limit, put_events}
-use Rattle.device_core.specs.Order.{Order, Act, Rest, rests_next}
+use Rattle.device_core.specs.Order.{Act, Rest, rests_next}
 use Rattle.device_core.specs.Site.{Site}
 use Rattle.device_service.specs.Parts.{publish_of, published_if}
 use Rattle.device_service.specs.Raising.{has_left}
 use Rattle.device_service.specs.Rows.{heard_unless}
 use Rattle.device_service.specs.Service.{Service}
-use Rattle.device_service.specs.Work.{End, Grouped, Work, close, group_said, publishes_at, publishes_if, said_at, settled, with_group}
+use Rattle.device_service.specs.Work.{Grouped, Work, close, group_said, publishes_at, publishes_if, said_at, settled, with_group}
 use Rattle.input_backend.specs.Stage.{group_in}
 use Rattle.input_backend.specs.Steps.{grouped_in}
 

@@ -1,11 +1,11 @@
 -- Where a publisher stands, it tells just the pages that its accesses hold.
-use Rattle.std.proofs.Common.{◌≡◌, ℕ, ◌<◌, ◌++◌, true, List, [], Option, Some, None, length, slice_get, refl, sym, ap, subst, ◌∙◌, arith}
+use Rattle.std.proofs.Common.{◌≡◌, ℕ, ◌++◌, List, [], Some, None, length, slice_get, refl, sym, ap, subst, ◌∙◌, arith}
 use Rattle.pv_words.specs.declared.grant.Hold.{Hold}
 use Rattle.pv_words.specs.Held.{Holds}
 use Rattle.pv_words.specs.Plan.{mapped}
-use Rattle.page_directory.specs.Same.{AreSame, times}
+use Rattle.page_directory.specs.Same.{AreSame}
 use Rattle.device_core.specs.Learned.{Learned, learned_of}
-use Rattle.device_core.specs.Order.{Own, Stand, made_by}
+use Rattle.device_core.specs.Order.{Stand, made_by}
 use Rattle.device_core.specs.Touched.{Carried}
 use Rattle.device_core.proofs.Learning.{holds_learned}
 use Rattle.device_core.proofs.MachineRun.{carried_after, good_after, own_after}

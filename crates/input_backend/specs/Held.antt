@@ -1,5 +1,5 @@
 -- What a publisher tells that it holds.
-use Rattle.std.specs.Prelude.{◌≡◌, ℕ, ◌<◌, List, [], length}
+use Rattle.std.specs.Prelude.{◌≡◌, ℕ, ◌<◌, List, length}
 use Rattle.pv_words.specs.Along.{after}
 use Rattle.pv_words.specs.declared.grant.Hold.{Hold}
 use Rattle.page_directory.specs.Same.{AreSame, times}

@@ -1,5 +1,5 @@
 -- The input device as a service: contacts and keys, and the groups of events that tell them (kbdif.h).
-use Rattle.std.specs.Prelude.{◌≡◌, ◌&&◌, ℕ, pos, Bool, true, false, List, [], length, map, Option, Some, None, IsSome, is_none}
+use Rattle.std.specs.Prelude.{◌≡◌, ◌&&◌, ℕ, pos, Bool, true, false, List, [], length, map, Option, Some, None, is_none}
 use Rattle.pv_words.specs.declared.device.HostEvent.{HostEvent}
 use Rattle.pv_words.specs.declared.device.HostEvent.TheVariants as host
 use Rattle.pv_words.specs.declared.device.HostRefusal.{HostRefusal}

@@ -1,5 +1,5 @@
 -- The steps of a publisher, as its clauses name them.
-use Rattle.std.specs.Prelude.{◌≡◌, Bool, true, Option, List, ℕ}
+use Rattle.std.specs.Prelude.{◌≡◌, Option, ℕ}
 use Rattle.pv_words.specs.declared.access.Access.{Access}
 use Rattle.pv_words.specs.declared.device.Reason.{Reason}
 use Rattle.pv_words.specs.declared.device.Said.{Said}

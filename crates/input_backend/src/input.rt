@@ -7,8 +7,8 @@ ghost use Rattle.device_service.specs.Work.{first_work};
 ghost use Rattle.input_backend.specs.Stand.{dev_of, dom_of, held_of, stand_of};
 ghost use Rattle.multitouch.specs.Known.{at_rest};
 
-use crate::service::Service;
 use crate::publisher::Publisher;
+use crate::service::Service;
 use pv_words::{DevId, DomId};
 use std::alloc::{AllocError, Global};
 

@@ -1,6 +1,8 @@
 use super::*;
 use device_core::Step;
-use pv_words::{DevId, DomId, Frame, Half, HostEvent, HostRefusal, NodeValue, Place, Said, State, Touch, Words};
+use pv_words::{
+    DevId, DomId, Frame, Half, HostEvent, HostRefusal, NodeValue, Place, Said, State, Touch, Words,
+};
 use std::alloc::{AllocError, Global};
 use std::test::Fail;
 use xenbus_states::Nodes;
@@ -167,7 +169,10 @@ fn a_gap_is_closed_by_a_repair(rt: HostRuntime) -> Result<(), Fail> {
     );
     assert_eq!(rt; says(&mut input, &mut domain), (1, Some(Said::Full(0))));
     put(&mut domain, 0, 0, 51);
-    assert_eq!(rt; says(&mut input, &mut domain), (17, Some(Said::Published(3))));
+    assert_eq!(rt;
+        says(&mut input, &mut domain),
+        (17, Some(Said::Published(3)))
+    );
     assert_eq!(rt; get(&mut domain, 1), 86);
     Ok(())
 }
@@ -189,7 +194,10 @@ const WORDS: [(u16, u32); 9] = [
 fn events_stand_in_their_slots(rt: HostRuntime) -> Result<(), Fail> {
     let mut domain = one_page(rt.alloc(), 0)?;
     let mut input = one_input(rt.alloc())?;
-    assert_eq!(rt; input.host(&HostEvent::Key(30, true)), Err(HostRefusal::NotConnected));
+    assert_eq!(rt;
+        input.host(&HostEvent::Key(30, true)),
+        Err(HostRefusal::NotConnected)
+    );
     assert_eq!(rt;
         connects(&mut input, &mut domain),
         (1, Some(Said::State(State::Connected)))
@@ -197,8 +205,14 @@ fn events_stand_in_their_slots(rt: HostRuntime) -> Result<(), Fail> {
     assert_eq!(rt; input.host(&HostEvent::Key(30, true)), Ok(()));
     assert_eq!(rt; input.host(&HostEvent::Motion(-1, 2, 0)), Ok(()));
     assert_eq!(rt; input.host(&HostEvent::Position(5, 6, 0)), Ok(()));
-    assert_eq!(rt; input.host(&HostEvent::Key(30, true)), Err(HostRefusal::KeyIsDown(30)));
-    assert_eq!(rt; says(&mut input, &mut domain), (3, Some(Said::Published(1))));
+    assert_eq!(rt;
+        input.host(&HostEvent::Key(30, true)),
+        Err(HostRefusal::KeyIsDown(30))
+    );
+    assert_eq!(rt;
+        says(&mut input, &mut domain),
+        (3, Some(Said::Published(1)))
+    );
     for (word, value) in WORDS {
         assert_eq!(rt; get(&mut domain, word), value);
     }

@@ -1,5 +1,5 @@
 -- Each group that is published ends as it must.
-use Rattle.std.proofs.Common.{◌≡◌, ℕ, suc, zero, Bool, true, false, cond, not, ◌&&◌, ◌||◌, List, [], ◌∷◌, ◌++◌, length, map, nat_lt, Option, Some, None, is_none, refl, sym, ap, ◌∙◌, subst}
+use Rattle.std.proofs.Common.{◌≡◌, ℕ, suc, zero, Bool, true, false, cond, not, ◌&&◌, ◌||◌, List, [], ◌∷◌, ◌++◌, length, map, nat_lt, Option, Some, None, is_none, refl, ap, ◌∙◌, subst}
 use Rattle.std.specs.List.{AllByRecursion, list_any}
 use Rattle.std.specs.FinMap as finite
 use Rattle.std.proofs.lemmas.List.Folds.{list_any-append}
@@ -8,10 +8,10 @@ use Rattle.kbd_wire.specs.declared.Event.{Event}
 use Rattle.kbd_wire.specs.declared.Event.TheVariants.{Motion, Key, Position, Down, Up, Move as Moved, Syn}
 use Rattle.pv_words.specs.declared.device.HostRefusal.{HostRefusal}
 use Rattle.multitouch.specs.declared.contact.Contact.{Contact}
-use Rattle.multitouch.specs.Endings.{EndsOnce, IsEnded, IsEndedIn, TellsNoSyn, is_syn, is_touch, mends}
+use Rattle.multitouch.specs.Endings.{IsEnded, IsEndedIn, TellsNoSyn, is_syn, mends}
 use Rattle.multitouch.specs.History.{History, Move, closed_by, followed, history_from, start, IsKept}
 use Rattle.multitouch.specs.History as move
-use Rattle.multitouch.specs.Known.{Known, accepted, behind, group_of, is_due, joined, next_group, oldest_or, unless}
+use Rattle.multitouch.specs.Known.{Known, accepted, behind, group_of, is_due, next_group, oldest_or, unless}
 use Rattle.multitouch.specs.Pressed.{ContactMap, Pressed, after_event, refusal_of}
 use Rattle.multitouch.specs.Repair.{changes, codes_without, is_same, item, items_below, repair_of}
 use Rattle.multitouch.specs.Sound.{IsChosen}

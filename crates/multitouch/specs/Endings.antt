@@ -4,7 +4,7 @@ use Rattle.std.specs.Bool.{MatchBool}
 use Rattle.std.specs.List.{AllByRecursion, list_any}
 use Rattle.kbd_wire.specs.declared.Event.{Event}
 use Rattle.kbd_wire.specs.declared.Event.TheVariants.{Down, Up, Move as Moved, Syn}
-use Rattle.multitouch.specs.History.{History, Move, Hears, history_from, start}
+use Rattle.multitouch.specs.History.{Move, Hears, history_from, start}
 use Rattle.multitouch.specs.Known.{Known}
 
 -- an event of a contact, and a SYN

@@ -1,4 +1,4 @@
-use Rattle.std.proofs.Common.{◌≡◌, ℕ, ◌+◌, ◌<◌, ◌≤◌, List, length, set, take, refl, sym, ap, subst, ◌∙◌, arith}
+use Rattle.std.proofs.Common.{◌≡◌, ℕ, ◌+◌, ◌<◌, List, length, set, take, refl, sym, ap, subst, ◌∙◌, arith}
 use Rattle.std.proofs.lemmas.List.{length-set}
 use Rattle.kbd_wire.specs.declared.Event.{Event}
 use Rattle.input_backend.specs.Service.{words_in}
@@ -16,8 +16,7 @@ loop-i-preserved c =
     let few = c.events-events.ensures.few in
     let same = ap (λ (xs : List Event). length xs) c.events-events.ensures.events in
     let here : i < length es = c.loop-i-test.true in
-    let within : i < length ws = omega (arith, c.loop-i.invariant.1, few, same, here) in
-    (
+    let within : i < length ws = omega (arith, c.loop-i.invariant.1, few, same, here) in (
       subst (λ (v : List ℕ). take (i + 1) (set ws i v) ≡ words_in (take (i + 1) es)) (sym c.encode.ensures) (more_words ws es i _ within here c.loop-i.invariant.0),
       length-set ws i c.encode.result ∙ c.loop-i.invariant.1,
     )

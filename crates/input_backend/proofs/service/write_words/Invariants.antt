@@ -1,4 +1,4 @@
-use Rattle.std.proofs.Common.{◌≡◌, length, take, ℕ}
+use Rattle.std.proofs.Common.{◌≡◌, length, take}
 use Rattle.input_backend.specs.Service.{words_in}
 use Rattle.input_backend.proofs.service.write_words.Given as goal
 

@@ -1,4 +1,4 @@
-use Rattle.std.proofs.Common.{◌≡◌, true, List, refl, sym, ap, subst, ◌∙◌}
+use Rattle.std.proofs.Common.{true, List, refl, sym, ap, subst, ◌∙◌}
 use Rattle.pv_words.specs.declared.grant.Hold.{Hold}
 use Rattle.pv_words.specs.Plan.{MayGo, mapped}
 use Rattle.xenbus_states.specs.Connection.{Connection}

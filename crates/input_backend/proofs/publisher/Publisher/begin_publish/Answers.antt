@@ -1,4 +1,4 @@
-use Rattle.std.proofs.Common.{◌≡◌, ℕ, ◌<◌, Bool, true, false, List, Option, None, Some, is_some, slice_get, length, inl, ap, refl, subst, sym, ◌∙◌, arith}
+use Rattle.std.proofs.Common.{◌≡◌, ℕ, ◌<◌, Bool, false, None, slice_get, length, ap, refl, sym, ◌∙◌, arith}
 use Rattle.pv_words.specs.declared.device.Reason.TheVariants as reason
 use Rattle.device_core.specs.Order.{Between}
 use Rattle.device_service.specs.Activity.{is_open}

@@ -1,4 +1,4 @@
-use Rattle.std.proofs.Common.{◌≡◌, false, refl, sym, ap, ◌∙◌}
+use Rattle.std.proofs.Common.{◌≡◌, false, refl, ap, ◌∙◌}
 use Rattle.xenbus_states.specs.Connection.{Connection}
 use Rattle.device_core.specs.Order.{Between}
 use Rattle.device_service.specs.Activity.{is_connected}

@@ -1,4 +1,4 @@
-use Rattle.std.proofs.Common.{◌++◌, None, sym, ap, subst, ◌∙◌}
+use Rattle.std.proofs.Common.{None, sym, subst, ◌∙◌}
 use Rattle.device_core.specs.Order.{Stand, Went}
 use Rattle.device_service.specs.Parts.{held_of as parts_held}
 use Rattle.device_service.specs.Stand.{leaving_plan}

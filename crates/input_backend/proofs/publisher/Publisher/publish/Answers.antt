@@ -1,5 +1,5 @@
-use Rattle.std.proofs.Common.{◌≡◌, ℕ, ◌<◌, Bool, false, inl, inr, List, None, Some, length, ap, refl, subst, sym, ◌∙◌, arith}
-use Rattle.pv_words.specs.Plan.{MayGo, mapped}
+use Rattle.std.proofs.Common.{◌≡◌, ℕ, Bool, false, List, None, Some, length, ap, refl, subst, sym, ◌∙◌, arith}
+use Rattle.pv_words.specs.Plan.{MayGo}
 use Rattle.link_core.specs.Activities.{Joined}
 use Rattle.link_core.specs.Link.{Leads}
 use Rattle.device_core.specs.Order.{GoesOn, Stand}

@@ -1,6 +1,5 @@
-use Rattle.std.proofs.Common.{◌≡◌, ℕ, true, List, None, Some, length, refl, sym, ap, ◌∙◌}
+use Rattle.std.proofs.Common.{true, Some, length, refl, sym, ap, ◌∙◌}
 use Rattle.pv_words.specs.declared.device.Said.TheVariants as said
-use Rattle.pv_words.specs.declared.device.Said.{Said}
 use Rattle.link_core.specs.declared.link.Put.{Put}
 use Rattle.device_service.specs.Work.{group_said}
 use Rattle.input_backend.specs.Stand.{dom_of, group_of, work_of}

@@ -1,4 +1,4 @@
-use Rattle.std.proofs.Common.{refl, sym, ap, ◌∙◌}
+use Rattle.std.proofs.Common.{refl, ap, ◌∙◌}
 use Rattle.device_core.specs.Order.{Between}
 use Rattle.device_service.specs.Parts.{joined_of}
 use Rattle.device_service.proofs.Leaving.{bare_joins, shut_as}

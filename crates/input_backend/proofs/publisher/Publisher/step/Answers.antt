@@ -1,4 +1,4 @@
-use Rattle.std.proofs.Common.{◌≡◌, None, refl, sym, ap, ◌∙◌, inr, subst}
+use Rattle.std.proofs.Common.{None, refl, inr, subst}
 use Rattle.pv_words.specs.Plan.{mapped}
 use Rattle.device_core.specs.Site.{Site}
 use Rattle.device_core.proofs.Steps.{steps_during}
@@ -12,7 +12,7 @@ use Rattle.device_service.proofs.Deeds.{may_mapped}
 use Rattle.input_backend.specs.declared.publisher.Stage.{Stage}
 use Rattle.input_backend.specs.declared.publisher.Stage.TheVariants as stage
 use Rattle.input_backend.specs.Stage.{activity_of}
-use Rattle.input_backend.specs.Stand.{dom_of, group_of, held_of, put_left, stand_of, work_of}
+use Rattle.input_backend.specs.Stand.{dom_of, group_of, held_of, put_left, work_of}
 use Rattle.input_backend.proofs.Stands.{left_in, may_in, some_in, steps_in, way_in}
 use Rattle.input_backend.proofs.publisher.Publisher.step.Goals as goal
 
